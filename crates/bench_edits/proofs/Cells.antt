@@ -24,9 +24,9 @@ use Rattle.bench_values.specs.Givens.{GivenContent, asked, ForSpace, ForItem, Fo
 use Rattle.bench_items.specs.Items.{role_content}
 use Rattle.bench_values.specs.Makes.{Makes, output_names, refused}
 use Rattle.bench_values.specs.Values.{NodeContent, OfOutcome}
-use Rattle.bench_edits.specs.Solved.{Table, IsValueOf, IsSolvedItem, Cell, IsSolved, is_node, flag_names, answers_in}
+use Rattle.bench_edits.specs.Solved.{Table, IsValueOf, IsSolvedItem, SolvedCell, IsCellSolved, is_node, flag_names, answers_in}
 use Rattle.bench_edits.proofs.FromScratch.{solved_scratch, fault_scratch}
-use Rattle.bench_edits.specs.Settled.{CellNodes, check_keys, item_given, name_output, IsNumberOf, AreNodesOf, AreSolved, IsSettledCell, IsSettledFault}
+use Rattle.bench_edits.specs.Settled.{CellNodes, check_keys, item_given, name_output, IsNumberOf, AreNodesOf, AreNodesSolved, IsSettledVerdict, IsSettledFault}
 use Rattle.bench_edits.proofs.Held.{values_in, AreHeld, held_under, Holds, holds, used_held, output_there, one_once}
 use Rattle.bench_edits.proofs.Reached.{reached, itself}
 
@@ -346,12 +346,12 @@ module _ (net : Net GivenContent) (memos : List (Memo NodeContent)) (held : Node
       let same = only_first (values_in memos nodes.verdict) (OfOutcome made.0) (OfOutcome o) made.1 (output_there net memos held all nodes.verdict _ _ verdict_held are.verdict one_once 0 0 stamp (OfOutcome o) refl first) in
       made.1 ∙ ap (λ (w : NodeContent). w ∷ []) (sym same)
 
-  abbrev cell_with : Outcome → Cell
+  abbrev cell_with : Outcome → SolvedCell
   cell_with o = record { items = items; is_needed = needed; table = table; outcome = o }
 
   solved_cell : (model : ModelText) (o : Outcome) (stamp : ℕ) → IsFaultless model
       → AreItemsOf model items → at memos (Output nodes.verdict 0) ≡ Some (stamp, OfOutcome o)
-      → IsSolved test model (cell_with o)
+      → IsCellSolved test model (cell_with o)
   solved_cell model o stamp none of_model first = record {
     no_fault = none;
     of_model = of_model;
@@ -373,8 +373,8 @@ module _ (net : Net GivenContent) (memos : List (Memo NodeContent)) (held : Node
   held_scratch model o stamp none of_model first =
       solved_scratch test model (cell_with o) (solved_cell model o stamp none of_model first)
 
-pub cell_scratch : (net : Net GivenContent) (memos : List (Memo NodeContent)) → AreSolved net memos
-    → (test : Test) (model : ModelText) (o : Outcome) → IsSettledCell test model net memos o
+pub cell_scratch : (net : Net GivenContent) (memos : List (Memo NodeContent)) → AreNodesSolved net memos
+    → (test : Test) (model : ModelText) (o : Outcome) → IsSettledVerdict test model net memos o
     → IsFromScratch test model o
 cell_scratch net memos all test model o cell =
     let c = cell.carries in
@@ -386,7 +386,7 @@ cell_scratch net memos all test model o cell =
     c.first
 
 pub settled_fault_scratch : (net : Net GivenContent) (memos : List (Memo NodeContent))
-    → AreSolved net memos → (test : Test) (model : ModelText) (o : Outcome)
+    → AreNodesSolved net memos → (test : Test) (model : ModelText) (o : Outcome)
     → IsSettledFault test model net memos o → IsFromScratch test model o
 settled_fault_scratch net memos all test model o cell =
     let c = cell.carries in

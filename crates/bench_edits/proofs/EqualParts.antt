@@ -5,7 +5,7 @@ use Rattle.std.proofs.lemmas.Bool.Decides.{eqb_tells}
 use Rattle.text_values.specs.declared.test.Test.{Test}
 use Rattle.memo_core.specs.Step.{Has}
 use Rattle.bench_texts.specs.BenchTexts.{put_at}
-use Rattle.bench_texts.specs.Held.{IsRead}
+use Rattle.bench_texts.specs.Held.{IsModelRead}
 use Rattle.bench_texts.specs.Replacements.{tests_with, models_with}
 use Rattle.bench_texts.specs.declared.model.NamedModel.{NamedModel}
 use Rattle.bench_texts.specs.declared.replacement.Replacement.{Replacement}
@@ -148,7 +148,7 @@ tests_left p q tests models (made.DropModel at) number (edited.Models m) edit pa
 
 pub equal_parts_keep : (p q : Parts) (tests : List Test) (models : List NamedModel)
     (r : Replacement) (number : ℕ) (e : EditedParts) → IsEdit p tests models r number e q
-    → AreApart (item_numbers (models_with r models)) → All IsRead (models_with r models)
+    → AreApart (item_numbers (models_with r models)) → All IsModelRead (models_with r models)
     → (next later part : ℕ)
     → EqualPartsKeepStamps (written_state p tests models next)
     (written_state q (tests_with r tests) (models_with r models) later) part

@@ -20,7 +20,7 @@ use Rattle.bench_parts.specs.declared.parts.Parts.{Parts}
 use Rattle.bench_parts.specs.Built.{IsItemRow}
 use Rattle.bench_parts.specs.Contents.{PartContent, OfText}
 use Rattle.bench_parts.specs.Items.{ItemFact, text_part, fact_at, item_facts, fact_text}
-use Rattle.bench_parts.specs.ItemLaws.{HasText}
+use Rattle.bench_parts.specs.ItemLaws.{HasFactText}
 use Rattle.bench_parts.specs.ItemLaws as items
 use Rattle.bench_parts.specs.Written.{text_in, item_text}
 use Rattle.bench_edits.specs.Owed.{AreApart, ArePartsOf, item_numbers}
@@ -58,11 +58,11 @@ none_of : (n : ℕ) (fs : List ItemFact) → (Has (map (λ f. f.number) fs) n �
 none_of n [] gone = tt
 none_of n (f ∷ fs) gone = ((λ e. gone (inl (sym e))), none_of n fs (λ has. gone (inr has)))
 
-facts_apart : (fs : List ItemFact) → AreApart (map (λ f. f.number) fs) → items.AreApart fs
+facts_apart : (fs : List ItemFact) → AreApart (map (λ f. f.number) fs) → items.AreFactsApart fs
 facts_apart [] h = tt
 facts_apart (f ∷ fs) h = (none_of f.number fs h.0, facts_apart fs h.1)
 
-pub all_apart : (ms : List NamedModel) → AreApart (item_numbers ms) → items.AreApart (all_facts ms)
+pub all_apart : (ms : List NamedModel) → AreApart (item_numbers ms) → items.AreFactsApart (all_facts ms)
 all_apart ms h =
     facts_apart (all_facts ms) (subst (λ (l : List ℕ). AreApart l) (sym (all_numbers ms)) h)
 
@@ -78,7 +78,7 @@ stands [] k lt = absurd (omega arith)
 stands (x ∷ xs) zero lt = (x, refl, refl)
 stands (x ∷ xs) (suc k) lt = stands xs k (omega arith)
 
-both_texts : (fs gs : List ItemFact) → Each HasText fs → Each HasText gs → Each HasText (fs ++ gs)
+both_texts : (fs gs : List ItemFact) → Each HasFactText fs → Each HasFactText gs → Each HasFactText (fs ++ gs)
 both_texts [] gs h g = g
 both_texts (f ∷ fs) gs h g = (h.0, both_texts fs gs h.1 g)
 
@@ -87,7 +87,7 @@ module _ (ns : List ℕ) (xs : List Item) (read : Option (List ResolvedItem))
   abbrev facts_from : ℕ → ℕ → List ItemFact
   facts_from k n = map (fact_at ns xs read) (range_with_len k n)
 
-  written_from : (k n : ℕ) → k + n ≤ length xs → Each HasText (facts_from k n)
+  written_from : (k n : ℕ) → k + n ≤ length xs → Each HasFactText (facts_from k n)
   written_from k zero le = tt
   written_from k (suc n) le =
       let at = stands xs k (omega (arith, le)) in
@@ -114,14 +114,14 @@ module _ (ns : List ℕ) (xs : List Item) (read : Option (List ResolvedItem))
       (drop-cons ns k 0 (omega (arith, e, len)))
       ∙ ap (λ (l : List Item). text_in (get_or ns k 0 ∷ drop (suc k) ns) l of) at.2)
 
-  pub facts_written : Each HasText (item_facts ns xs read)
+  pub facts_written : Each HasFactText (item_facts ns xs read)
   facts_written = written_from 0 (length ns) (omega (arith, len))
 
   pub facts_said : (of : ℕ) → fact_text (item_facts ns xs read) of ≡ text_in ns xs of
   facts_said of = said_from of 0 (length ns) (omega (arith, len))
 
 -- each item says something
-pub all_written : (ms : List NamedModel) → Each HasText (all_facts ms)
+pub all_written : (ms : List NamedModel) → Each HasFactText (all_facts ms)
 all_written [] = tt
 all_written (m ∷ ms) =
     both_texts (facts_in m) (all_facts ms)
@@ -141,7 +141,7 @@ all_said (m ∷ ms) of =
     ∙ ap (λ (o : Option PartContent). option_or (text_in m.numbers.items m.text.items.items of) o)
     (all_said ms of)
   where
-    both_said : (fs gs : List ItemFact) → Each HasText fs
+    both_said : (fs gs : List ItemFact) → Each HasFactText fs
         → fact_text (fs ++ gs) of ≡ option_or (fact_text fs of) (fact_text gs of)
     both_said [] gs h = refl
     both_said (f ∷ fs) gs h = elim (eqb_tells f.number of) [

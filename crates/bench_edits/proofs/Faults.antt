@@ -15,7 +15,7 @@ use Rattle.bench_nodes.specs.declared.table.ModelRow.{ModelRow}
 use Rattle.bench_nodes.specs.declared.table.ItemRow.{ItemRow}
 use Rattle.bench_nodes.specs.Nodes.{item_stamp, fault_stamp}
 use Rattle.bench_parts.specs.declared.parts.Parts.{Parts}
-use Rattle.bench_parts.specs.Contents.{PartContent, OfRole, state_of, item_content, fault_part, fault_content}
+use Rattle.bench_parts.specs.Contents.{PartContent, OfRole, parts_state, item_content, fault_part, fault_content}
 use Rattle.bench_parts.specs.declared.model_rows.HeldModel.{HeldModel}
 use Rattle.bench_parts.specs.TableLaws.{WasModelRow}
 use Rattle.bench_parts.specs.Stamps.{IsLaterNumber, next_number, raised, IsStampOf}
@@ -330,7 +330,7 @@ faults_left p q tests models (made.DropModel at) number (edited.Models m) next l
 -- ---- histories
 
 same_names : (p q : Parts) (tests after : List Test) → AreModelsSame p q
-    → EqualItemsKeepNames (state_of p tests) (state_of q after)
+    → EqualItemsKeepNames (parts_state p tests) (parts_state q after)
 same_names p q tests after same of role history names was is =
     held_names (sym is
     ∙ (ap (λ (l : List ItemRow). item_content l q.roles.items of) same.items
@@ -343,7 +343,7 @@ same_names p q tests after same of role history names was is =
 model_names : (p q : Parts) (tests : List Test) (models : List NamedModel) (r : Replacement)
     (number : ℕ) (m : ModelParts) → IsEdit p tests models r number (edited.Models m) q
     → AreModelsAfter p models r m
-    → EqualItemsKeepNames (state_of p tests) (state_of q (tests_with r tests))
+    → EqualItemsKeepNames (parts_state p tests) (parts_state q (tests_with r tests))
 model_names p q tests models r number m edit after of =
     (histories_go_on p.last number p.table.items.items q.table.items.items p.roles.items
     q.roles.items (named_text models) q.kinds.items (all_facts (models_with r models))
@@ -351,7 +351,7 @@ model_names p q tests models r number m edit after of =
 
 pub names_left : (p q : Parts) (tests : List Test) (models : List NamedModel) (r : Replacement)
     (number : ℕ) (e : EditedParts) → IsEdit p tests models r number e q
-    → EqualItemsKeepNames (state_of p tests) (state_of q (tests_with r tests))
+    → EqualItemsKeepNames (parts_state p tests) (parts_state q (tests_with r tests))
 names_left p q tests models (made.PutTest at test) number (edited.PutTest to row names) edit =
     same_names p q tests (put_at at test tests) edit.committed.changes.models
 names_left p q tests models (made.PutTest at test) number (edited.DropTest to) edit =

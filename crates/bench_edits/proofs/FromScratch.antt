@@ -25,7 +25,7 @@ use Rattle.from_scratch.specs.FromScratch.{outermost, bare_items, IsFaultless, A
 use Rattle.from_scratch.proofs.Knowing.{risen_at}
 use Rattle.from_scratch.proofs.Ordered.{resolved_ordered}
 use Rattle.from_scratch.proofs.Rising.{resolved_rising}
-use Rattle.bench_edits.specs.Solved.{Cell, IsSolved, IsSolvedFault, answers_in, flag_names}
+use Rattle.bench_edits.specs.Solved.{SolvedCell, IsCellSolved, IsSolvedFault, answers_in, flag_names}
 use Rattle.bench_edits.proofs.Latest.{late_answers, late_names, each_reversed, answers_reversed, names_reversed}
 use Rattle.bench_edits.proofs.Said.{Say, say_at, all_said}
 use Rattle.bench_edits.proofs.Valued.{Fits}
@@ -56,7 +56,7 @@ evaluated_result test model items space checks flags (Refused x) none are lists 
 evaluated_result test model items space checks flags (Evaluated e) none are lists said h =
     (none, (items, are, space, lists, (checks, flags, said, h)))
 
-module _ (test : Test) (model : ModelText) (cell : Cell) (solved : IsSolved test model cell) where
+module _ (test : Test) (model : ModelText) (cell : SolvedCell) (solved : IsCellSolved test model cell) where
   item_fits : (k : ℕ) (r : ResolvedItem) → slice_get cell.items k ≡ Some r
       → Fits cell.table cell.is_needed k r
   item_fits k r e = record {
@@ -128,7 +128,7 @@ module _ (test : Test) (model : ModelText) (cell : Cell) (solved : IsSolved test
   by_value (OfCheck a) is h = absurd h
   by_value (OfOutcome p) is h = absurd h
 
-pub solved_scratch : (test : Test) (model : ModelText) (cell : Cell) → IsSolved test model cell
+pub solved_scratch : (test : Test) (model : ModelText) (cell : SolvedCell) → IsCellSolved test model cell
     → IsFromScratch test model cell.outcome
 solved_scratch test model cell solved =
     by_value test model cell solved solved.space.0

@@ -5,7 +5,7 @@ use Rattle.std.proofs.lemmas.Option.{none-some}
 use Rattle.memo_core.specs.declared.keys.Node.{Node}
 use Rattle.memo_core.specs.declared.keys.Key.{Key}
 use Rattle.memo_core.specs.declared.keys.Key.TheVariants.{Part, Output}
-use Rattle.memo_core.specs.Graph.{Memo, Net, at, memo_of, stored_at, named_values, input_nodes, IsSettledBy}
+use Rattle.memo_core.specs.Graph.{Memo, Net, at, memo_of, stored_output, named_values, input_nodes, IsSettledBy}
 use Rattle.memo_core.specs.Right as core
 use Rattle.memo_core.specs.Step.{Has}
 use Rattle.bench_values.specs.Givens.{GivenContent}
@@ -13,7 +13,7 @@ use Rattle.bench_values.specs.Makes.{Makes, output_names}
 use Rattle.bench_values.specs.Values.{NodeContent}
 use Rattle.bench_values.proofs.Counting.{makes_many}
 use Rattle.bench_parts.specs.States.{makes}
-use Rattle.bench_edits.specs.Settled.{outputs_of, StandsOnce, IsNode, AreSolved}
+use Rattle.bench_edits.specs.Settled.{outputs_of, StandsOnce, IsNode, AreNodesSolved}
 use Rattle.bench_edits.proofs.Named.{made_values, values_named, found_at}
 use Rattle.bench_edits.proofs.Reached.{reached, closed, stands}
 
@@ -45,11 +45,11 @@ same_nodes (Output n x ∷ ks) = ap (λ (ns : List Node). n ∷ ns) (same_nodes 
 -- nodes that are settled, with all that they use
 pub record AreHeld (net : Net GivenContent) (memos : List (Memo NodeContent)) (held : Node → Bool)
     : Type 0 where
-  pub solved : (n : Node) → held n ≡ true → core.IsSolved makes net memos n
+  pub solved : (n : Node) → held n ≡ true → core.IsSolvedNode makes net memos n
   pub closed : (n : Node) → held n ≡ true → Each (λ m. held m ≡ true) (input_nodes (net.inputs n))
 
 -- the nodes that a settled node stands on
-pub held_under : (net : Net GivenContent) (memos : List (Memo NodeContent)) → AreSolved net memos
+pub held_under : (net : Net GivenContent) (memos : List (Memo NodeContent)) → AreNodesSolved net memos
     → (d : ℕ) (n : Node) → Has net.used n → IsSettledBy d net memos n
     → AreHeld net memos (reached d net n)
 held_under net memos all d n t s = record {
@@ -70,7 +70,7 @@ module _ (net : Net GivenContent) (memos : List (Memo NodeContent)) (held : Node
     (all : AreHeld net memos held) where
   module _ (n : Node) (given : GivenContent) (uses : List Key) (is_held : held n ≡ true)
       (is : IsNode net n given uses) (once : StandsOnce (output_names given)) where
-    solved : core.IsSolved makes net memos n
+    solved : core.IsSolvedNode makes net memos n
     solved = all.solved n is_held
 
     same_given : solved.made.given ≡ given
@@ -107,7 +107,7 @@ module _ (net : Net GivenContent) (memos : List (Memo NodeContent)) (held : Node
         → slice_get (output_names given) place ≡ Some x → at memos (Output n x) ≡ Some (s, v)
         → slice_get (values_in memos n) place ≡ Some v
     output_there place x s v name now =
-        let found : stored_at x (Some solved.memo) ≡ Some (s, v) = subst (λ (m : Option (Memo NodeContent)). stored_at x m ≡ Some (s, v)) solved.found now in
+        let found : stored_output x (Some solved.memo) ≡ Some (s, v) = subst (λ (m : Option (Memo NodeContent)). stored_output x m ≡ Some (s, v)) solved.found now in
         let stands = found_at solved.memo.outputs (output_names given) solved.made.made.0 x s v outputs_are found in
         let same : stands.0 ≡ place = once stands.0 place x stands.1 name in
         subst (λ (k : ℕ). slice_get (values_in memos n) k ≡ Some v) same

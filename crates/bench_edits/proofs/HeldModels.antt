@@ -12,11 +12,11 @@ use Rattle.bench_nodes.specs.declared.table.ModelRow.{ModelRow}
 use Rattle.bench_slices.specs.Slices.{clause_at}
 use Rattle.bench_slots.specs.Slots.{number_at}
 use Rattle.bench_parts.specs.declared.parts.Parts.{Parts}
-use Rattle.bench_parts.specs.Contents.{state_of}
-use Rattle.bench_parts.specs.Written.{WrittenState, IsWhole}
+use Rattle.bench_parts.specs.Contents.{parts_state}
+use Rattle.bench_parts.specs.Written.{WrittenState, IsWholeState}
 use Rattle.bench_parts.proofs.Saying.{text_known}
 use Rattle.bench_edits.specs.BenchCells.{HoldsText, HoldsModel}
-use Rattle.bench_edits.specs.Kept.{numbers_in, IsKept}
+use Rattle.bench_edits.specs.Kept.{numbers_in, IsKeptState}
 use Rattle.bench_edits.specs.Left.{AreOrderlyParts}
 use Rattle.bench_edits.specs.Owed.{item_numbers}
 use Rattle.bench_edits.specs.Readings.{reading_by, written_model, written_models, written_state}
@@ -48,7 +48,7 @@ module _ (p : Parts) (tests : List Test) (models : List NamedModel) (next : ℕ)
   abbrev low : ℕ
   low = above (item_numbers models)
 
-  whole : IsWhole (here low)
+  whole : IsWholeState (here low)
   whole =
       parts_whole p tests models low o.parts_are (record {
         read = o.read;
@@ -81,7 +81,7 @@ module _ (p : Parts) (tests : List Test) (models : List NamedModel) (next : ℕ)
     pub model_held : HoldsModel (here next) (written_model row m)
     model_held = record {
       kept =
-          subst (IsKept (state_of p tests)) (sym (readings_are p.table.models.items models))
+          subst (IsKeptState (parts_state p tests)) (sym (readings_are p.table.models.items models))
           (parts_kept p tests models o).kept;
       there = there;
       texts = texts m.reading;

@@ -15,7 +15,7 @@ use Rattle.binding_graph.specs.declared.resolved.Role.TheVariants as roles
 use Rattle.binding_graph.specs.Reach.{ItemUses, IsReached, AreReached}
 use Rattle.binding_graph.proofs.Reaching.{leads_more}
 use Rattle.bench_items.specs.Items.{RoleContent, Group, Check, Silent, role_content}
-use Rattle.bench_items.specs.Naming.{SeenName, names_in, number_of}
+use Rattle.bench_items.specs.Naming.{SeenName, seen_names_in, number_of}
 use Rattle.bench_nodes.specs.declared.table.SlotKey.{SlotKey}
 use Rattle.bench_nodes.specs.declared.table.SlotKey.TheVariants as slots
 use Rattle.bench_nodes.specs.Nodes.{has_slot, slot_keys}
@@ -25,11 +25,11 @@ use Rattle.bench_slots.specs.Tables.{ModelReading, Sound, IsNameOf, UsesNames, A
 use Rattle.bench_slots.proofs.Lists.{each_map, each_to, each_has, has_map, has_contains, contains_has}
 use Rattle.bench_slot_laws.specs.Closed.{AreClosed, IsPassedOn}
 use Rattle.bench_slot_laws.proofs.Items.{resolved_closed}
-use Rattle.bench_parts.specs.Built.{IsHeld, AreHeld, IsModelIn}
-use Rattle.bench_parts.specs.Contents.{PartContent, OfRole, State, histories, content}
+use Rattle.bench_parts.specs.Built.{IsRoleKnown, AreRolesKnown, IsModelIn}
+use Rattle.bench_parts.specs.Contents.{PartContent, OfRole, PartsState, histories, content}
 use Rattle.bench_parts.specs.Written.{WrittenModel, WrittenState}
 use Rattle.bench_parts.proofs.BuiltSlots.{held_history_is}
-use Rattle.bench_edits.specs.Kept.{IsKept, IsRead}
+use Rattle.bench_edits.specs.Kept.{IsKeptState, IsReadingOfText}
 use Rattle.bench_edits.proofs.Origin.{HasKind, verdict_keys_are, item_keys_are, item_there, verdict_there, space_there}
 use Rattle.bench_edits.specs.BenchCells.{CellItem, name_of, cell_item, item_at, cell_items, HoldsText, HoldsModel}
 
@@ -44,7 +44,7 @@ IsOfKind Silent kind = ⊥
 -- the number of the name at a position of an item, in the history that its part holds
 abbrev pub number_in : Option PartContent → ℕ → ℕ
 number_in (Some (OfRole role history)) position =
-    number_of history (get_or (names_in role) position no_name)
+    number_of history (get_or (seen_names_in role) position no_name)
 number_in _ position = 0
 
 -- where the parts of items hold this
@@ -79,22 +79,22 @@ cell_keys cs =
     slots.Test 2 ∷ slots.Test 3 ∷ by_items flag_keys cs ++ space_key ∷ by_items answer_keys cs
 
 -- the key of a name is that which the part of its item gives
-name_is : (s : State) (numbers : List ℕ) (items : List ResolvedItem) (name : Input)
-    → AreHeld s numbers items → IsNameOf items name
+name_is : (s : PartsState) (numbers : List ℕ) (items : List ResolvedItem) (name : Input)
+    → AreRolesKnown s numbers items → IsNameOf items name
     → name_key (histories s) numbers items name ≡ used_key (content s 0) (name_of numbers name)
 name_is s numbers items name held is =
     let own = number_at numbers name.item in
     let part = held name.item is.0 is.1 in
     let history : histories s own ≡ part.0 = held_history_is s own (role_content is.0.role) part.0 part.1 in
-    let named : input_name items name ≡ get_or (names_in (role_content is.0.role)) name.position no_name = ap (λ (o : Option ResolvedItem). bound_name o name.position) is.1 in
+    let named : input_name items name ≡ get_or (seen_names_in (role_content is.0.role)) name.position no_name = ap (λ (o : Option ResolvedItem). bound_name o name.position) is.1 in
     ap (λ (h : List SeenName). slots.Value kinds.Group own (number_of h (input_name items name)))
     history
     ∙ ap (λ (n : SeenName). slots.Value kinds.Group own (number_of part.0 n)) named
     ∙ sym (ap (λ (o : Option PartContent). slots.Value kinds.Group own (number_in o name.position))
     part.1)
 
-names_are : (s : State) (numbers : List ℕ) (items : List ResolvedItem) (names : List Input)
-    → AreHeld s numbers items → Each (IsNameOf items) names
+names_are : (s : PartsState) (numbers : List ℕ) (items : List ResolvedItem) (names : List Input)
+    → AreRolesKnown s numbers items → Each (IsNameOf items) names
     → map (name_key (histories s) numbers items) names
     ≡ map (used_key (content s 0)) (map (name_of numbers) names)
 names_are s numbers items [] held are = refl
@@ -104,8 +104,8 @@ names_are s numbers items (n ∷ ns) held are =
     ∙ ap (λ (l : List SlotKey). used_key (content s 0) (name_of numbers n) ∷ l)
     (names_are s numbers items ns held are.1)
 
-pub keys_are : (s : State) (numbers : List ℕ) (items : List ResolvedItem) (own : ℕ)
-    (said : Option Clause) (r : ResolvedItem) → AreHeld s numbers items
+pub keys_are : (s : PartsState) (numbers : List ℕ) (items : List ResolvedItem) (own : ℕ)
+    (said : Option Clause) (r : ResolvedItem) → AreRolesKnown s numbers items
     → Each (IsNameOf items) r.inputs.items
     → item_keys (histories s) numbers items own r
     ≡ keys_of (content s 0) (cell_item numbers own said r)
@@ -282,7 +282,7 @@ pub record IsCellIn (w : WrittenState) (id : ℕ) (cs : List (Option CellItem)) 
   pub verdict_keys : slot_keys w.state.parts.table.slots.items kinds.Verdict id ≡ cell_keys cs
   pub item_keys : (c : CellItem) (kind : Kind) → Has cs (Some c) → IsOfKind c.role kind
       → slot_keys w.state.parts.table.slots.items kind c.number ≡ keys_of (content w.state 0) c
-  pub held : (c : CellItem) → Has cs (Some c) → IsHeld w.state c.number c.role
+  pub held : (c : CellItem) → Has cs (Some c) → IsRoleKnown w.state c.number c.role
   pub said : (c : CellItem) → Has cs (Some c) → HoldsText w c.number c.said
   pub functions : (c : CellItem) → Has cs (Some c) → Each (IsAmong cs) c.functions
   pub names : (c : CellItem) → Has cs (Some c) → Each (λ n. IsGroupAmong cs n.0) c.names
@@ -298,7 +298,7 @@ module _ (w : WrittenState) (own_numbers : List ℕ) (texts : List Item) (id : �
       items = texts;
       reading = Sound id numbers items used;
     })) where
-  abbrev s : State
+  abbrev s : PartsState
   s = w.state
 
   abbrev models : List ModelReading
@@ -307,7 +307,7 @@ module _ (w : WrittenState) (own_numbers : List ℕ) (texts : List Item) (id : �
   abbrev cs : List (Option CellItem)
   cs = cell_items numbers texts items used
 
-  abbrev k : IsKept s models
+  abbrev k : IsKeptState s models
   k = h.kept
 
   there : Has models (Sound id numbers items used)
@@ -319,8 +319,8 @@ module _ (w : WrittenState) (own_numbers : List ℕ) (texts : List Item) (id : �
   model_in : IsModelIn s (Sound id numbers items used)
   model_in = each_has (IsModelIn s) models k.built.models_in (Sound id numbers items used) there
 
-  read_from : IsRead (Sound id numbers items used)
-  read_from = each_has IsRead models k.read (Sound id numbers items used) there
+  read_from : IsReadingOfText (Sound id numbers items used)
+  read_from = each_has IsReadingOfText models k.read (Sound id numbers items used) there
 
   closed : AreClosed items
   closed = resolved_closed read_from.0 items read_from.1.resolved
@@ -328,9 +328,9 @@ module _ (w : WrittenState) (own_numbers : List ℕ) (texts : List Item) (id : �
   the_item : (c : CellItem) → Has cs (Some c) → IsItemOf numbers texts items used c
   the_item c g = item_of numbers texts items used c g
 
-  held : (c : CellItem) → Has cs (Some c) → IsHeld s c.number c.role
+  held : (c : CellItem) → Has cs (Some c) → IsRoleKnown s c.number c.role
   held c g = let i = the_item c g in
-      subst (λ (d : CellItem). IsHeld s d.number d.role) i.is (model_in.1 i.index i.item i.found)
+      subst (λ (d : CellItem). IsRoleKnown s d.number d.role) i.is (model_in.1 i.index i.item i.found)
 
   said : (c : CellItem) → Has cs (Some c) → HoldsText w c.number c.said
   said c g = let i = the_item c g in

@@ -21,21 +21,21 @@ use Rattle.bench_texts.specs.declared.model.NamedModel.{NamedModel}
 use Rattle.bench_texts.specs.declared.reading.Reading.{Reading}
 use Rattle.bench_texts.specs.declared.reading.Reading.TheVariants as readings
 use Rattle.bench_texts.specs.Held as held
-use Rattle.bench_texts.specs.Readings.{IsReading, predefined_names}
+use Rattle.bench_texts.specs.Readings.{IsModelReading, predefined_names}
 use Rattle.bench_slots.specs.Slots.{number_at}
 use Rattle.bench_slots.specs.Tables.{ModelReading, Sound, Faulty}
 use Rattle.bench_parts.specs.declared.parts.Parts.{Parts}
-use Rattle.bench_parts.specs.Contents.{histories, state_of}
+use Rattle.bench_parts.specs.Contents.{histories, parts_state}
 use Rattle.bench_parts.specs.States.{has_kind, has_model, has_own}
 use Rattle.bench_parts.specs.Items.{ItemFact, fact_at, kind_at}
 use Rattle.bench_parts.specs.ItemLaws.{IsOfItsKind, role_kind}
 use Rattle.bench_parts.proofs.ItemKinds.{kinds_of_roles}
 use Rattle.bench_edits.specs.Owed.{AreApart, ArePartsOf, item_numbers}
 use Rattle.bench_edits.specs.Readings.{reading_by, reading_of, readings_of, resolved_in, facts_in, all_facts}
-use Rattle.bench_edits.specs.Kept.{IsRead, id_in, numbers_in, AreOther, IsKept}
+use Rattle.bench_edits.specs.Kept.{IsReadingOfText, id_in, numbers_in, AreOther, IsKeptState}
 use Rattle.bench_edits.proofs.Facts.{each_item_has_number}
 use Rattle.bench_edits.proofs.Origin.{HasKind, Origin, IsOfItem, IsOfVerdict, origin, index_within}
-use Rattle.bench_edits.specs.Left.{AreOrderlyParts, AreKept}
+use Rattle.bench_edits.specs.Left.{AreOrderlyParts, ArePartsKept}
 use Rattle.bench_edits.proofs.Lists.{has_map, apart_left, apart_right, apart_cross}
 
 -- ---- lists without equal elements
@@ -78,8 +78,8 @@ numbers_among : (id : ℕ) (ns : List ℕ) (r : Reading) (k : ℕ)
 numbers_among id ns (readings.Sound resolved used) k h = h
 numbers_among id ns (readings.Faulty fault) k h = absurd h
 
-one_read : (id : ℕ) (ns : List ℕ) (items : List Item) (r : Reading) → IsReading items r
-    → length ns ≡ length items → AreApart ns → IsRead (reading_by id ns r)
+one_read : (id : ℕ) (ns : List ℕ) (items : List Item) (r : Reading) → IsModelReading items r
+    → length ns ≡ length items → AreApart ns → IsReadingOfText (reading_by id ns r)
 one_read id ns items (readings.Sound resolved used) h paired apart = (
   map bare_item items,
   record {
@@ -92,8 +92,8 @@ one_read id ns items (readings.Sound resolved used) h paired apart = (
 )
 one_read id ns items (readings.Faulty fault) h paired apart = tt
 
-each_read : (rs : List ModelRow) (ms : List NamedModel) → All held.IsRead ms
-    → AreApart (item_numbers ms) → Each IsRead (readings_of rs ms)
+each_read : (rs : List ModelRow) (ms : List NamedModel) → All held.IsModelRead ms
+    → AreApart (item_numbers ms) → Each IsReadingOfText (readings_of rs ms)
 each_read [] ms h apart = tt
 each_read (r ∷ rs) [] h apart = tt
 each_read (r ∷ rs) (m ∷ ms) h apart = (
@@ -158,9 +158,9 @@ model_of (r ∷ rs) (n ∷ ms) m (inr h) =
     let k = model_of rs ms m h in
     record { row = k.row; model = k.model; row_there = inr k.row_there; model_there = inr k.model_there; is = k.is }
 
-read_there : (ms : List NamedModel) (m : NamedModel) → All held.IsRead ms → Has ms m → held.IsRead m
+read_there : (ms : List NamedModel) (m : NamedModel) → All held.IsModelRead ms → Has ms m → held.IsModelRead m
 read_there [] m h there = absurd there
-read_there (n ∷ ms) m h (inl e) = subst held.IsRead e (h 0 n (omega arith))
+read_there (n ∷ ms) m h (inl e) = subst held.IsModelRead e (h 0 n (omega arith))
 read_there (n ∷ ms) m h (inr there) = read_there ms m (λ k d lt. h (suc k) d (omega arith)) there
 
 -- ---- kinds of items
@@ -200,8 +200,8 @@ kind_of (roles.Check check) kind e = ap Some (sym e)
 kind_of roles.Silent kind e = absurd e
 
 pub parts_are_kept : (p : Parts) (tests : List Test) (models : List NamedModel)
-    → ArePartsOf p tests models → All held.IsRead models → AreApart (item_numbers models)
-    → IsKept (state_of p tests) (readings_of p.table.models.items models)
+    → ArePartsOf p tests models → All held.IsModelRead models → AreApart (item_numbers models)
+    → IsKeptState (parts_state p tests) (readings_of p.table.models.items models)
 parts_are_kept p tests models parts read apart = record {
   built = parts.built;
   read = each_read p.table.models.items models read apart;
@@ -215,12 +215,12 @@ module _ (p : Parts) (tests : List Test) (models : List NamedModel)
   abbrev here : List ModelReading
   here = readings_of p.table.models.items models
 
-  kept : IsKept (state_of p tests) here
+  kept : IsKeptState (parts_state p tests) here
   kept = parts_are_kept p tests models o.parts_are o.read o.items_apart
 
   item_kind_by : (id : ℕ) (ns : List ℕ) (items : List Item) (rd : Reading) (numbers : List ℕ)
       (resolved : List ResolvedItem) (used : List ℕ)
-      → reading_by id ns rd ≡ Sound id numbers resolved used → IsReading items rd
+      → reading_by id ns rd ≡ Sound id numbers resolved used → IsModelReading items rd
       → (index : ℕ) (r : ResolvedItem) (kind : Kind)
       → slice_get resolved index ≡ Some r → role_kind r.role ≡ Some kind
       → (ns ≡ numbers) × (kind_at items index ≡ Some kind)
@@ -277,11 +277,11 @@ module _ (p : Parts) (tests : List Test) (models : List NamedModel)
   owned kinds.Check of h = owned_item kinds.Check of h
   owned kinds.Verdict of h = owned_verdict of h
 
-  pub parts_kept : AreKept p tests models
+  pub parts_kept : ArePartsKept p tests models
   parts_kept = record {
     kept = kept;
     may_keep =
         λ n h. rw (used_test p.table n h) (owned n.kind n.of (origin here (kept.models_apart)
-        (kept.read) (histories (state_of p tests)) p.table.slots.items (kept.built).slots
+        (kept.read) (histories (parts_state p tests)) p.table.slots.items (kept.built).slots
         n.kind n.of (used_slot p.table n h)));
   }

@@ -9,7 +9,7 @@ use Rattle.cat_eval.specs.Values.{AnswersOf}
 use Rattle.cat_eval_laws.specs.Laws.{AreSame}
 use Rattle.cat_eval_laws.proofs.Keeping.{columns_kept, answers_kept}
 use Rattle.bench_items.specs.Items.{role_content}
-use Rattle.bench_values.specs.Makes.{HasColumns, HasAnswers}
+use Rattle.bench_values.specs.Makes.{HasGroupColumns, HasCheckAnswers}
 use Rattle.bench_values.specs.Spaces.{SpaceContent, space_content}
 
 same_items : (role read : Role) (space over : Space) (inputs found : List (Bor Column))
@@ -22,14 +22,14 @@ same_items role read space over inputs found reading shown are = record {
 }
 
 pub columns_over : (role : Role) (space : Space) (inputs : List (Bor Column)) (cs : List Column)
-    → HasColumns (role_content role) (space_content space) (map (λ c. c.now) inputs) cs
+    → HasGroupColumns (role_content role) (space_content space) (map (λ c. c.now) inputs) cs
     → ColumnsOf role inputs space cs
 columns_over role space inputs cs h =
     columns_kept h.read role h.over space h.inputs inputs cs
     (same_items role h.read space h.over inputs h.inputs h.reading h.shown h.are) h.values
 
 pub answers_over : (role : Role) (space : Space) (inputs : List (Bor Column)) (answers : List Bool)
-    → HasAnswers (role_content role) (space_content space) (map (λ c. c.now) inputs) answers
+    → HasCheckAnswers (role_content role) (space_content space) (map (λ c. c.now) inputs) answers
     → AnswersOf role inputs space answers
 answers_over role space inputs answers h =
     answers_kept h.read role h.over space h.inputs inputs answers

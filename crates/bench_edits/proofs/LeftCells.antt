@@ -14,13 +14,13 @@ use Rattle.bench_nodes.specs.declared.table.ModelRow.{ModelRow}
 use Rattle.bench_nodes.specs.declared.table.TestRow.{TestRow}
 use Rattle.bench_nodes.specs.Nodes.{test_stamp, space_parts, space_keys, has_test}
 use Rattle.bench_parts.specs.declared.parts.Parts.{Parts}
-use Rattle.bench_parts.specs.Contents.{PartContent, OfCondition, state_of, test_part}
+use Rattle.bench_parts.specs.Contents.{PartContent, OfCondition, parts_state, test_part}
 use Rattle.bench_parts.specs.Written.{KeepsStamp}
 use Rattle.bench_edits.specs.declared.edited.EditedParts.{EditedParts}
 use Rattle.bench_edits.specs.Owed.{AreApart}
 use Rattle.bench_edits.specs.Readings.{reading_by, reading_of, written_model, written_models, written_state}
 use Rattle.bench_edits.specs.BenchCells.{AreReadAlike, IsTestLeft, IsLeftFor}
-use Rattle.bench_edits.specs.Left.{IsOrderlyEdit, CellRows, IsCellOf, IsSameCondition, IsSameFor, IsSameCell, IsLeft}
+use Rattle.bench_edits.specs.Left.{IsOrderlyEdit, CellRows, IsCellOfParts, IsSameCondition, IsSameFor, IsSameCell, IsLeft}
 use Rattle.bench_edits.proofs.Kept.{parts_kept}
 use Rattle.bench_edits.proofs.Faults.{items_left, faults_left, names_left}
 use Rattle.bench_edits.proofs.HeldModels.{model_held}
@@ -46,8 +46,8 @@ model_there (q ∷ rs) (n ∷ ms) (suc i) r m e f = inr (model_there rs ms i r m
 
 module _ (p q : Parts) (tests : List Test) (models : List NamedModel) (r : Replacement) (number : ℕ)
     (e : EditedParts) (next later : ℕ) (a b : CellRows)
-    (o : IsOrderlyEdit p q tests models r number e) (was : IsCellOf p tests models a)
-    (is : IsCellOf q (tests_with r tests) (models_with r models) b) (same : IsSameCell a b) where
+    (o : IsOrderlyEdit p q tests models r number e) (was : IsCellOfParts p tests models a)
+    (is : IsCellOfParts q (tests_with r tests) (models_with r models) b) (same : IsSameCell a b) where
   abbrev after : List Test
   after = tests_with r tests
 
@@ -110,7 +110,7 @@ module _ (p q : Parts) (tests : List Test) (models : List NamedModel) (r : Repla
   keeps_stamp : (part : ℕ) → 1 < part
       → test_part there.entry.test there.entry.locations part
       ≡ test_part here.entry.test here.entry.locations part
-      → KeepsStamp (state_of p tests) (state_of q after) part a.test_row.id
+      → KeepsStamp (parts_state p tests) (parts_state q after) part a.test_row.id
   keeps_stamp part lt alike =
       let n0 : part ≢ 0 = λ k. absurd (omega (arith, lt, k)) in
       let n1 : part ≢ 1 = λ k. absurd (omega (arith, lt, k)) in
@@ -132,7 +132,7 @@ module _ (p q : Parts) (tests : List Test) (models : List NamedModel) (r : Repla
     parts_alike : space_parts there.entry.row ≡ space_parts here.entry.row
     parts_alike = space_alike here.entry.row there.entry.row kept.id threads
 
-    test_left : IsTestLeft (state_of p tests) (state_of q after) a.test_row.id
+    test_left : IsTestLeft (parts_state p tests) (parts_state q after) a.test_row.id
     test_left = record {
       stamps =
           λ part lt. keeps_stamp part lt (part_alike there.entry.test here.entry.test
@@ -146,7 +146,7 @@ module _ (p q : Parts) (tests : List Test) (models : List NamedModel) (r : Repla
     }
 
   condition_left : IsSameCondition a.test b.test
-      → KeepsStamp (state_of p tests) (state_of q after) 2 a.test_row.id
+      → KeepsStamp (parts_state p tests) (parts_state q after) 2 a.test_row.id
   condition_left said = keeps_stamp 2 (omega arith) (
       ap (λ (t : Test). OfCond t) there.test_is
       ∙ (both ∙ sym (ap (λ (t : Test). OfCond t) here.test_is)))
@@ -161,7 +161,7 @@ module _ (p q : Parts) (tests : List Test) (models : List NamedModel) (r : Repla
           ∙ ap (λ (f : Formula). Some (OfCondition a.test.condition.quantifier f)) said.condition
 
   left_for : (id : ℕ) (ns : List ℕ) (rd : Reading) → IsSameFor rd a.test b.test
-      → IsLeftFor (reading_by id ns rd) (state_of p tests) (state_of q after) a.test_row.id
+      → IsLeftFor (reading_by id ns rd) (parts_state p tests) (parts_state q after) a.test_row.id
   left_for id ns (readings.Sound resolved used) said = test_left said
   left_for id ns (readings.Faulty fault) said = condition_left said
 

@@ -7,7 +7,7 @@ use Rattle.std.proofs.lemmas.Bool.Decides.{eqb_tells}
 use Rattle.std.proofs.lemmas.List.{append-nil, drop_all, map-append, take_more}
 use Rattle.text_values.specs.declared.model.Item.{Item}
 use Rattle.binding_kinds.specs.declared.fault.ModelFault.{ModelFault}
-use Rattle.bench_texts.specs.BenchTexts.{put_at, item_index, items_of}
+use Rattle.bench_texts.specs.BenchTexts.{put_at, item_index, items_with_numbers}
 use Rattle.bench_texts.specs.declared.model.NamedModel.{NamedModel}
 use Rattle.bench_texts.proofs.Lists.{map-put_at, set-put_at, map-remove}
 use Rattle.bench_nodes.specs.declared.table.ModelRow.{ModelRow}
@@ -182,21 +182,21 @@ one_more n = omega arith
 -- what the item of a number says is what stands at its index
 pub text_found : (m : NamedModel) (number : ℕ)
     → text_part (slice_get m.text.items.items (item_index number
-    (items_of m.numbers.items m.text.items.items)))
+    (items_with_numbers m.numbers.items m.text.items.items)))
     ≡ text_in m.numbers.items m.text.items.items number
 text_found m number =
     found m.numbers.items m.text.items.items
     (omega (arith, m.paired, m.numbers.ok.0, m.text.items.ok.0))
   where
     found : (ns : List ℕ) (xs : List Item) → length ns ≡ length xs
-        → text_part (slice_get xs (item_index number (items_of ns xs))) ≡ text_in ns xs number
+        → text_part (slice_get xs (item_index number (items_with_numbers ns xs))) ≡ text_in ns xs number
     found [] [] e = refl
     found [] (x ∷ xs) e = absurd (omega arith)
     found (n ∷ ns) [] e = absurd (omega arith)
     found (n ∷ ns) (x ∷ xs) e =
         let len : length ns ≡ length xs = omega arith in elim (eqb_tells n number) [
           | inl same ↦ rw same.0 refl
-          | inr other ↦ rw other.0 (rw (one_more (item_index number (items_of ns xs)))
+          | inr other ↦ rw other.0 (rw (one_more (item_index number (items_with_numbers ns xs)))
               (found ns xs len))
         ]
 

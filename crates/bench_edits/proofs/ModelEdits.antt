@@ -14,11 +14,11 @@ use Rattle.bench_items.specs.declared.items.SharedItem.{SharedItem}
 use Rattle.bench_items.specs.Items.{held_history}
 use Rattle.bench_texts.proofs.Lists.{map-remove}
 use Rattle.bench_texts.specs.BenchTexts.{put_at}
-use Rattle.bench_texts.specs.Held.{IsRead}
+use Rattle.bench_texts.specs.Held.{IsModelRead}
 use Rattle.bench_texts.specs.Replacements.{tests_with, models_with}
 use Rattle.bench_texts.specs.declared.replacement.Replacement.{Replacement}
 use Rattle.bench_texts.specs.declared.replacement.Replacement.TheVariants as made
-use Rattle.bench_texts.specs.Readings.{IsReading}
+use Rattle.bench_texts.specs.Readings.{IsModelReading}
 use Rattle.bench_texts.specs.declared.model.NamedModel.{NamedModel}
 use Rattle.bench_texts.specs.declared.reading.Reading.{Reading}
 use Rattle.bench_texts.specs.declared.reading.Reading.TheVariants as readings
@@ -33,7 +33,7 @@ use Rattle.bench_slots.specs.Slots.{plain, item_history}
 use Rattle.bench_slots.specs.Tables.{ModelReading, IsOrderedModel, all_slots}
 use Rattle.bench_parts.specs.declared.parts.Parts.{Parts}
 use Rattle.bench_parts.specs.Built.{IsItemRow, IsModelRow, AreTestRows, IsModelIn, IsBuilt}
-use Rattle.bench_parts.specs.Contents.{State, state_of, content, fault_content, fault_part}
+use Rattle.bench_parts.specs.Contents.{PartsState, parts_state, content, fault_content, fault_part}
 use Rattle.bench_parts.specs.Written.{IsPartAfter, item_text}
 use Rattle.bench_parts.specs.declared.model_rows.HeldModel.{HeldModel}
 use Rattle.bench_parts.specs.TableLaws.{WasModelRow}
@@ -85,10 +85,10 @@ split_each : (P : ItemFact → Type 0) (fs gs : List ItemFact) → Each P (fs ++
 split_each P [] gs h = (tt, h)
 split_each P (f ∷ fs) gs h = let rest = split_each P fs gs h.1 in ((h.0, rest.0), rest.1)
 
-one_in : (s : State) (id : ℕ) (numbers : List ℕ) (is : List Item) (rd : Reading)
+one_in : (s : PartsState) (id : ℕ) (numbers : List ℕ) (is : List Item) (rd : Reading)
     → IsOrderedModel (reading_by id numbers rd)
     → Each (DoesWhatIsRead s.parts.table.items.items s.parts.roles.items)
-    (item_facts numbers is (resolved_in rd)) → length is ≡ length numbers → IsReading is rd
+    (item_facts numbers is (resolved_in rd)) → length is ≡ length numbers → IsModelReading is rd
     → content s 1 id ≡ fault_part (fault_in rd) → IsModelIn s (reading_by id numbers rd)
 one_in s id numbers is (readings.Sound resolved used) ordered does len read fault = (
   ordered,
@@ -97,13 +97,13 @@ one_in s id numbers is (readings.Sound resolved used) ordered does len read faul
 )
 one_in s id numbers is (readings.Faulty f) ordered does len read fault = fault
 
-models_in : (s : State) (rows : List ModelRow) (ms : List NamedModel)
+models_in : (s : PartsState) (rows : List ModelRow) (ms : List NamedModel)
     → ((of : ℕ) → Has (map (λ r. r.id) rows) of
     → content s 1 of ≡ fault_content rows (map fault_of ms) of)
     → AreApart (map (λ r. r.id) rows)
     → Each IsOrderedModel (readings_of rows ms)
     → Each (DoesWhatIsRead s.parts.table.items.items s.parts.roles.items) (all_facts ms)
-    → Each IsRead ms → Each (IsModelIn s) (readings_of rows ms)
+    → Each IsModelRead ms → Each (IsModelIn s) (readings_of rows ms)
 models_in s [] ms faults apart ordered does read = tt
 models_in s (r ∷ rows) [] faults apart ordered does read = tt
 models_in s (r ∷ rows) (m ∷ ms) faults apart ordered does read =
@@ -139,7 +139,7 @@ pub record AreModelsNow (p : Parts) (held hs : List (Option HeldModel)) (ms : Li
   pub each : length hs ≡ length ms
   pub apart : AreApart (map (model_id (next_number p.last)) hs)
   pub low : Each (λ n. n ≤ number) (map (model_id (next_number p.last)) hs)
-  pub read : Each IsRead ms
+  pub read : Each IsModelRead ms
   pub numbers : AreApart (item_numbers ms)
 
 module _ (p q : Parts) (tests : List Test) (models ms : List NamedModel)
@@ -196,7 +196,7 @@ module _ (p q : Parts) (tests : List Test) (models ms : List NamedModel)
       ∙ ap (λ (l : List ItemRow). item_history l m.items.roles.items) (sym puts.items)
       ∙ ap (λ (l : List (Option SharedItem)). item_history q.table.items.items l) (sym puts.roles)
 
-  pub models_built : IsBuilt (state_of q tests) (readings_of q.table.models.items ms)
+  pub models_built : IsBuilt (parts_state q tests) (readings_of q.table.models.items ms)
   models_built = record {
     slots =
         ap (λ (l : List Slot). map plain l) puts.slots ∙ (are_made.slots
@@ -205,7 +205,7 @@ module _ (p q : Parts) (tests : List Test) (models ms : List NamedModel)
         ∙ ap (λ (h : ℕ → List SeenName). all_slots h (readings_of q.table.models.items ms))
         histories_now));
     models_in =
-        models_in (state_of q tests) q.table.models.items ms
+        models_in (parts_state q tests) q.table.models.items ms
         (λ of has.
         ap (λ (l : List (Option ModelFault)). fault_content q.table.models.items l of) faults)
         apart_ids ordered does is_now.read;
@@ -376,7 +376,7 @@ module _ (p : Parts) (tests : List Test) (models : List NamedModel) (number : �
       subst (λ (l : List ℕ). Each (λ n. n ≤ number) l) (sym keys) (low_ids p.last number
       p.table.models.items most owed.numbered.models_low)
 
-  pub now_dropped : (at : ℕ) → Each IsRead (remove models at)
+  pub now_dropped : (at : ℕ) → Each IsModelRead (remove models at)
       → AreApart (item_numbers (remove models at))
       → AreModelsNow p held (remove held at) (remove models at) number
   now_dropped at read numbers = record {
@@ -398,7 +398,7 @@ module _ (p : Parts) (tests : List Test) (models : List NamedModel) (number : �
     numbers = numbers;
   }
 
-  pub now_put : (at : ℕ) (model : NamedModel) → Each IsRead (put_at at model models)
+  pub now_put : (at : ℕ) (model : NamedModel) → Each IsModelRead (put_at at model models)
       → AreApart (item_numbers (put_at at model models))
       → AreModelsNow p held (if nat_lt at (length held) then held else held ++ None ∷ [])
       (put_at at model models) number
@@ -441,12 +441,12 @@ module _ (p : Parts) (tests : List Test) (models : List NamedModel) (number : �
 
 -- ---- all edits
 
-pub each_read : (ms : List NamedModel) → All IsRead ms → Each IsRead ms
+pub each_read : (ms : List NamedModel) → All IsModelRead ms → Each IsModelRead ms
 each_read [] h = tt
 each_read (m ∷ ms) h = (h 0 m (omega arith), each_read ms (λ k d lt. h (suc k) d (omega arith)))
 
 -- of a model without fault each item uses names of those before it
-ordered_in : (id : ℕ) (numbers : List ℕ) (is : List Item) (rd : Reading) → IsReading is rd
+ordered_in : (id : ℕ) (numbers : List ℕ) (is : List Item) (rd : Reading) → IsModelReading is rd
     → IsOrderedModel (reading_by id numbers rd)
 ordered_in id numbers is (readings.Sound resolved used) read =
     ordered_items (arc_value resolved).items.items used.items
@@ -454,7 +454,7 @@ ordered_in id numbers is (readings.Sound resolved used) read =
     read.1
 ordered_in id numbers is (readings.Faulty fault) read = tt
 
-all_ordered : (rows : List ModelRow) (ms : List NamedModel) → Each IsRead ms
+all_ordered : (rows : List ModelRow) (ms : List NamedModel) → Each IsModelRead ms
     → Each IsOrderedModel (readings_of rows ms)
 all_ordered [] ms h = tt
 all_ordered (r ∷ rows) [] h = tt
@@ -463,7 +463,7 @@ all_ordered (r ∷ rows) (m ∷ ms) h =
 
 pub edits_keep : (p q : Parts) (tests : List Test) (models : List NamedModel) (r : Replacement)
     (number : ℕ) (e : EditedParts) → IsEdit p tests models r number e q
-    → AreApart (item_numbers (models_with r models)) → All IsRead (models_with r models)
+    → AreApart (item_numbers (models_with r models)) → All IsModelRead (models_with r models)
     → ArePartsOf q (tests_with r tests) (models_with r models)
 edits_keep p q tests models (made.PutTest at test) number e edit numbers read =
     tests_keep p q tests models (made.PutTest at test) number e edit tt
@@ -491,7 +491,7 @@ edits_keep p q tests models (made.DropModel at) number (edited.Models m) edit nu
 
 pub edits_go_on : (p q : Parts) (tests : List Test) (models : List NamedModel) (r : Replacement)
     (number : ℕ) (e : EditedParts) → IsEdit p tests models r number e q
-    → AreApart (item_numbers (models_with r models)) → All IsRead (models_with r models)
+    → AreApart (item_numbers (models_with r models)) → All IsModelRead (models_with r models)
     → (next later part of : ℕ)
     → IsPartAfter (written_state p tests models next) number
     (written_state q (tests_with r tests) (models_with r models) later) part of

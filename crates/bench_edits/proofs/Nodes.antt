@@ -29,7 +29,7 @@ use Rattle.bench_nodes.proofs.Laws.{used_by}
 use Rattle.bench_values.specs.Givens.{GivenContent, ForSpace, ForItem, ForVerdict, ForFault, asked, faulted}
 use Rattle.bench_items.specs.Items.{role_content}
 use Rattle.bench_values.specs.Makes.{output_names}
-use Rattle.bench_items.specs.Naming.{SeenName, item_outputs as numbers_in, names_in, body_names, number_of, IsNamed, AreNamed}
+use Rattle.bench_items.specs.Naming.{SeenName, item_outputs as numbers_in, seen_names_in, body_names, number_of, IsInHistory, AreInHistory}
 use Rattle.bench_items.proofs.Naming.{number_tells}
 use Rattle.bench_values.specs.Parts.{parts_of}
 use Rattle.bench_edits.specs.Solved.{is_node, flag_name, flag_names}
@@ -38,9 +38,9 @@ use Rattle.bench_slots.specs.Tables.{ModelReading, Sound, Faulty, name_count, Is
 use Rattle.bench_slots.proofs.Lists.{has_map, contains_has, each_has, each_from_has}
 use Rattle.bench_slot_laws.specs.Closed.{predefined_names, all_keys}
 use Rattle.bench_slot_laws.proofs.Reached.{name_reached, all_flags, all_answers}
-use Rattle.bench_parts.specs.Contents.{PartContent, OfRole, OfCondition, OfObserved, State, histories, content}
-use Rattle.bench_parts.specs.States.{contents, is_read, flag_name as parts_flag, flag_read, flags_read, given_item, given_verdict, given_by, given, net_in}
-use Rattle.bench_parts.specs.Built.{IsHeld, AreHeld, IsModelIn}
+use Rattle.bench_parts.specs.Contents.{PartContent, OfRole, OfCondition, OfObserved, PartsState, histories, content}
+use Rattle.bench_parts.specs.States.{contents, is_read, flag_name as parts_flag, flag_read, flags_read, given_item, given_verdict, given_by, given_to_node, net_in}
+use Rattle.bench_parts.specs.Built.{IsRoleKnown, AreRolesKnown, IsModelIn}
 use Rattle.bench_parts.specs.Views.{FoundTest}
 use Rattle.bench_parts.proofs.BuiltSlots.{held_history_is}
 use Rattle.bench_parts.proofs.Equality.{given_is}
@@ -48,7 +48,7 @@ use Rattle.bench_parts.proofs.Histories.{content_named}
 use Rattle.bench_parts.proofs.SpaceParts.{part_is, space_is}
 use Rattle.bench_edits.specs.Settled.{CellNodes, outputs_of, StandsOnce, IsNode, check_keys, item_given, name_output, IsNumberOf, AreNodesOf}
 use Rattle.bench_edits.proofs.Held.{one_once}
-use Rattle.bench_edits.specs.Kept.{IsRead, id_in, IsKept, IsTestAt, item_node, space_node, verdict_node, nodes_of}
+use Rattle.bench_edits.specs.Kept.{IsReadingOfText, id_in, IsKeptState, IsTestAt, item_node, space_node, verdict_node, nodes_of}
 use Rattle.bench_edits.proofs.NamesOnce.{bound_names, names_once}
 use Rattle.bench_edits.proofs.Origin.{HasKind, item_keys_are, verdict_keys_are, verdict_there}
 use Rattle.bench_edits.proofs.Standing.{named_kind, closed, reach, node_is}
@@ -149,7 +149,7 @@ names_many (b ∷ bs) = ap suc (names_many bs)
 outputs_numbered : (history : List SeenName) (role : Role) (p : ℕ) → p < name_count role
     → slice_get
     (output_names (ForItem (role_content role) (numbers_in (role_content role) history))) p
-    ≡ Some (number_of history (get_or (names_in (role_content role)) p no_name))
+    ≡ Some (number_of history (get_or (seen_names_in (role_content role)) p no_name))
 outputs_numbered history (roles.Group recursive bodies) p lt =
     let names = body_names bodies.items in
     let many = names_many bodies.items in
@@ -159,10 +159,10 @@ outputs_numbered history (roles.Check check) p lt = absurd (omega (arith, lt))
 outputs_numbered history roles.Silent p lt = absurd (omega (arith, lt))
 
 -- the names of a list stand in a history
-named_at : (history names : List SeenName) (p : ℕ) (x : SeenName) → Each (IsNamed history) names
-    → slice_get names p ≡ Some x → IsNamed history x
+named_at : (history names : List SeenName) (p : ℕ) (x : SeenName) → Each (IsInHistory history) names
+    → slice_get names p ≡ Some x → IsInHistory history x
 named_at history [] p x all at = absurd (none-some x at)
-named_at history (n ∷ ns) zero x all at = subst (IsNamed history) (same_Some _ _ at) all.0
+named_at history (n ∷ ns) zero x all at = subst (IsInHistory history) (same_Some _ _ at) all.0
 named_at history (n ∷ ns) (suc p) x all at = named_at history ns p x all.1 at
 
 -- the name of a number
@@ -175,7 +175,7 @@ name_behind f (Some x) n e = (x, refl, some_number e)
     some_number e = cc
 
 -- names that stand once in a list, and stand in a history, have numbers that stand once
-mapped_once : (history names : List SeenName) → Each (IsNamed history) names → StandsOnce names
+mapped_once : (history names : List SeenName) → Each (IsInHistory history) names → StandsOnce names
     → StandsOnce (map (number_of history) names)
 mapped_once history names all once p q n at also =
     let a = name_behind (number_of history) (slice_get names p) n (sym (get_mapped (number_of history) names p) ∙ at) in
@@ -196,7 +196,7 @@ body_once bodies once p q x at also =
     once p q x.name (spelt_at bodies p x at) (spelt_at bodies q x also)
 
 -- no two outputs of an item go by one number
-outputs_once : (history : List SeenName) (role : Role) → AreNamed history (role_content role)
+outputs_once : (history : List SeenName) (role : Role) → AreInHistory history (role_content role)
     → StandsOnce (bound_names role)
     → StandsOnce (output_names (ForItem (role_content role)
     (numbers_in (role_content role) history)))
@@ -273,14 +273,14 @@ flag_among test numbers index (suc j) (q ∷ rs) r name at is =
     (number_at numbers n) ≡ true) moved
     (flag_among test numbers (suc index) j rs r name at is))
 
-module _ (s : State) where
-  gives_this : (n : Node) (known : GivenContent) → given s n ≡ Some known → (g : GivenContent)
+module _ (s : PartsState) where
+  gives_this : (n : Node) (known : GivenContent) → given_to_node s n ≡ Some known → (g : GivenContent)
       → (net_in s).gives n g ≡ true → g ≡ known
-  gives_this n known e g gives = same_Some _ _ (sym (given_is (given s n) g gives) ∙ e)
+  gives_this n known e g gives = same_Some _ _ (sym (given_is (given_to_node s n) g gives) ∙ e)
 
   -- an item of which the part holds what it does is named as it is, where its text is read if it is
   -- a flag
-  flag_is : (keys : List Key) (own : ℕ) (role : Role) (part : IsHeld s own (role_content role))
+  flag_is : (keys : List Key) (own : ℕ) (role : Role) (part : IsRoleKnown s own (role_content role))
       → ((name : List ℕ) → flag_name role ≡ Some name → is_read keys own ≡ true)
       → flag_read s keys own ≡ flag_name role
   flag_is keys own role part read =
@@ -313,7 +313,7 @@ module _ (s : State) where
   flags_past all (Output n x ∷ ks) ls none =
       absurd (let e : ◌≡◌ {A = List Key} (Output n x ∷ outputs_of ks) [] = none in cc)
 
-  module _ (models : List ModelReading) (kept : IsKept s models) (index : ℕ) (row : TestRow)
+  module _ (models : List ModelReading) (kept : IsKeptState s models) (index : ℕ) (row : TestRow)
       (test : Test) (at : IsTestAt s index row test) where
     abbrev ss : List Slot
     ss = s.parts.table.slots.items
@@ -344,7 +344,7 @@ module _ (s : State) where
 
     -- ---- the space
 
-    space_given_is : given s (space_node id)
+    space_given_is : given_to_node s (space_node id)
         ≡ Some (ForSpace (parts_of test.init.items test.threads.items found.locations))
     space_given_is =
         let many = found.row_is.each_thread in
@@ -372,7 +372,7 @@ module _ (s : State) where
         → IsNode (net_in s) (verdict_node id number) (ForFault (faulted test.condition fault)) []
     fault_is_node number fault there =
         let keys = verdict_keys_are models kept.models_apart kept.read (histories s) ss kept.built.slots (Faulty number fault) there in
-        let known : given s (verdict_node id number) ≡ Some (ForFault (faulted test.condition fault)) =
+        let known : given_to_node s (verdict_node id number) ≡ Some (ForFault (faulted test.condition fault)) =
         ap (given_by s kinds.Verdict) (ap (keys_at id) keys)
         ∙ ap (λ (c : Option PartContent). given_verdict (c ∷ content s 1 number ∷ []) [])
         condition_is
@@ -385,7 +385,7 @@ module _ (s : State) where
 
     module _ (model : ℕ) (numbers : List ℕ) (items : List ResolvedItem) (us : List ℕ)
         (there : Has models (Sound model numbers items us)) where
-      held : AreHeld s numbers items
+      held : AreRolesKnown s numbers items
       held = (model_in (Sound model numbers items us) there).1
 
       -- ---- which items are used
@@ -429,9 +429,9 @@ module _ (s : State) where
           (held k r at_k).1
 
       history_holds : (k : ℕ) (r : ResolvedItem) → slice_get items k ≡ Some r
-          → AreNamed (histories s (number_at numbers k)) (role_content r.role)
+          → AreInHistory (histories s (number_at numbers k)) (role_content r.role)
       history_holds k r at_k =
-          subst (λ (h : List SeenName). AreNamed h (role_content r.role))
+          subst (λ (h : List SeenName). AreInHistory h (role_content r.role))
           (sym (history_is k r at_k))
           (content_named s.parts.table.items.items s.parts.roles.items (number_at numbers k)
           (role_content r.role) (held k r at_k).0 (held k r at_k).1)
@@ -456,7 +456,7 @@ module _ (s : State) where
       numbers_once : (k : ℕ) (r : ResolvedItem) → among us k ≡ true → slice_get items k ≡ Some r
           → is_node r.role ≡ true → StandsOnce (output_names (item_given nodes k r))
       numbers_once k r inside at_k node =
-          let read = each_has IsRead models kept.read (Sound model numbers items us) there in
+          let read = each_has IsReadingOfText models kept.read (Sound model numbers items us) there in
           outputs_once (histories s (number_at numbers k)) r.role (history_holds k r at_k)
           (names_once [] [] predefined_names 0 read.0 items read.1.no_fault read.1.resolved k r
           at_k)
@@ -655,7 +655,7 @@ module _ (s : State) where
           ∙ ap (λ (l : List SlotKey). flags_read s all (keys_at id l)) answers_are
           ∙ flags_named items 0 from_first
 
-      verdict_given_is : given s (verdict_node id model)
+      verdict_given_is : given_to_node s (verdict_node id model)
           ≡ Some (ForVerdict (asked test.condition test.observed.items (flag_names items)))
       verdict_given_is =
           ap (given_by s kinds.Verdict) (ap (keys_at id) (verdict_keys_are models kept.models_apart

@@ -20,7 +20,7 @@ use Rattle.bench_slots.specs.Tables.{ModelReading, Sound, Faulty, space_slots, s
 use Rattle.bench_slots.proofs.Lists.{each_append, has_contains, each_has}
 use Rattle.bench_slots.proofs.Ordered.{has_plain, has_slot_plain, has_left, has_right}
 use Rattle.bench_parts.proofs.BuiltSlots.{slot_inputs}
-use Rattle.bench_edits.specs.Kept.{IsRead, id_in, AreOther}
+use Rattle.bench_edits.specs.Kept.{IsReadingOfText, id_in, AreOther}
 
 -- a group or a check has a node of its kind
 abbrev pub HasKind : Role → Kind → Type 0
@@ -158,12 +158,12 @@ number_there (x ∷ xs) (suc i) lt = inr (number_there xs i (omega (arith, lt)))
 
 -- ---- the first slot of a kind and number
 
-module _ (models : List ModelReading) (apart : AllPairs AreOther models) (read : Each IsRead models)
+module _ (models : List ModelReading) (apart : AllPairs AreOther models) (read : Each IsReadingOfText models)
   where
     read_from : (id : ℕ) (numbers : List ℕ) (items : List ResolvedItem) (used : List ℕ)
-        → Has models (Sound id numbers items used) → IsRead (Sound id numbers items used)
+        → Has models (Sound id numbers items used) → IsReadingOfText (Sound id numbers items used)
     read_from id numbers items used there =
-        each_has IsRead models read (Sound id numbers items used) there
+        each_has IsReadingOfText models read (Sound id numbers items used) there
 
     -- a used index is one of an item, and of a number
     pub index_within : (id : ℕ) (numbers : List ℕ) (items : List ResolvedItem) (used : List ℕ)

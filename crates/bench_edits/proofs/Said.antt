@@ -161,8 +161,8 @@ item_said P A names values outputs roles.Silent gives h =
 
 check_made : (role : Role) (space : SpaceContent) (columns : List Column)
     (outputs : List NodeContent) → is_check role ≡ true
-    → nodes.IsMadeBy (role_content role) space columns outputs
-    → Gives (nodes.HasAnswers (role_content role) space columns) outputs
+    → nodes.RoleMakes (role_content role) space columns outputs
+    → Gives (nodes.HasCheckAnswers (role_content role) space columns) outputs
 check_made (roles.Group recursive bodies) space columns outputs is h =
     absurd (let f : false ≡ true = is in cc)
 check_made (roles.Check check) space columns outputs is h = h
@@ -183,13 +183,13 @@ module _ (space : Space) (table : Table) (needed : ℕ → Bool)
       let solved = fits.solved needs (check_is_node r.role is) in
       let are = inputs_of space table needed is_space rs r solved.0 before ordered fits needs (check_is_node r.role is) solved.1 in
       let made = check_made r.role (space_of (table.space ∷ solved.0)) (columns_of (table.space ∷ solved.0)) (table.outputs (length rs)) is solved.2 in
-      let over : nodes.HasAnswers (role_content r.role) (space_content space) (map (λ b. b.now) are.inputs) made.0 =
+      let over : nodes.HasCheckAnswers (role_content r.role) (space_content space) (map (λ b. b.now) are.inputs) made.0 =
       subst
       (λ (s : SpaceContent).
-      nodes.HasAnswers (role_content r.role) s (map (λ b. b.now) are.inputs) made.0)
+      nodes.HasCheckAnswers (role_content r.role) s (map (λ b. b.now) are.inputs) made.0)
       (values_space table.space (space_content space) solved.0 is_space)
       (subst
-      (λ (l : List Column). nodes.HasAnswers (role_content r.role)
+      (λ (l : List Column). nodes.HasCheckAnswers (role_content r.role)
       (space_of (table.space ∷ solved.0)) l made.0)
       (values_columns table.space (space_content space) solved.0
       (map (λ b. b.now) are.inputs) is_space are.columns) made.2) in

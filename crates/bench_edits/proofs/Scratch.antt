@@ -7,7 +7,7 @@ use Rattle.memo_core.specs.declared.keys.Key.{Key}
 use Rattle.memo_core.specs.declared.keys.Key.TheVariants.{Output}
 use Rattle.memo_core.specs.declared.keys.Node.{Node}
 use Rattle.memo_core.specs.declared.keys.Output.{Output as Made}
-use Rattle.memo_core.specs.Graph.{Memo, Net, at, stored_at, output_at, named_values, IsSettled}
+use Rattle.memo_core.specs.Graph.{Memo, Net, at, stored_output, output_at, named_values, IsSettled}
 use Rattle.memo_core.specs.Right as core
 use Rattle.memo_core.specs.Step.{Has}
 use Rattle.binding_kinds.specs.declared.fault.ModelFault.{ModelFault}
@@ -19,13 +19,13 @@ use Rattle.bench_values.specs.Makes.{Makes, output_names}
 use Rattle.bench_values.specs.Values.{NodeContent, OfOutcome, outcome_in}
 use Rattle.from_scratch.specs.FromScratch.{IsFaultOf, IsFaultless, AreItemsOf, IsFromScratch}
 use Rattle.bench_slots.specs.Tables.{ModelReading, Sound, Faulty}
-use Rattle.bench_parts.specs.Contents.{State, histories}
+use Rattle.bench_parts.specs.Contents.{PartsState, histories}
 use Rattle.bench_parts.specs.States.{net_in, makes}
 use Rattle.cells.specs.Cells as cells
 use Rattle.cells.specs.Cells.{SolvedIsFromScratch}
-use Rattle.bench_edits.specs.Settled.{IsNode, AreSolved}
+use Rattle.bench_edits.specs.Settled.{IsNode, AreNodesSolved}
 use Rattle.bench_edits.proofs.Cells.{cell_scratch, settled_fault_scratch}
-use Rattle.bench_edits.specs.Kept.{IsKept, IsTestAt, verdict_node, nodes_of}
+use Rattle.bench_edits.specs.Kept.{IsKeptState, IsTestAt, verdict_node, nodes_of}
 use Rattle.bench_edits.proofs.Nodes.{verdict_used, fault_is_node, are_nodes}
 
 -- ---- the outcome that a solved verdict holds
@@ -57,7 +57,7 @@ first_output (o ∷ os) v e =
     )
 
 module _ (net : Net GivenContent) (memos : List (Memo NodeContent)) (n : Node) where
-  carried : core.IsSolved makes net memos n
+  carried : core.IsSolvedNode makes net memos n
       → ((g : GivenContent) (values outputs : List NodeContent) → net.gives n g ≡ true
       → Makes g values outputs → HoldsOutcome g outputs)
       → (o : Outcome) × (stamp : ℕ) × (at memos (Output n 0) ≡ Some (stamp, OfOutcome o))
@@ -65,7 +65,7 @@ module _ (net : Net GivenContent) (memos : List (Memo NodeContent)) (n : Node) w
       let made = s.made.made in
       let outcome = gives s.made.given s.values made.0 s.made.gives made.1 in
       let first = first_output s.memo.outputs (OfOutcome outcome.0) (made.2 ∙ ap (zip (output_names s.made.given)) outcome.1 ∙ ap (λ (ns : List ℕ). zip ns (OfOutcome outcome.0 ∷ [])) outcome.2) in
-      (outcome.0, first.0, ap (stored_at 0) s.found ∙ first.1)
+      (outcome.0, first.0, ap (stored_output 0) s.found ∙ first.1)
 
   verdict_holds : (parts : VerdictPartsContent) (uses : List Key)
       → IsNode net n (ForVerdict parts) uses
@@ -80,10 +80,10 @@ module _ (net : Net GivenContent) (memos : List (Memo NodeContent)) (n : Node) w
   fault_holds parts uses is g values outputs gives made =
       let h = subst (λ (x : GivenContent). Makes x values outputs) (is.given_is g gives) made in (_, h, ap output_names (is.given_is g gives))
 
-module _ (s : State) (models : List ModelReading) (kept : IsKept s models) (index : ℕ)
+module _ (s : PartsState) (models : List ModelReading) (kept : IsKeptState s models) (index : ℕ)
     (row : TestRow) (test : Test) (test_at : IsTestAt s index row test) where
   solved_in : (memos : List (Memo NodeContent)) → cells.AreSolved makes (net_in s) memos
-      → AreSolved (net_in s) memos
+      → AreNodesSolved (net_in s) memos
   solved_in memos all = record { solved = all.solved; closed = all.closed }
 
   module _ (id : ℕ) (numbers : List ℕ) (items : List ResolvedItem) (us : List ℕ)

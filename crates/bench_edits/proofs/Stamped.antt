@@ -19,13 +19,13 @@ use Rattle.bench_slots.specs.Slots.{item_history}
 use Rattle.bench_parts.specs.declared.parts.Parts.{Parts}
 use Rattle.bench_parts.specs.Contents.{PartContent, role_part, item_content, part_history}
 use Rattle.bench_parts.specs.Stamps.{next_number}
-use Rattle.bench_parts.specs.Items.{ItemFact, held_after, AreItemsOf}
-use Rattle.bench_parts.specs.Written.{WrittenModel, WrittenState, IsHere, Precedes, ItemsGoOn, IsStamped}
+use Rattle.bench_parts.specs.Items.{ItemFact, part_after, AreItemsMade}
+use Rattle.bench_parts.specs.Written.{WrittenModel, WrittenState, IsHere, Precedes, WrittenItemsGoOn, IsStamped}
 use Rattle.bench_edits.specs.declared.edited.EditedParts.{EditedParts}
 use Rattle.bench_edits.specs.declared.edited.EditedParts.TheVariants as edited
 use Rattle.bench_edits.specs.declared.edited.ModelParts.{ModelParts}
 use Rattle.bench_edits.specs.Edited.{AreModelsSame, AreModelsAfter, PutsModels}
-use Rattle.bench_edits.specs.Laws.{IsEdit, AreWritten, ItemsFollow}
+use Rattle.bench_edits.specs.Laws.{IsEdit, AreModelsWritten, ItemsFollow}
 use Rattle.bench_edits.specs.Owed.{ArePartsOf, item_numbers}
 use Rattle.bench_edits.specs.Readings.{written_model, written_models, written_state, named_text, all_facts}
 use Rattle.bench_edits.proofs.Facts.{all_numbers}
@@ -48,7 +48,7 @@ history_is (i ∷ is) (r ∷ rs) of = elim (eqb_tells i.number of) [
 ]
 
 role_grows : (read : Option RoleContent) (before now : Option PartContent)
-    → now ≡ held_after read before
+    → now ≡ part_after read before
     → (more : List SeenName) × (part_history now ≡ part_history before ++ more)
 role_grows None before now e = ([], ap part_history e ∙ sym (append-nil (part_history before)))
 role_grows (Some role) before now e =
@@ -58,7 +58,7 @@ role_grows (Some role) before now e =
 items_grow : (fresh : ℕ) (rows : List ItemRow) (roles : List (Option SharedItem))
     (texts : ℕ → Option PartContent) (facts : List ItemFact) (new : List ItemRow)
     (does : List (Option SharedItem)) (kinds : List (Option Kind))
-    → AreItemsOf fresh rows roles texts facts new does kinds
+    → AreItemsMade fresh rows roles texts facts new does kinds
     → (of : ℕ) → Has (map (λ f. f.number) facts) of
     → (more : List SeenName) × (item_history new does of ≡ item_history rows roles of ++ more)
 items_grow fresh rows roles texts [] new does kinds h of has = absurd has
@@ -197,7 +197,7 @@ module _ (p : Parts) (tests : List Test) (ms : List NamedModel) (next : ℕ) whe
 
 module _ (p q : Parts) (tests : List Test) (models : List NamedModel) (r : Replacement) (number : ℕ)
     (e : EditedParts) (next later : ℕ) (edit : IsEdit p tests models r number e q)
-    (written : AreWritten (models_with r models) later)
+    (written : AreModelsWritten (models_with r models) later)
     (follow : ItemsFollow models (models_with r models) next later) where
   kept : ArePartsOf q (tests_with r tests) (models_with r models)
   kept = edits_keep p q tests models r number e edit written.apart written.read
@@ -233,7 +233,7 @@ module _ (p q : Parts) (tests : List Test) (models : List NamedModel) (r : Repla
       (here_has q (tests_with r tests) (models_with r models) later second b) in
       precedes o.0 o.1 o.2 first second o.3 o.4 o.5 o.6
 
-  items_go_on : ItemsGoOn (written_state p tests models next) after
+  items_go_on : WrittenItemsGoOn (written_state p tests models next) after
   items_go_on = record {
     order = order_is;
     numbers =
@@ -250,7 +250,7 @@ module _ (p q : Parts) (tests : List Test) (models : List NamedModel) (r : Repla
 
 pub edits_stamped : (p q : Parts) (tests : List Test) (models : List NamedModel) (r : Replacement)
     (number : ℕ) (e : EditedParts) (next later : ℕ) → IsEdit p tests models r number e q
-    → AreWritten models next → AreWritten (models_with r models) later
+    → AreModelsWritten models next → AreModelsWritten (models_with r models) later
     → ItemsFollow models (models_with r models) next later
     → IsStamped (written_state p tests models next) number (written_state q (tests_with r tests)
     (models_with r models) later)

@@ -23,10 +23,10 @@ use Rattle.bench_slots.proofs.Lists.{has_append, has_behind, has_map, has_contai
 use Rattle.bench_slot_laws.specs.Closed.{NamesItem, AreClosed, LeadsByNames}
 use Rattle.bench_slot_laws.proofs.Items.{resolved_closed}
 use Rattle.bench_slot_laws.proofs.Reached.{name_reached, reached_by_names}
-use Rattle.bench_parts.specs.Contents.{State, histories}
+use Rattle.bench_parts.specs.Contents.{PartsState, histories}
 use Rattle.bench_parts.specs.States.{net_in}
 use Rattle.cells.specs.Cells.{StandsOn}
-use Rattle.bench_edits.specs.Kept.{IsRead, id_in, IsKept, node_kind, item_node, name_number, space_node, verdict_node, IsUnderVerdict}
+use Rattle.bench_edits.specs.Kept.{IsReadingOfText, id_in, IsKeptState, role_node_kind, item_node, name_number, space_node, verdict_node, IsUnderVerdict}
 use Rattle.bench_edits.proofs.Origin.{HasKind, verdict_inputs, IsOfItem, IsOfSpace, IsOfVerdict, origin, item_keys_are, verdict_keys_are}
 
 -- ---- keys and nodes
@@ -129,7 +129,7 @@ named_kind (roles.Group recursive bodies) p lt = refl
 named_kind (roles.Check check) p lt = absurd (omega (arith, lt))
 named_kind roles.Silent p lt = absurd (omega (arith, lt))
 
-pub kind_of_role : (role : Role) (kind : Kind) → HasKind role kind → node_kind role ≡ kind
+pub kind_of_role : (role : Role) (kind : Kind) → HasKind role kind → role_node_kind role ≡ kind
 kind_of_role (roles.Group recursive bodies) kind h = sym h
 kind_of_role (roles.Check check) kind h = sym h
 kind_of_role roles.Silent kind h = absurd h
@@ -139,14 +139,14 @@ not_silent (roles.Group recursive bodies) kind h e = cc
 not_silent (roles.Check check) kind h e = cc
 not_silent roles.Silent kind h e = h
 
-module _ (s : State) (models : List ModelReading) (kept : IsKept s models) where
+module _ (s : PartsState) (models : List ModelReading) (kept : IsKeptState s models) where
   abbrev ss : List Slot
   ss = s.parts.table.slots.items
 
   pub is_read : (id : ℕ) (numbers : List ℕ) (items : List ResolvedItem) (us : List ℕ)
-      → Has models (Sound id numbers items us) → IsRead (Sound id numbers items us)
+      → Has models (Sound id numbers items us) → IsReadingOfText (Sound id numbers items us)
   is_read id numbers items us there =
-      each_has IsRead models kept.read (Sound id numbers items us) there
+      each_has IsReadingOfText models kept.read (Sound id numbers items us) there
 
   stands_next : (n k m : Node) → Has (input_nodes ((net_in s).inputs n)) k → StandsOn (net_in s) k m
       → StandsOn (net_in s) n m
@@ -343,6 +343,6 @@ module _ (s : State) (models : List ModelReading) (kept : IsKept s models) where
       verdict_needed test of (origin models kept.models_apart kept.read (histories s) ss
       kept.built.slots kinds.Verdict of has)
 
-pub needed : (s : State) (models : List ModelReading) (n : Node) → IsKept s models
+pub needed : (s : PartsState) (models : List ModelReading) (n : Node) → IsKeptState s models
     → Has (used s.parts.table) n → IsUnderVerdict s models n
 needed s models n kept h = by_kind s models kept n.kind n.test n.of (used_slot s.parts.table n h)

@@ -21,7 +21,7 @@ use Rattle.bench_slots.specs.Slots.{plain, item_history}
 use Rattle.bench_slots.specs.Tables.{ModelReading, Sound, Faulty, all_slots}
 use Rattle.bench_parts.specs.declared.parts.Parts.{Parts}
 use Rattle.bench_parts.specs.Built.{IsItemRow, IsModelRow, IsTestRow, AreTestRows, IsModelIn, IsBuilt}
-use Rattle.bench_parts.specs.Contents.{State, state_of, content, item_content, fault_content, test_content}
+use Rattle.bench_parts.specs.Contents.{PartsState, parts_state, content, item_content, fault_content, test_content}
 use Rattle.bench_parts.specs.Written.{IsPartAfter, item_text}
 use Rattle.bench_parts.specs.TableLaws.{IsTestAfter}
 use Rattle.bench_parts.specs.Stamps.{IsLaterNumber, IsPartNow, next_number}
@@ -73,7 +73,7 @@ lows_stay last number (r ∷ rs) le h = (omega (arith, h.0, le), lows_stay last 
 
 -- ---- models that stay
 
-models_in_stay : (s t : State) (ms : List ModelReading)
+models_in_stay : (s t : PartsState) (ms : List ModelReading)
     → ((of : ℕ) → content t 0 of ≡ content s 0 of) → ((of : ℕ) → content t 1 of ≡ content s 1 of)
     → Each (IsModelIn s) ms → Each (IsModelIn t) ms
 models_in_stay s t [] items faults h = tt
@@ -151,15 +151,15 @@ module _ (p q : Parts) (same : AreModelsSame p q) where
 
   -- what is built of tests that changed
   built_after : (tests after : List Test) (models : List NamedModel) (number : ℕ) → p.last ≤ number
-      → q.last ≡ number → IsBuilt (state_of p tests) (readings_of p.table.models.items models)
+      → q.last ≡ number → IsBuilt (parts_state p tests) (readings_of p.table.models.items models)
       → AreTestRows number q.table.tests.items after q.locations.items
-      → IsBuilt (state_of q after) (readings_of q.table.models.items models)
+      → IsBuilt (parts_state q after) (readings_of q.table.models.items models)
   built_after tests after models number le last built rows = record {
     slots = ap (λ (l : List Slot). map plain l) same.slots ∙ (built.slots ∙ slots_stay models);
     models_in =
-        subst (λ (l : List ModelRow). Each (IsModelIn (state_of q after)) (readings_of l models))
+        subst (λ (l : List ModelRow). Each (IsModelIn (parts_state q after)) (readings_of l models))
         (sym same.rows)
-        (models_in_stay (state_of p tests) (state_of q after)
+        (models_in_stay (parts_state p tests) (parts_state q after)
         (readings_of p.table.models.items models) items_same faults_same built.models_in);
     items = subst (λ (n : ℕ). AllZip (IsItemRow n) q.table.items.items q.roles.items) (sym last)
         (subst (λ (l : List (Option SharedItem)). AllZip (IsItemRow number) q.table.items.items l)

@@ -24,21 +24,21 @@ use Rattle.bench_nodes.proofs.Laws.{used_by}
 use Rattle.bench_slots.specs.Slots.{space_key}
 use Rattle.bench_slots.specs.Tables.{ModelReading, Sound, Faulty}
 use Rattle.bench_slots.proofs.Lists.{each_append, each_map, each_to, each_has, has_map}
-use Rattle.bench_parts.specs.Built.{IsHeld, IsModelIn}
-use Rattle.bench_parts.specs.Contents.{PartContent, OfText, OfRole, OfFault, State, histories, content}
+use Rattle.bench_parts.specs.Built.{IsRoleKnown, IsModelIn}
+use Rattle.bench_parts.specs.Contents.{PartContent, OfText, OfRole, OfFault, PartsState, histories, content}
 use Rattle.bench_parts.specs.States.{keeps, net_in}
 use Rattle.bench_parts.specs.Written.{WrittenModel, WrittenState, KeepsStamp, EqualPartsKeepStamps}
-use Rattle.bench_edits.specs.Kept.{IsKept, id_in, space_node, verdict_node}
+use Rattle.bench_edits.specs.Kept.{IsKeptState, id_in, space_node, verdict_node}
 use Rattle.bench_edits.proofs.Origin.{verdict_keys_are, verdict_there}
 use Rattle.bench_edits.specs.BenchCells.{CellItem, cell_items, EqualItemsKeepNames, IsTestLeft, HoldsText, LeavesCell, IsVerdictUntouched}
 use Rattle.bench_edits.proofs.Stable.{IsCertain, nat_stable, untouched_stable}
 use Rattle.bench_edits.proofs.Items.{IsOfKind, number_in, used_key, keys_of, flag_keys, answer_keys, by_items, cell_keys, IsAmong, IsGroupAmong, IsCellIn, cell_in}
 
 module _ (w v : WrittenState) (test : ℕ) where
-  abbrev s : State
+  abbrev s : PartsState
   s = w.state
 
-  abbrev t : State
+  abbrev t : PartsState
   t = v.state
 
   -- the part that an input names has its stamp of before
@@ -153,7 +153,7 @@ module _ (w v : WrittenState) (test : ℕ) where
       )
 
       -- an item that does the same before and after has one history
-      held_still : (of : ℕ) (role : RoleContent) (before : IsHeld s of role) → IsHeld t of role
+      held_still : (of : ℕ) (role : RoleContent) (before : IsRoleKnown s of role) → IsRoleKnown t of role
           → content t 0 of ≡ Some (OfRole role before.0)
       held_still of role before after =
           after.1
@@ -199,7 +199,7 @@ module _ (w v : WrittenState) (test : ℕ) where
           all_so [] = tt
           all_so (n ∷ ns) = (tt, all_so ns)
 
-      inputs_are : (u : State) (role : RoleContent) (kind : Kind) (of : ℕ) → IsOfKind role kind
+      inputs_are : (u : PartsState) (role : RoleContent) (kind : Kind) (of : ℕ) → IsOfKind role kind
           → (net_in u).inputs (record { kind = kind; test = test; of = of })
           ≡ keys_at test (slot_keys u.parts.table.slots.items kind of)
       inputs_are u (Group recursive bodies) kind of e =
@@ -317,8 +317,8 @@ module _ (w v : WrittenState) (test : ℕ) where
 
   -- ---- a model with a fault
 
-  module _ (id : ℕ) (fault : ModelFault) (was : IsKept s (map (λ m. m.reading) w.models))
-      (is : IsKept t (map (λ m. m.reading) v.models))
+  module _ (id : ℕ) (fault : ModelFault) (was : IsKeptState s (map (λ m. m.reading) w.models))
+      (is : IsKeptState t (map (λ m. m.reading) v.models))
       (there : Has (map (λ m. m.reading) w.models) (Faulty id fault)) (also : Has
       (map (λ m. m.reading) v.models) (Faulty id fault))
       (faults : EqualPartsKeepStamps w v 1) (left : KeepsStamp s t 2 test)

@@ -38,9 +38,9 @@ column_there (c ∷ cs) (suc k) v e = column_there cs k v e
 -- a group's outputs are columns
 group_made : (role : Role) (space : SpaceContent) (columns : List Column)
     (outputs : List NodeContent) → 0 < name_count role
-    → nodes.IsMadeBy (role_content role) space columns outputs
+    → nodes.RoleMakes (role_content role) space columns outputs
     → (cs : List Column) × (outputs ≡ map OfColumn cs)
-    × nodes.HasColumns (role_content role) space columns cs
+    × nodes.HasGroupColumns (role_content role) space columns cs
 group_made (roles.Group recursive bodies) space columns outputs more h = h
 group_made (roles.Check check) space columns outputs more h = absurd (omega (arith, more))
 group_made roles.Silent space columns outputs more h = absurd (omega (arith, more))
@@ -107,13 +107,13 @@ module _ (space : Space) (table : Table) (needed : ℕ → Bool)
       let solved = fits.solved needs (group_is_node r.role more) in
       let are = inputs_given rs r.inputs.items solved.0 each bound (fits.closed needs (group_is_node r.role more)) solved.1 in
       let made = group_made r.role (space_of (table.space ∷ solved.0)) (columns_of (table.space ∷ solved.0)) (table.outputs (length rs)) more solved.2 in
-      let over : nodes.HasColumns (role_content r.role) (space_content space) (map (λ b. b.now) are.inputs) made.0 =
+      let over : nodes.HasGroupColumns (role_content r.role) (space_content space) (map (λ b. b.now) are.inputs) made.0 =
       subst
       (λ (s : SpaceContent).
-      nodes.HasColumns (role_content r.role) s (map (λ b. b.now) are.inputs) made.0)
+      nodes.HasGroupColumns (role_content r.role) s (map (λ b. b.now) are.inputs) made.0)
       (values_space table.space (space_content space) solved.0 is_space)
       (subst
-      (λ (l : List Column). nodes.HasColumns (role_content r.role)
+      (λ (l : List Column). nodes.HasGroupColumns (role_content r.role)
       (space_of (table.space ∷ solved.0)) l made.0)
       (values_columns table.space (space_content space) solved.0
       (map (λ b. b.now) are.inputs) is_space are.columns) made.2) in

@@ -8,18 +8,18 @@ use Rattle.memo_core.specs.Step.{Has}
 use Rattle.bench_texts.specs.declared.model.NamedModel.{NamedModel}
 use Rattle.bench_texts.specs.declared.reading.Reading.{Reading}
 use Rattle.bench_texts.specs.declared.reading.Reading.TheVariants as readings
-use Rattle.bench_texts.specs.Held.{IsRead}
-use Rattle.bench_texts.specs.Readings.{IsReading}
+use Rattle.bench_texts.specs.Held.{IsModelRead}
+use Rattle.bench_texts.specs.Readings.{IsModelReading}
 use Rattle.bench_nodes.specs.declared.table.ModelRow.{ModelRow}
 use Rattle.bench_nodes.specs.Nodes.{part_stamp}
 use Rattle.bench_slots.specs.Tables.{ModelReading}
 use Rattle.bench_slots.proofs.Lists.{has_append, has_behind}
 use Rattle.bench_parts.specs.Built.{IsBuilt}
-use Rattle.bench_parts.specs.Contents.{state_of}
-use Rattle.bench_parts.specs.Written.{WrittenModel, StandsAt, IsReadAs, IsPaired, IsWhole, part_content}
+use Rattle.bench_parts.specs.Contents.{parts_state}
+use Rattle.bench_parts.specs.Written.{WrittenModel, StandsAt, IsReadAs, IsPaired, IsWholeState, part_content}
 use Rattle.bench_parts.specs.declared.parts.Parts.{Parts}
 use Rattle.bench_parts.proofs.Built.{built_valid}
-use Rattle.bench_edits.specs.Laws.{AreWritten}
+use Rattle.bench_edits.specs.Laws.{AreModelsWritten}
 use Rattle.bench_edits.specs.Owed.{AreApart, ArePartsOf, item_numbers}
 use Rattle.bench_edits.specs.Readings.{reading_by, reading_of, readings_of, written_model, written_models, written_state}
 use Rattle.bench_edits.proofs.Facts.{each_item_has_number, texts_are, unstamped_gone}
@@ -47,11 +47,11 @@ readings_are (r ∷ rs) [] = refl
 readings_are (r ∷ rs) (m ∷ ms) =
     ap (λ (l : List ModelReading). reading_of r m ∷ l) (readings_are rs ms)
 
-one_read : (row : ModelRow) (m : NamedModel) → IsRead m → AreApart m.numbers.items
+one_read : (row : ModelRow) (m : NamedModel) → IsModelRead m → AreApart m.numbers.items
     → IsReadAs (written_model row m) (reading_of row m)
 one_read row m read apart = by_reading m.reading read
   where
-    by_reading : (rd : Reading) → IsReading m.text.items.items rd
+    by_reading : (rd : Reading) → IsModelReading m.text.items.items rd
         → IsReadAs (written_model row m) (reading_by row.id m.numbers.items rd)
     by_reading (readings.Sound resolved used) h = (
       refl,
@@ -66,7 +66,7 @@ one_read row m read apart = by_reading m.reading read
     )
     by_reading (readings.Faulty fault) h = tt
 
-all_read : (rows : List ModelRow) (ms : List NamedModel) → Each IsRead ms
+all_read : (rows : List ModelRow) (ms : List NamedModel) → Each IsModelRead ms
     → AreApart (item_numbers ms) → Each (λ m. IsReadAs m m.reading) (written_models rows ms)
 all_read [] ms read apart = tt
 all_read (r ∷ rs) [] read apart = tt
@@ -121,16 +121,16 @@ gone p tests ms next owed part of none = elim (eqb_tells part 0) [
       ∙ unstamped_gone p tests ms of owed (rw zero_is.0 at none))
   | inr other ↦ (
       let empty =
-      (built_valid (state_of p tests) (readings_of p.table.models.items ms)
+      (built_valid (parts_state p tests) (readings_of p.table.models.items ms)
       owed.built).empty part of none in
       rw other.0 (rw other.0 at empty))
 ]
 
 pub parts_whole : (p : Parts) (tests : List Test) (ms : List NamedModel) (next : ℕ)
-    → ArePartsOf p tests ms → AreWritten ms next → IsWhole (written_state p tests ms next)
+    → ArePartsOf p tests ms → AreModelsWritten ms next → IsWholeState (written_state p tests ms next)
 parts_whole p tests ms next owed written = record {
   built =
-      subst (λ (l : List ModelReading). IsBuilt (state_of p tests) l)
+      subst (λ (l : List ModelReading). IsBuilt (parts_state p tests) l)
       (sym (readings_are p.table.models.items ms)) owed.built;
   read = all_read p.table.models.items ms (each_read ms written.read) written.apart;
   paired = all_paired p.table.models.items ms;

@@ -14,10 +14,10 @@ use Rattle.bench_nodes.specs.Nodes.{used, has_test, space_keys}
 use Rattle.bench_slots.specs.Slots.{number_at}
 use Rattle.bench_slots.specs.Tables.{ModelReading, Sound, Faulty}
 use Rattle.bench_slices.specs.Slices.{clause_at}
-use Rattle.bench_parts.specs.Contents.{OfText, OfRole, State, content}
+use Rattle.bench_parts.specs.Contents.{OfText, OfRole, PartsState, content}
 use Rattle.bench_parts.specs.States.{keeps, net_in}
 use Rattle.bench_parts.specs.Written.{WrittenModel, WrittenState, part_content, KeepsStamp, EqualPartsKeepStamps}
-use Rattle.bench_edits.specs.Kept.{IsKept, id_in, numbers_in, verdict_node}
+use Rattle.bench_edits.specs.Kept.{IsKeptState, id_in, numbers_in, verdict_node}
 
 -- ---- what a cell has of its model
 
@@ -66,24 +66,24 @@ HaveSameCells m n = AreReadAlike m.items m.reading n.items n.reading
 -- ---- what an edit leaves
 
 -- an item that does what it did has the history that it had
-abbrev pub EqualItemsKeepNames : State → State → Type 0
+abbrev pub EqualItemsKeepNames : PartsState → PartsState → Type 0
 EqualItemsKeepNames s t =
     (of : ℕ) (role : RoleContent) (history names : List SeenName)
     → content s 0 of ≡ Some (OfRole role history) → content t 0 of ≡ Some (OfRole role names)
     → names ≡ history
 
 -- the parts of the test have their stamps of before, and its space has the same inputs
-pub record IsTestLeft (s t : State) (test : ℕ) : Type 0 where
+pub record IsTestLeft (s t : PartsState) (test : ℕ) : Type 0 where
   pub stamps : (part : ℕ) → 1 < part → KeepsStamp s t part test
   pub inputs : space_keys t.parts.table.tests.items test ≡ space_keys s.parts.table.tests.items test
 
 -- of the test a cell uses its condition alone where its model has a fault
-abbrev pub IsLeftFor : ModelReading → State → State → ℕ → Type 0
+abbrev pub IsLeftFor : ModelReading → PartsState → PartsState → ℕ → Type 0
 IsLeftFor (Sound id numbers items used) s t test = IsTestLeft s t test
 IsLeftFor (Faulty id fault) s t test = KeepsStamp s t 2 test
 
 -- each used node may keep what it holds
-abbrev pub MayNodesKeep : State → Type 0
+abbrev pub MayNodesKeep : PartsState → Type 0
 MayNodesKeep t = (n : Node) → Has (used t.parts.table) n → keeps t.parts n ≡ true
 
 -- the part of the item of that number holds that it says this
@@ -93,7 +93,7 @@ HoldsText w number said =
 
 -- the model is there, kept as it is read, and the parts of its items hold what these say
 pub record HoldsModel (w : WrittenState) (m : WrittenModel) : Type 0 where
-  pub kept : IsKept w.state (map (λ x. x.reading) w.models)
+  pub kept : IsKeptState w.state (map (λ x. x.reading) w.models)
   pub there : Has w.models m
   pub texts : (index : ℕ) → index < length (numbers_in m.reading)
       → HoldsText w (number_at (numbers_in m.reading) index) (clause_at m.items index)

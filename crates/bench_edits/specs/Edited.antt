@@ -107,27 +107,27 @@ AreModelsAfter p models r m =
     (models_with r models) m
 
 -- what is made for an edit
-abbrev pub IsMade : Parts → List Test → List NamedModel → Replacement → EditedParts → Type 0
-IsMade p tests models (made.PutTest at test) (edited.PutTest to row locations) =
+abbrev pub ArePartsMade : Parts → List Test → List NamedModel → Replacement → EditedParts → Type 0
+ArePartsMade p tests models (made.PutTest at test) (edited.PutTest to row locations) =
     (to ≡ at) × IsTestMade p tests at test row locations.items
-IsMade p tests models (made.DropTest at) (edited.DropTest to) = to ≡ at
-IsMade p tests models (made.PutModel at model next) (edited.Models m) =
+ArePartsMade p tests models (made.DropTest at) (edited.DropTest to) = to ≡ at
+ArePartsMade p tests models (made.PutModel at model next) (edited.Models m) =
     AreModelsAfter p models (made.PutModel at model next) m
-IsMade p tests models (made.DropModel at) (edited.Models m) =
+ArePartsMade p tests models (made.DropModel at) (edited.Models m) =
     AreModelsAfter p models (made.DropModel at) m
-IsMade p tests models _ _ = ⊥
+ArePartsMade p tests models _ _ = ⊥
 
 -- there is room for one test more
-pub record HasRoom (p : Parts) : Type 0 where
+pub record HasTestRoom (p : Parts) : Type 0 where
   pub rows : vec_len p.table.tests < vec_capacity p.table.tests
   pub few : vec_len p.table.tests < 65536
   pub locations : vec_len p.locations < vec_capacity p.locations
 
 -- the parts have the room that an edit needs
-abbrev pub IsReady : Parts → EditedParts → Type 0
-IsReady p (edited.PutTest at row locations) = HasRoom p
-IsReady p (edited.DropTest at) = ⊤
-IsReady p (edited.Models m) = ⊤
+abbrev pub HasRoomForParts : Parts → EditedParts → Type 0
+HasRoomForParts p (edited.PutTest at row locations) = HasTestRoom p
+HasRoomForParts p (edited.DropTest at) = ⊤
+HasRoomForParts p (edited.Models m) = ⊤
 
 -- ---- the parts after it
 

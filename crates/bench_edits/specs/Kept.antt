@@ -1,5 +1,5 @@
--- What a bench keeps of its tests and models (`IsKept`), and the nodes of its cells. Read it after
--- bench_parts' specs/Built and `Settled`.
+-- What a bench keeps of its tests and models (`IsKeptState`), and the nodes of its cells. Read it
+-- after bench_parts' specs/Built and `Settled`.
 use Rattle.std.specs.Prelude.{◌≡◌, ⊤, ℕ, List, [], length, Option, Some, None, slice_get, AllPairs}
 use Rattle.std.specs.List.{AllZip, AllByRecursion as Each}
 use Rattle.text_values.specs.declared.test.Test.{Test}
@@ -22,7 +22,7 @@ use Rattle.bench_slots.specs.Slots.{number_at, input_name}
 use Rattle.bench_slots.specs.Tables.{ModelReading, Sound, Faulty}
 use Rattle.bench_slot_laws.specs.Closed.{predefined_names}
 use Rattle.bench_parts.specs.Built.{IsBuilt}
-use Rattle.bench_parts.specs.Contents.{State}
+use Rattle.bench_parts.specs.Contents.{PartsState}
 use Rattle.bench_parts.specs.States.{net_in}
 use Rattle.cells.specs.Cells.{StandsOn}
 use Rattle.bench_edits.specs.Settled.{CellNodes}
@@ -40,10 +40,10 @@ pub record IsReadFrom (clauses : List BareItem) (numbers : List ℕ) (items : Li
   pub apart : AllPairs (λ a b. a ≡ b → ⊥) numbers
 
 -- a model without fault is read from some text
-abbrev pub IsRead : ModelReading → Type 0
-IsRead (Sound id numbers items used) =
+abbrev pub IsReadingOfText : ModelReading → Type 0
+IsReadingOfText (Sound id numbers items used) =
     (clauses : List BareItem) × IsReadFrom clauses numbers items used
-IsRead (Faulty id fault) = ⊤
+IsReadingOfText (Faulty id fault) = ⊤
 
 abbrev pub id_in : ModelReading → ℕ
 id_in (Sound id numbers items used) = id
@@ -63,29 +63,29 @@ pub record AreOther (m n : ModelReading) : Type 0 where
 
 -- The state is that of its tests and of these models, which are read from their texts. All have
 -- numbers of their own, and the locations of each test are those that it names.
-pub record IsKept (s : State) (models : List ModelReading) : Type 0 where
+pub record IsKeptState (s : PartsState) (models : List ModelReading) : Type 0 where
   pub built : IsBuilt s models
-  pub read : Each IsRead models
+  pub read : Each IsReadingOfText models
   pub models_apart : AllPairs AreOther models
   pub tests_apart : AllPairs (λ a b. a.id ≡ b.id → ⊥) s.parts.table.tests.items
   pub locations : AllZip (λ t l. AreNamesOf (test_names t) l.items) s.tests s.parts.locations.items
 
 -- the test stands at that index, with that row
-pub record IsTestAt (s : State) (index : ℕ) (row : TestRow) (test : Test) : Type 0 where
+pub record IsTestAt (s : PartsState) (index : ℕ) (row : TestRow) (test : Test) : Type 0 where
   pub row_is : slice_get s.parts.table.tests.items index ≡ Some row
   pub test_is : slice_get s.tests index ≡ Some test
 
 -- ---- nodes
 
 -- what is silent has no node
-abbrev pub node_kind : Role → Kind
-node_kind (roles.Group recursive bodies) = kinds.Group
-node_kind (roles.Check check) = kinds.Check
-node_kind roles.Silent = kinds.Group
+abbrev pub role_node_kind : Role → Kind
+role_node_kind (roles.Group recursive bodies) = kinds.Group
+role_node_kind (roles.Check check) = kinds.Check
+role_node_kind roles.Silent = kinds.Group
 
 abbrev pub role_node : ℕ → ℕ → Option ResolvedItem → Node
 role_node test own None = record { kind = kinds.Group; test = test; of = own }
-role_node test own (Some r) = record { kind = node_kind r.role; test = test; of = own }
+role_node test own (Some r) = record { kind = role_node_kind r.role; test = test; of = own }
 
 -- the node of the item at an index, where it has one
 abbrev pub item_node : ℕ → List ℕ → List ResolvedItem → ℕ → Node
@@ -114,7 +114,7 @@ nodes_of histories test id numbers items = record {
 }
 
 -- the verdict of the node's test under one of the models stands on the node
-pub record IsUnderVerdict (s : State) (models : List ModelReading) (n : Node) : Type 0 where
+pub record IsUnderVerdict (s : PartsState) (models : List ModelReading) (n : Node) : Type 0 where
   pub model : ModelReading
   pub there : Has models model
   pub stands : StandsOn (net_in s) (verdict_node n.test (id_in model)) n

@@ -2,16 +2,16 @@
 use Rattle.std.specs.Prelude.{◌≡◌, ⊤, ℕ, ◌<◌, ◌≤◌, ◌⊎◌, List, Some, slice_get, All}
 use Rattle.text_values.specs.declared.test.Test.{Test}
 use Rattle.memo_core.specs.Step.{Has}
-use Rattle.bench_texts.specs.Held.{IsRead}
+use Rattle.bench_texts.specs.Held.{IsModelRead}
 use Rattle.bench_texts.specs.declared.model.NamedModel.{NamedModel}
 use Rattle.bench_texts.specs.declared.replacement.Replacement.{Replacement}
 use Rattle.bench_texts.specs.declared.replacement.Replacement.TheVariants as made
 use Rattle.bench_texts.specs.Replacements.{tests_with, models_with}
-use Rattle.bench_parts.specs.Written.{IsWhole, IsPartAfter, EqualPartsKeepStamps, IsStamped}
+use Rattle.bench_parts.specs.Written.{IsWholeState, IsPartAfter, EqualPartsKeepStamps, IsStamped}
 use Rattle.bench_parts.specs.declared.parts.Parts.{Parts}
 use Rattle.bench_parts.specs.Stamps.{IsLaterNumber}
 use Rattle.bench_edits.specs.declared.edited.EditedParts.{EditedParts}
-use Rattle.bench_edits.specs.Edited.{IsMade, Commits}
+use Rattle.bench_edits.specs.Edited.{ArePartsMade, Commits}
 use Rattle.bench_edits.specs.Readings.{written_state}
 use Rattle.bench_edits.specs.Owed.{AreApart, ArePartsOf, item_numbers}
 
@@ -20,7 +20,7 @@ pub record IsEdit (p : Parts) (tests : List Test) (models : List NamedModel) (r 
     (number : ℕ) (e : EditedParts) (q : Parts) : Type 0 where
   pub later : IsLaterNumber p.last number
   pub owed : ArePartsOf p tests models
-  pub is_made : IsMade p tests models r e
+  pub is_made : ArePartsMade p tests models r e
   pub committed : Commits p number e q
 
 -- the edit puts or drops a test
@@ -52,7 +52,7 @@ abbrev pub EditsKeepParts : Type 0
 EditsKeepParts =
     (p q : Parts) (tests : List Test) (models : List NamedModel) (r : Replacement) (number : ℕ)
     (e : EditedParts) → IsEdit p tests models r number e q
-    → AreApart (item_numbers (models_with r models)) → All IsRead (models_with r models)
+    → AreApart (item_numbers (models_with r models)) → All IsModelRead (models_with r models)
     → ArePartsOf q (tests_with r tests) (models_with r models)
 
 -- and each part is as it was, has the number of the edit, or is gone
@@ -60,7 +60,7 @@ abbrev pub EditsGoOn : Type 0
 EditsGoOn =
     (p q : Parts) (tests : List Test) (models : List NamedModel) (r : Replacement) (number : ℕ)
     (e : EditedParts) → IsEdit p tests models r number e q
-    → AreApart (item_numbers (models_with r models)) → All IsRead (models_with r models)
+    → AreApart (item_numbers (models_with r models)) → All IsModelRead (models_with r models)
     → (next later part of : ℕ)
     → IsPartAfter (written_state p tests models next) number
     (written_state q (tests_with r tests) (models_with r models) later) part of
@@ -70,7 +70,7 @@ abbrev pub EditsKeepStamps : Type 0
 EditsKeepStamps =
     (p q : Parts) (tests : List Test) (models : List NamedModel) (r : Replacement) (number : ℕ)
     (e : EditedParts) → IsEdit p tests models r number e q
-    → AreApart (item_numbers (models_with r models)) → All IsRead (models_with r models)
+    → AreApart (item_numbers (models_with r models)) → All IsModelRead (models_with r models)
     → (next later part : ℕ)
     → EqualPartsKeepStamps (written_state p tests models next)
     (written_state q (tests_with r tests) (models_with r models) later) part
@@ -79,8 +79,8 @@ EditsKeepStamps =
 
 -- the models are read, and no two of their items have one number, which is below that of the next
 -- new item
-pub record AreWritten (models : List NamedModel) (next : ℕ) : Type 0 where
-  pub read : All IsRead models
+pub record AreModelsWritten (models : List NamedModel) (next : ℕ) : Type 0 where
+  pub read : All IsModelRead models
   pub apart : AreApart (item_numbers models)
   pub low : (number : ℕ) → Has (item_numbers models) number → number < next
 
@@ -102,15 +102,16 @@ pub record ItemsFollow (models after : List NamedModel) (was now : ℕ) : Type 0
 abbrev pub PartsAreWhole : Type 0
 PartsAreWhole =
     (p : Parts) (tests : List Test) (models : List NamedModel) (next : ℕ)
-    → ArePartsOf p tests models → AreWritten models next
-    → IsWhole (written_state p tests models next)
+    → ArePartsOf p tests models → AreModelsWritten models next
+    → IsWholeState (written_state p tests models next)
 
 -- after any edit the state is stamped with the number of the edit
 abbrev pub EditsAreStamped : Type 0
 EditsAreStamped =
     (p q : Parts) (tests : List Test) (models : List NamedModel) (r : Replacement) (number : ℕ)
     (e : EditedParts) (next later : ℕ) → IsEdit p tests models r number e q
-    → AreWritten models next
-    → AreWritten (models_with r models) later → ItemsFollow models (models_with r models) next later
+    → AreModelsWritten models next
+    → AreModelsWritten (models_with r models) later
+    → ItemsFollow models (models_with r models) next later
     → IsStamped (written_state p tests models next) number (written_state q (tests_with r tests)
     (models_with r models) later)

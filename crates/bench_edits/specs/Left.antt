@@ -4,7 +4,7 @@ use Rattle.std.specs.Prelude.{◌≡◌, ℕ, List, map, Some, slice_get, All}
 use Rattle.std.specs.List.{AllByRecursion as Each}
 use Rattle.text_values.specs.declared.test.Test.{Test}
 use Rattle.text_values.specs.TestValue.{content_of, formula_of}
-use Rattle.bench_texts.specs.Held.{IsRead}
+use Rattle.bench_texts.specs.Held.{IsModelRead}
 use Rattle.bench_texts.specs.Replacements.{tests_with, models_with}
 use Rattle.bench_texts.specs.declared.model.NamedModel.{NamedModel}
 use Rattle.bench_texts.specs.declared.reading.Reading.{Reading}
@@ -12,7 +12,7 @@ use Rattle.bench_texts.specs.declared.reading.Reading.TheVariants as readings
 use Rattle.bench_texts.specs.declared.replacement.Replacement.{Replacement}
 use Rattle.bench_nodes.specs.declared.table.ModelRow.{ModelRow}
 use Rattle.bench_nodes.specs.declared.table.TestRow.{TestRow}
-use Rattle.bench_parts.specs.Contents.{state_of}
+use Rattle.bench_parts.specs.Contents.{parts_state}
 use Rattle.bench_parts.specs.Written.{WrittenModel, WrittenState}
 use Rattle.bench_parts.specs.declared.parts.Parts.{Parts}
 use Rattle.bench_parts.specs.ItemLaws.{IsOfItsKind}
@@ -20,7 +20,7 @@ use Rattle.bench_edits.specs.declared.edited.EditedParts.{EditedParts}
 use Rattle.bench_edits.specs.Laws.{IsEdit}
 use Rattle.bench_edits.specs.Owed.{AreApart, ArePartsOf, item_numbers}
 use Rattle.bench_edits.specs.Readings.{readings_of, written_model, written_state, all_facts}
-use Rattle.bench_edits.specs.Kept.{IsKept}
+use Rattle.bench_edits.specs.Kept.{IsKeptState}
 use Rattle.bench_edits.specs.BenchCells.{HaveSameCells, LeavesCell, MayNodesKeep}
 
 -- ---- parts
@@ -34,7 +34,7 @@ AreKindsOf p models = Each (IsOfItsKind p.table.items.items p.kinds.items) (all_
 pub record AreOrderlyParts (p : Parts) (tests : List Test) (models : List NamedModel) : Type 0 where
   pub parts_are : ArePartsOf p tests models
   pub kinds : AreKindsOf p models
-  pub read : All IsRead models
+  pub read : All IsModelRead models
   pub items_apart : AreApart (item_numbers models)
   pub tests_apart : AreApart (map (λ t. t.name) tests)
   pub models_apart : AreApart (map (λ m. m.name) models)
@@ -48,14 +48,14 @@ EditsKeepKinds =
     → AreKindsOf p models → AreKindsOf q (models_with r models)
 
 -- of orderly parts, the models are kept as they are read, and each used node may keep what it holds
-pub record AreKept (p : Parts) (tests : List Test) (models : List NamedModel) : Type 0 where
-  pub kept : IsKept (state_of p tests) (readings_of p.table.models.items models)
-  pub may_keep : MayNodesKeep (state_of p tests)
+pub record ArePartsKept (p : Parts) (tests : List Test) (models : List NamedModel) : Type 0 where
+  pub kept : IsKeptState (parts_state p tests) (readings_of p.table.models.items models)
+  pub may_keep : MayNodesKeep (parts_state p tests)
 
 abbrev pub OrderlyPartsAreKept : Type 0
 OrderlyPartsAreKept =
     (p : Parts) (tests : List Test) (models : List NamedModel) → AreOrderlyParts p tests models
-    → AreKept p tests models
+    → ArePartsKept p tests models
 
 -- ---- cells
 
@@ -74,7 +74,7 @@ pub record CellRows : Type 0 where
   pub model_row : ModelRow
 
 -- the cell is there
-pub record IsCellOf (p : Parts) (tests : List Test) (models : List NamedModel) (c : CellRows)
+pub record IsCellOfParts (p : Parts) (tests : List Test) (models : List NamedModel) (c : CellRows)
     : Type 0 where
   pub at : ℕ
   pub test_is : slice_get tests at ≡ Some c.test
@@ -114,7 +114,7 @@ CellsAreLeft =
     (p q : Parts) (tests : List Test) (models : List NamedModel) (r : Replacement) (number : ℕ)
     (e : EditedParts) (next later : ℕ) (a b : CellRows)
     → IsOrderlyEdit p q tests models r number e
-    → IsCellOf p tests models a → IsCellOf q (tests_with r tests) (models_with r models) b
+    → IsCellOfParts p tests models a → IsCellOfParts q (tests_with r tests) (models_with r models) b
     → IsSameCell a b
     → IsLeft (written_state p tests models next)
     (written_state q (tests_with r tests) (models_with r models) later) a b

@@ -11,7 +11,7 @@ use Rattle.bench_texts.specs.declared.reading.Reading.{Reading}
 use Rattle.bench_texts.specs.declared.reading.Reading.TheVariants as readings
 use Rattle.bench_nodes.specs.declared.table.ModelRow.{ModelRow}
 use Rattle.bench_slots.specs.Tables.{ModelReading, Sound, Faulty}
-use Rattle.bench_parts.specs.Contents.{PartContent, state_of}
+use Rattle.bench_parts.specs.Contents.{PartContent, parts_state}
 use Rattle.bench_parts.specs.Items.{ItemFact, item_facts}
 use Rattle.bench_parts.specs.Written.{WrittenModel, WrittenState, text_in}
 use Rattle.bench_parts.specs.declared.parts.Parts.{Parts}
@@ -54,7 +54,7 @@ written_models (r ∷ rs) (m ∷ ms) = written_model r m ∷ written_models rs m
 abbrev pub written_state : Parts → List Test → List NamedModel → ℕ → WrittenState
 written_state p tests models next =
     record {
-      state = state_of p tests;
+      state = parts_state p tests;
       models = written_models p.table.models.items models;
       next = next;
     }

@@ -99,12 +99,13 @@ pub record AreNodesOf (net : Net GivenContent) (test : Test) (items : List Resol
 
 -- each settled node that cells use holds what is made of what its job is given now and of the
 -- present values of its present inputs, and cells use the nodes that it uses
-pub record AreSolved (net : Net GivenContent) (memos : List (Memo NodeContent)) : Type 0 where
-  pub solved : (n : Node) → Has net.used n → IsSettled net memos n → core.IsSolved makes net memos n
+pub record AreNodesSolved (net : Net GivenContent) (memos : List (Memo NodeContent)) : Type 0 where
+  pub solved : (n : Node) → Has net.used n → IsSettled net memos n
+      → core.IsSolvedNode makes net memos n
   pub closed : IsUsedClosed net
 
 -- the node is used and settled, and its first output is this outcome
-pub record Carries (net : Net GivenContent) (memos : List (Memo NodeContent)) (n : Node)
+pub record CarriesOutcome (net : Net GivenContent) (memos : List (Memo NodeContent)) (n : Node)
     (o : Outcome) : Type 0 where
   pub used : Has net.used n
   pub settled : IsSettled net memos n
@@ -112,14 +113,14 @@ pub record Carries (net : Net GivenContent) (memos : List (Memo NodeContent)) (n
   pub first : at memos (Output n 0) ≡ Some (stamp, OfOutcome o)
 
 -- the verdict of the test under the model, which has no fault, is settled with this outcome
-pub record IsSettledCell (test : Test) (model : ModelText) (net : Net GivenContent)
+pub record IsSettledVerdict (test : Test) (model : ModelText) (net : Net GivenContent)
     (memos : List (Memo NodeContent)) (o : Outcome) : Type 0 where
   pub items : List ResolvedItem
   pub no_fault : IsFaultless model
   pub of_model : AreItemsOf model items
   pub nodes : CellNodes
   pub are_nodes : AreNodesOf net test items nodes
-  pub carries : Carries net memos nodes.verdict o
+  pub carries : CarriesOutcome net memos nodes.verdict o
 
 -- the verdict of the test under the model, which has this fault first, is settled with this outcome
 pub record IsSettledFault (test : Test) (model : ModelText) (net : Net GivenContent)
@@ -128,4 +129,4 @@ pub record IsSettledFault (test : Test) (model : ModelText) (net : Net GivenCont
   pub of_model : IsFaultOf model fault
   pub verdict : Node
   pub is_verdict : IsNode net verdict (ForFault (faulted test.condition fault)) []
-  pub carries : Carries net memos verdict o
+  pub carries : CarriesOutcome net memos verdict o

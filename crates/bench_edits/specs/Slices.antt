@@ -2,7 +2,7 @@
 use Rattle.std.specs.Prelude.{◌≡◌}
 use Rattle.text_values.specs.TestValue.{Content}
 use Rattle.bench_texts.specs.declared.model.NamedModel.{NamedModel}
-use Rattle.bench_texts.specs.Held.{IsRead}
+use Rattle.bench_texts.specs.Held.{IsModelRead}
 use Rattle.bench_nodes.specs.declared.table.ModelRow.{ModelRow}
 use Rattle.bench_slices.specs.Slices.{slice}
 use Rattle.bench_edits.specs.Readings.{written_model}
@@ -12,6 +12,7 @@ use Rattle.bench_edits.specs.BenchCells.{HaveSameCells}
 -- model of one number.
 abbrev pub EqualSlicesHaveSameCells : Type 0
 EqualSlicesHaveSameCells =
-    (test other : Content) (model under : NamedModel) (row : ModelRow) → IsRead model → IsRead under
+    (test other : Content) (model under : NamedModel) (row : ModelRow) → IsModelRead model
+    → IsModelRead under
     → slice test model ≡ slice other under
     → HaveSameCells (written_model row model) (written_model row under)

@@ -13,7 +13,7 @@ use Rattle.binding_graph.specs.Reach.{is_check, IsCheckAt}
 use Rattle.verdict.specs.declared.answer.Outcome.{Outcome}
 use Rattle.bench_values.specs.Givens.{asked, faulted, ForSpace, ForVerdict, ForFault}
 use Rattle.bench_items.specs.Items.{role_content}
-use Rattle.bench_values.specs.Makes.{MakesItem, Makes}
+use Rattle.bench_values.specs.Makes.{ItemMakes, Makes}
 use Rattle.bench_values.specs.Parts.{SpacePartsContent, HasParts}
 use Rattle.bench_values.specs.Values.{NodeContent, OfOutcome}
 use Rattle.from_scratch.specs.FromScratch.{IsFaultOf, IsFaultless, AreItemsOf}
@@ -33,7 +33,7 @@ IsValueOf table name v = slice_get (table.outputs name.item) name.position ≡ S
 abbrev pub IsSolvedItem : Table → ℕ → ResolvedItem → Type 0
 IsSolvedItem table index r =
     (values : List NodeContent) × AllZip (IsValueOf table) r.inputs.items values
-    × MakesItem (role_content r.role) (table.space ∷ values) (table.outputs index)
+    × ItemMakes (role_content r.role) (table.space ∷ values) (table.outputs index)
 
 -- groups, checks and flags are nodes; what has no value is none
 abbrev pub is_node : Role → Bool
@@ -59,7 +59,7 @@ answers_in table index (r ∷ rs) =
 
 -- a cell: the items of the model and which of them are needed, what the nodes under the verdict
 -- hold, and the outcome
-pub record Cell : Type 0 where
+pub record SolvedCell : Type 0 where
   pub items : List ResolvedItem
   pub is_needed : ℕ → Bool
   pub table : Table
@@ -69,7 +69,7 @@ pub record Cell : Type 0 where
 -- node the items whose names it uses. The space is that of the test's parts, or says why they have
 -- none; each node that is needed gives its outputs; and from the space and the answers of checks
 -- and flags the verdict gives the outcome.
-pub record IsSolved (test : Test) (model : ModelText) (cell : Cell) : Type 0 where
+pub record IsCellSolved (test : Test) (model : ModelText) (cell : SolvedCell) : Type 0 where
   pub no_fault : IsFaultless model
   pub of_model : AreItemsOf model cell.items
   pub checks : (index : ℕ) → IsCheckAt cell.items index → cell.is_needed index ≡ true

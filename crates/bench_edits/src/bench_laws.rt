@@ -12,11 +12,11 @@ ghost use Rattle.bench_values.specs.Givens.{ForFault, faulted};
 ghost use Rattle.bench_values.specs.Values.{outcome_in};
 ghost use Rattle.from_scratch.specs.FromScratch.{IsFaultOf, IsFaultless, AreItemsOf, IsFromScratch};
 ghost use Rattle.bench_slots.specs.Tables.{ModelReading, Sound, Faulty};
-ghost use Rattle.bench_parts.specs.Contents.{State, histories};
+ghost use Rattle.bench_parts.specs.Contents.{PartsState, histories};
 ghost use Rattle.bench_parts.specs.States.{net_in, makes};
 ghost use Rattle.cells.specs.Cells.{SolvedIsFromScratch};
 ghost use Rattle.bench_edits.specs.Settled.{IsNode, AreNodesOf};
-ghost use Rattle.bench_edits.specs.Kept.{IsKept, IsTestAt, IsUnderVerdict, id_in, verdict_node, nodes_of};
+ghost use Rattle.bench_edits.specs.Kept.{IsKeptState, IsTestAt, IsUnderVerdict, id_in, verdict_node, nodes_of};
 ghost use Rattle.bench_edits.specs.BenchCells.{LeftCellsAreUntouched, UnreachedCellsAreUntouched};
 ghost use Rattle.bench_edits.specs.Left.{EditsKeepKinds, OrderlyPartsAreKept, CellsAreLeft};
 ghost use Rattle.bench_edits.specs.Slices.{EqualSlicesHaveSameCells};
@@ -25,20 +25,20 @@ use text_values::ModelText;
 
 /// Each used node is one that the verdict of its test under some model stands on.
 pub fn used_nodes_are_needed()
-    ensures { (s : State) (models : List ModelReading) (n : Node) → IsKept s models
+    ensures { (s : PartsState) (models : List ModelReading) (n : Node) → IsKeptState s models
         → Has (used s.parts.table) n → IsUnderVerdict s models n }
 {}
 
 /// Each test has a verdict under each model, which is used.
 pub fn verdicts_are_used()
-    ensures { (s : State) (models : List ModelReading) → IsKept s models
+    ensures { (s : PartsState) (models : List ModelReading) → IsKeptState s models
         → (index : ℕ) (row : TestRow) (test : Test) → IsTestAt s index row test → (m : ModelReading)
         → Has models m → Has (used s.parts.table) (verdict_node row.id (id_in m)) }
 {}
 
 /// Under a model without fault, the nodes of a test are those of the test and of the model's items.
 pub fn cells_have_their_nodes()
-    ensures { (s : State) (models : List ModelReading) → IsKept s models
+    ensures { (s : PartsState) (models : List ModelReading) → IsKeptState s models
         → (index : ℕ) (row : TestRow) (test : Test) → IsTestAt s index row test
         → (id : ℕ) (numbers : List ℕ) (items : List ResolvedItem) (used : List ℕ)
         → Has models (Sound id numbers items used)
@@ -47,7 +47,7 @@ pub fn cells_have_their_nodes()
 
 /// Under a model with a fault, the verdict of a test is given its condition and the fault.
 pub fn faulty_cells_have_their_verdict()
-    ensures { (s : State) (models : List ModelReading) → IsKept s models
+    ensures { (s : PartsState) (models : List ModelReading) → IsKeptState s models
         → (index : ℕ) (row : TestRow) (test : Test) → IsTestAt s index row test
         → (id : ℕ) (fault : ModelFault) → Has models (Faulty id fault)
         → IsNode (net_in s) (verdict_node row.id id) (ForFault (faulted test.condition fault)) [] }
@@ -56,7 +56,7 @@ pub fn faulty_cells_have_their_verdict()
 /// Where settled nodes hold what is made of the present, the settled verdict of a test under a
 /// model without fault holds what evaluating the test from nothing gives.
 pub fn verdicts_are_from_scratch(model: &ModelText)
-    ensures { (s : State) (models : List ModelReading) → IsKept s models
+    ensures { (s : PartsState) (models : List ModelReading) → IsKeptState s models
         → (index : ℕ) (row : TestRow) (test : Test) → IsTestAt s index row test
         → (id : ℕ) (numbers : List ℕ) (items : List ResolvedItem) (used : List ℕ)
         → Has models (Sound id numbers items used) → IsFaultless model.now
@@ -69,7 +69,7 @@ pub fn verdicts_are_from_scratch(model: &ModelText)
 
 /// Under a model with a fault, so does its settled verdict.
 pub fn faults_are_from_scratch(model: &ModelText)
-    ensures { (s : State) (models : List ModelReading) → IsKept s models
+    ensures { (s : PartsState) (models : List ModelReading) → IsKeptState s models
         → (index : ℕ) (row : TestRow) (test : Test) → IsTestAt s index row test
         → (id : ℕ) (fault : ModelFault) → Has models (Faulty id fault) → IsFaultOf model.now fault
         → SolvedIsFromScratch makes (net_in s) outcome_in (Some (verdict_node row.id id))

@@ -3,7 +3,7 @@
 ghost use Rattle.std.specs.Prelude.{◌≡◌, ◌+◌, ◌<◌, ◌≤◌, map, remove, vec_len, vec_capacity};
 ghost use Rattle.bench_texts.specs.BenchTexts.{put_at};
 ghost use Rattle.bench_parts.specs.Models.{raised_model};
-ghost use Rattle.bench_edits.specs.Edited.{IsReady, HasRoom, PutsTest, DropsTest, PutsModels, Commits};
+ghost use Rattle.bench_edits.specs.Edited.{HasRoomForParts, HasTestRoom, PutsTest, DropsTest, PutsModels, Commits};
 
 use crate::edited::{EditedParts, ModelParts};
 use bench_nodes::{ModelRow, TestRow, are_rising};
@@ -48,7 +48,7 @@ fn put_locations(all: &mut Vec<Vec<Name>>, at: usize, locations: Vec<Name>)
 
 // A test takes an index.
 fn put_test(parts: &mut Parts, at: usize, row: TestRow, locations: Vec<Name>, number: u64)
-    requires { HasRoom parts.old }
+    requires { HasTestRoom parts.old }
     ensures puts { PutsTest parts.old number at row locations parts.new }
     ensures last { parts.new.last ≡ number }
 {
@@ -119,7 +119,7 @@ fn put_models(parts: &mut Parts, made: ModelParts, number: u64)
 
 /// Puts an edit in place that was made for these parts, under its number. It takes no memory.
 pub fn commit_parts(parts: &mut Parts, edited: EditedParts, number: u64)
-    requires { IsReady parts.old edited }
+    requires { HasRoomForParts parts.old edited }
     ensures { Commits parts.old number edited parts.new }
 {
     match edited {

@@ -1,7 +1,7 @@
 //! Laws of solved nodes.
 
 ghost use Rattle.from_scratch.specs.FromScratch.{IsFromScratch};
-ghost use Rattle.bench_edits.specs.Solved.{Cell, IsSolved, IsSolvedFault};
+ghost use Rattle.bench_edits.specs.Solved.{SolvedCell, IsCellSolved, IsSolvedFault};
 
 use text_values::{ModelText, Test};
 use verdict::Outcome;
@@ -9,7 +9,7 @@ use verdict::Outcome;
 /// Where the nodes under a verdict are solved, under a model without fault, the outcome is what
 /// evaluating the test from nothing gives.
 pub fn solved_is_from_scratch(test: &Test, model: &ModelText)
-    ensures { (cell : Cell) → IsSolved test.now model.now cell
+    ensures { (cell : SolvedCell) → IsCellSolved test.now model.now cell
         → IsFromScratch test.now model.now cell.outcome }
 {
     let _test = test;

@@ -1,7 +1,7 @@
 //! Makes what an edit needs.
 
 ghost use Rattle.std.specs.Prelude.{◌≡◌, IfOk, map};
-ghost use Rattle.bench_edits.specs.Edited.{AreModelsAfter, IsMade, IsReady, AreModelPartsMade, AreTestsSame, AreModelsSame, HasRoom};
+ghost use Rattle.bench_edits.specs.Edited.{AreModelsAfter, ArePartsMade, HasRoomForParts, AreModelPartsMade, AreTestsSame, AreModelsSame, HasTestRoom};
 
 use crate::edited::{EditedParts, ModelParts};
 use crate::models::{model_faults, model_items, model_rows, models_after, models_before};
@@ -19,7 +19,7 @@ const MOST: usize = 65_536;
 
 // Makes room for one test more. Errors: want of memory, or too many tests.
 fn make_room(parts: &mut Parts) -> Result<(), AllocError>
-    ensures room { IfOk result (λ _. HasRoom parts.new) }
+    ensures room { IfOk result (λ _. HasTestRoom parts.new) }
     ensures tests { AreTestsSame parts.old parts.new }
     ensures models { AreModelsSame parts.old parts.new }
     ensures last { parts.new.last ≡ parts.old.last }
@@ -88,8 +88,8 @@ pub fn prepare_parts(
     models: &[NamedModel],
     replacement: &Replacement,
 ) -> Result<EditedParts, AllocError>
-    ensures made { IfOk result (IsMade parts.old tests.now models.now replacement.now) }
-    ensures ready { IfOk result (IsReady parts.new) }
+    ensures made { IfOk result (ArePartsMade parts.old tests.now models.now replacement.now) }
+    ensures ready { IfOk result (HasRoomForParts parts.new) }
     ensures tests { AreTestsSame parts.old parts.new }
     ensures models { AreModelsSame parts.old parts.new }
     ensures last { parts.new.last ≡ parts.old.last }

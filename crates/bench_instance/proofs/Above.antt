@@ -25,7 +25,7 @@ use Rattle.board.specs.Contents.{BoardContent}
 use Rattle.board.specs.Operations.{board_after}
 use Rattle.desk.specs.Boards.{HoldsAbove}
 use Rattle.bench_instance.specs.declared.stamped_texts.StampedTexts.{StampedTexts}
-use Rattle.bench_instance.specs.StampedTexts.{IsSound, net_of, verdict_of}
+use Rattle.bench_instance.specs.StampedTexts.{AreSoundTexts, stamped_net, verdict_of}
 use Rattle.bench_instance.specs.Lemmas.CellProofs.{cell_in}
 use Rattle.bench_instance.specs.Cells.{board_cells, IsRowRange}
 use Rattle.bench_instance.specs.Lemmas.Laws.{cells_are_in_rows, is_below}
@@ -60,12 +60,12 @@ input_test t Group test of n h = key_test test (slot_keys t.slots.items Group of
 input_test t Check test of n h = key_test test (slot_keys t.slots.items Check of) n h
 input_test t Verdict test of n h = key_test test (slot_keys t.slots.items Verdict of) n h
 
-stands_by : (t : StampedTexts) (d : ℕ) (n m : Node) → StandsOnBy d (net_of t) n m → m.test ≡ n.test
+stands_by : (t : StampedTexts) (d : ℕ) (n m : Node) → StandsOnBy d (stamped_net t) n m → m.test ≡ n.test
 stands_by t zero n m e = sym (ap (λ (k : Node). k.test) e)
 stands_by t (suc d) n m h =
     stands_by t d h.0 m h.2 ∙ input_test t.parts.table n.kind n.test n.of h.0 h.1
 
-pub stands_in_test : (t : StampedTexts) (n m : Node) → StandsOn (net_of t) n m → m.test ≡ n.test
+pub stands_in_test : (t : StampedTexts) (n m : Node) → StandsOn (stamped_net t) n m → m.test ≡ n.test
 stands_in_test t n m h = stands_by t h.0 n m h.1
 
 -- ---- the row of a test
@@ -96,10 +96,10 @@ module _ (t : StampedTexts) (all : List BoardOp) (node : Node) (row first end : 
   abbrev b : BoardContent
   b = board_after all
 
-  pub holds_above : IsSound t → AreAfter t all
+  pub holds_above : AreSoundTexts t → AreAfter t all
       → row ≡ position_or_len (λ (x : TestRow). x.id == node.test) t.parts.table.tests.items
       → IsRowRange (length (board_cells b)) (length b.columns) row first end
-      → HoldsAbove (net_of t) (verdict_of t) node (board_cells b) first end
+      → HoldsAbove (stamped_net t) (verdict_of t) node (board_cells b) first end
   holds_above sound after row_is range test model verdict v stands =
       let i = test_index test (texts_of t.texts).tests in
       let cell = cell_in t test model verdict sound v in

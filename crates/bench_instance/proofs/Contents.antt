@@ -8,18 +8,18 @@ use Rattle.verdict.specs.declared.answer.Outcome.{Outcome}
 use Rattle.bench_texts.specs.declared.model.NamedModel.{NamedModel}
 use Rattle.bench_texts.specs.BenchTexts.{BenchTexts, test_index, model_index}
 use Rattle.bench_texts.specs.Edits as edits
-use Rattle.bench_texts.specs.Held.{texts_of, model_of}
+use Rattle.bench_texts.specs.Held.{texts_of, plain_model}
 use Rattle.bench_texts.specs.Replacements.{texts_with}
 use Rattle.board.specs.declared.operation.BoardOp.{BoardOp}
 use Rattle.board.specs.declared.operation.BoardOp.TheVariants.{Edit, Settle}
-use Rattle.board.specs.Legal.{Held, held_of, texts_after}
+use Rattle.board.specs.Legal.{TestsAndModels, tests_and_models, texts_after}
 use Rattle.bench_instance.specs.declared.stamped_texts.StampedTexts.{StampedTexts}
 use Rattle.bench_instance.specs.StampedCells.{from_scratch, scratch_by, test_of as test_in, model_of as model_in}
 use Rattle.board.specs.Histories.{no_contents, contents_with, contents_after, IsEditOf, IsMadeOn, AreMadeFrom, IsHistory}
 use Rattle.bench_instance.specs.Texts.{AreAfter}
 use Rattle.bench_instance.specs.Lemmas.Laws.{made_few}
 use Rattle.board.proofs.Histories.{contents_are_those}
-use Rattle.bench_instance.specs.Contents.{IsApplied, IsWithinLimits, SayTheSame}
+use Rattle.bench_instance.specs.Contents.{IsApplied, AreWithinLimits, SayTheSameTexts}
 
 -- ---- one operation more
 
@@ -53,30 +53,30 @@ few_from : (ops : List BoardOp) (t : BenchTexts) → AreFew t → AreMadeFrom t 
 few_from [] t few made = few
 few_from (op ∷ ops) t few made = few_from ops (contents_with t op) (few_with t op few made.0) made.1
 
-pub history_is_within : (ops : List BoardOp) → IsHistory ops → IsWithinLimits (texts_after ops)
+pub history_is_within : (ops : List BoardOp) → IsHistory ops → AreWithinLimits (texts_after ops)
 history_is_within ops history =
     let few = few_from ops no_contents (omega arith, omega arith) history.1 in
     let same = contents_are_those ops in
-    let h : Held = texts_after ops in
+    let h : TestsAndModels = texts_after ops in
     record {
       tests =
           subst (λ (n : ℕ). n ≤ 512) (ap length same.tests ∙ length-map h.tests content_of) few.0;
       models =
-          subst (λ (n : ℕ). n ≤ 16) (ap length same.models ∙ length-map h.models model_of) few.1;
+          subst (λ (n : ℕ). n ≤ 16) (ap length same.models ∙ length-map h.models plain_model) few.1;
     }
 
 -- ---- two texts after the same operations
 
-module _ (t u : StampedTexts) (same : held_of u.texts ≡ held_of t.texts)
+module _ (t u : StampedTexts) (same : tests_and_models u.texts ≡ tests_and_models t.texts)
     (contents : texts_of u.texts ≡ texts_of t.texts) where
   test_same : (name : List ℕ) → test_in u name ≡ test_in t name
   test_same name =
-      ap (λ (h : Held). slice_get h.tests (test_index name (texts_of u.texts).tests)) same
+      ap (λ (h : TestsAndModels). slice_get h.tests (test_index name (texts_of u.texts).tests)) same
       ∙ ap (λ (x : BenchTexts). slice_get t.texts.tests.items (test_index name x.tests)) contents
 
   model_same : (name : List ℕ) → model_in u name ≡ model_in t name
   model_same name =
-      ap (λ (h : Held). slice_get h.models (model_index name (texts_of u.texts).models)) same
+      ap (λ (h : TestsAndModels). slice_get h.models (model_index name (texts_of u.texts).models)) same
       ∙ ap (λ (x : BenchTexts). slice_get t.texts.models.items (model_index name x.models)) contents
 
   pub result_same : (test model : List ℕ) (o : Outcome) → from_scratch t test model o
@@ -87,8 +87,8 @@ module _ (t u : StampedTexts) (same : held_of u.texts ≡ held_of t.texts)
       h)
 
 pub texts_are_one : (t u : StampedTexts) (ops : List BoardOp) → AreAfter t ops → AreAfter u ops
-    → SayTheSame t u
+    → SayTheSameTexts t u
 texts_are_one t u ops a b =
-    let same : held_of u.texts ≡ held_of t.texts = b.held ∙ sym a.held in
+    let same : tests_and_models u.texts ≡ tests_and_models t.texts = b.held ∙ sym a.held in
     let contents : texts_of u.texts ≡ texts_of t.texts = b.contents ∙ sym a.contents in
     record { held = same; contents = contents; results = result_same t u same contents }

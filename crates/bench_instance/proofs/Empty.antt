@@ -7,7 +7,7 @@ use Rattle.text_values.specs.declared.test.Test.{Test}
 use Rattle.ppc_semantics.specs.Lowering.{AreNamesOf, test_names}
 use Rattle.bench_texts.specs.declared.model.NamedModel.{NamedModel}
 use Rattle.bench_texts.specs.BenchTexts.{BenchTexts}
-use Rattle.bench_texts.specs.Held.{model_of, texts_of, AreRead}
+use Rattle.bench_texts.specs.Held.{plain_model, texts_of, AreModelsRead}
 use Rattle.bench_nodes.specs.declared.table.ItemRow.{ItemRow}
 use Rattle.bench_nodes.specs.declared.table.ModelRow.{ModelRow}
 use Rattle.bench_nodes.specs.declared.table.TestRow.{TestRow}
@@ -15,12 +15,12 @@ use Rattle.bench_nodes.specs.Nodes.{item_stamp, fault_stamp, test_stamp, part_st
 use Rattle.bench_parts.specs.declared.parts.Parts.{Parts}
 use Rattle.bench_parts.specs.Built.{AreTestRows, IsBuilt}
 use Rattle.bench_parts.specs.Contents as contents
-use Rattle.bench_edits.specs.Owed.{AreNumbered, ArePartsOf}
+use Rattle.bench_edits.specs.Owed.{AreRowsNumbered, ArePartsOf}
 use Rattle.bench_edits.specs.Readings.{readings_of}
 use Rattle.bench_text_laws.specs.Orderly.{IsOrderly}
 use Rattle.bench_edits.specs.Left.{AreKindsOf}
 use Rattle.bench_instance.specs.declared.stamped_texts.StampedTexts.{StampedTexts}
-use Rattle.bench_instance.specs.StampedTexts.{IsSound}
+use Rattle.bench_instance.specs.StampedTexts.{AreSoundTexts}
 
 abbrev pub empty_texts : BenchTexts
 empty_texts = record { tests = []; models = []; next = 1 }
@@ -48,7 +48,7 @@ orderly_empty : IsOrderly empty_texts
 orderly_empty = record { tests = tt; models = tt; items = tt; next = λ n h. absurd h }
 
 -- parts without tests and models
-module _ (p : Parts) (built : IsBuilt (contents.state_of p []) [])
+module _ (p : Parts) (built : IsBuilt (contents.parts_state p []) [])
     (items : p.table.items.items ≡ []) (models : p.table.models.items ≡ []) where
   rows_none : p.table.tests.items ≡ []
   rows_none = no_rows p.last p.table.tests.items p.locations.items built.tests
@@ -56,16 +56,16 @@ module _ (p : Parts) (built : IsBuilt (contents.state_of p []) [])
   locations_none : p.locations.items ≡ []
   locations_none = no_locations p.last p.table.tests.items p.locations.items built.tests
 
-  numbered_none : AreNumbered p.last p.table.tests.items p.table.models.items
+  numbered_none : AreRowsNumbered p.last p.table.tests.items p.table.models.items
   numbered_none =
-      subst (λ (rs : List TestRow). AreNumbered p.last rs p.table.models.items) (sym rows_none)
-      (subst (λ (ms : List ModelRow). AreNumbered p.last [] ms) (sym models)
+      subst (λ (rs : List TestRow). AreRowsNumbered p.last rs p.table.models.items) (sym rows_none)
+      (subst (λ (ms : List ModelRow). AreRowsNumbered p.last [] ms) (sym models)
       (record { tests_apart = tt; models_apart = tt; tests_low = tt; models_low = tt }))
 
   pub parts_are_empty : ArePartsOf p [] []
   parts_are_empty = record {
     built =
-        subst (λ (rows : List ModelRow). IsBuilt (contents.state_of p []) (readings_of rows []))
+        subst (λ (rows : List ModelRow). IsBuilt (contents.parts_state p []) (readings_of rows []))
         (sym models) built;
     each_model = ap length models;
     each_item = ap (map (λ i. i.number)) items;
@@ -75,16 +75,16 @@ module _ (p : Parts) (built : IsBuilt (contents.state_of p []) [])
   }
 
 -- texts without tests and models
-module _ (t : StampedTexts) (empty : texts_of t.texts ≡ empty_texts) (read : AreRead t.texts)
-    (built : IsBuilt (contents.state_of t.parts []) []) (items : t.parts.table.items.items ≡ [])
+module _ (t : StampedTexts) (empty : texts_of t.texts ≡ empty_texts) (read : AreModelsRead t.texts)
+    (built : IsBuilt (contents.parts_state t.parts []) []) (items : t.parts.table.items.items ≡ [])
     (models : t.parts.table.models.items ≡ []) where
   no_tests : t.texts.tests.items ≡ []
   no_tests = none_of content_of t.texts.tests.items (ap (λ (b : BenchTexts). b.tests) empty)
 
   no_models : t.texts.models.items ≡ []
-  no_models = none_of model_of t.texts.models.items (ap (λ (b : BenchTexts). b.models) empty)
+  no_models = none_of plain_model t.texts.models.items (ap (λ (b : BenchTexts). b.models) empty)
 
-  pub empty_sound : IsSound t
+  pub empty_sound : AreSoundTexts t
   empty_sound = record {
     read = read;
     parts_are =

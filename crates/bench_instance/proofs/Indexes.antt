@@ -22,14 +22,14 @@ use Rattle.desk.specs.declared.texts.CellNames.{CellNames}
 use Rattle.board.specs.declared.operation.CellIndex.{CellIndex}
 use Rattle.board.specs.declared.operation.BoardEdit.{BoardEdit}
 use Rattle.board.specs.declared.operation.BoardOp.TheVariants as ops
-use Rattle.board.specs.Legal.{Held, held_of}
+use Rattle.board.specs.Legal.{TestsAndModels, tests_and_models}
 use Rattle.board.specs.Contents.{RowContent, ColumnContent, BoardContent, cell_at, cells_of, shown_cell}
 use Rattle.bench_instance.specs.declared.stamped_texts.PreparedEdit.{PreparedEdit}
 use Rattle.bench_instance.specs.declared.stamped_texts.StampedTexts.{StampedTexts}
-use Rattle.bench_instance.specs.Cells.{cell_with, all_cells, IsCountable, board_cells, IsIndexOf, IsNamedAt, HasNoNames}
+use Rattle.bench_instance.specs.Cells.{cell_with, all_cells, IsCountable, board_cells, IsCellIndexOf, IsNamedAt, HasNoNames}
 use Rattle.bench_instance.specs.Lemmas.Listing.{are_all, all_length, all_get, cell_of_row, row_cell, outcome_at}
 use Rattle.board.specs.Histories.{no_contents}
-use Rattle.bench_instance.specs.Texts.{AreAfter, MayFollowBelow, Announced}
+use Rattle.bench_instance.specs.Texts.{AreAfter, MayFollowBelow, IsAnnounced}
 
 -- ---- how many cells
 
@@ -129,7 +129,7 @@ here_by columns (Some r) j c e missing = by_column (slice_get columns j) e (miss
 -- ---- the cell that the desk counts so
 
 module _ (b : BoardContent) (index : ℕ) (at : CellIndex) (lt : index < length (board_cells b))
-    (is : IsIndexOf b index at) where
+    (is : IsCellIndexOf b index at) where
   cell_at_index : slice_get (board_cells b) index
       ≡ cell_of_row b.columns (slice_get b.rows at.test) at.model
   cell_at_index =
@@ -185,13 +185,13 @@ none_of : {A B : Type 0} (f : A → B) (xs : List A) → map f xs ≡ [] → xs 
 none_of f [] e = refl
 none_of f (x ∷ xs) e = cc
 
-abbrev held : List Test → List NamedModel → Held
+abbrev held : List Test → List NamedModel → TestsAndModels
 held ts ms = record { tests = ts; models = ms }
 
 pub after_nothing : (t : StampedTexts) → texts_of t.texts ≡ no_contents → AreAfter t []
 after_nothing t e =
     let tests : t.texts.tests.items ≡ [] = none_of content_of t.texts.tests.items (ap (λ (x : BenchTexts). x.tests) e) in
-    let models : t.texts.models.items ≡ [] = none_of plain.model_of t.texts.models.items (ap (λ (x : BenchTexts). x.models) e) in
+    let models : t.texts.models.items ≡ [] = none_of plain.plain_model t.texts.models.items (ap (λ (x : BenchTexts). x.models) e) in
     record {
       held = ap (λ (ts : List Test). held ts t.texts.models.items) tests ∙ ap (held []) models;
       contents = e;
@@ -205,9 +205,9 @@ after_nothing t e =
 pub is_announced : (t : StampedTexts) (p : PreparedEdit) (number : ℕ) (e : BoardEdit)
     (texts : HeldTexts) (prepared : Prepared)
     → texts ≡ t.texts → prepared ≡ p.texts → e.number ≡ number → e.prepared.value ≡ prepared
-    → MayFollowBelow (held_of texts) number (ops.Edit e) → Announced t p number (ops.Edit e)
+    → MayFollowBelow (tests_and_models texts) number (ops.Edit e) → IsAnnounced t p number (ops.Edit e)
 is_announced t p number e texts prepared here same numbered made follows = (
   numbered,
   made ∙ same,
-  subst (λ (x : HeldTexts). MayFollowBelow (held_of x) number (ops.Edit e)) here follows,
+  subst (λ (x : HeldTexts). MayFollowBelow (tests_and_models x) number (ops.Edit e)) here follows,
 )

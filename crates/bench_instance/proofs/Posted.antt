@@ -10,23 +10,23 @@ use Rattle.verdict.specs.declared.answer.Outcome.{Outcome}
 use Rattle.bench_nodes.proofs.Lists.{get_left, get_right}
 use Rattle.bench_texts.specs.declared.model.NamedModel.{NamedModel}
 use Rattle.bench_texts.specs.BenchTexts.{PlainModel, test_index, model_index}
-use Rattle.bench_texts.specs.Held.{texts_of, model_of}
+use Rattle.bench_texts.specs.Held.{texts_of, plain_model}
 use Rattle.outcome_texts.specs.Cells.{Cell, Settled}
 use Rattle.desk.specs.Boards.{BoardCell, AreSettled}
 use Rattle.board.specs.declared.operation.BoardOp.{BoardOp}
-use Rattle.board.specs.Contents.{RowContent, ColumnContent, BoardContent, row_index, column_index, cell_at, cells_of, shown_cell, shown}
+use Rattle.board.specs.Contents.{RowContent, ColumnContent, BoardContent, row_index, column_index, cell_at, cells_of, shown_cell, cell_named}
 use Rattle.board.specs.Operations.{no_board, board_after}
-use Rattle.board.specs.Legal.{Held, nothing_held, IsLegal, texts_after}
+use Rattle.board.specs.Legal.{TestsAndModels, no_tests_or_models, IsLegal, texts_after}
 use Rattle.board.proofs.Names.{IsNamed, as_many, names_from}
 use Rattle.bench_instance.specs.declared.stamped_texts.StampedTexts.{StampedTexts}
-use Rattle.bench_instance.specs.StampedTexts.{IsSound}
+use Rattle.bench_instance.specs.StampedTexts.{AreSoundTexts}
 use Rattle.bench_instance.specs.StampedCells.{from_scratch, scratch_by, test_of, model_of as model_in}
 use Rattle.bench_instance.specs.Lemmas.CellProofs.{stands_there, tests_apart, models_apart}
 use Rattle.bench_instance.specs.Cells.{cell_with, row_cells, all_cells, IsCountable, board_cells}
 use Rattle.bench_instance.specs.Lemmas.Listing.{are_all, all_get, outcome_at, row_cell, cell_of_row}
 use Rattle.board.specs.Histories.{IsHistory}
 use Rattle.bench_instance.specs.Texts.{AreAfter}
-use Rattle.board.specs.Results.{test_named, model_named, IsResultIn, IsRightCell}
+use Rattle.board.specs.Results.{test_by_name, model_by_name, IsResultIn, IsRightCell}
 use Rattle.bench_instance.specs.Posted.{ShowsEachResult, SettledIsShown, PostedIsShown}
 use Rattle.board.proofs.ShownNames.{found, found_alike, there_alike, same_name, below}
 use Rattle.board.proofs.Rights.{one_result, right_cell}
@@ -51,7 +51,7 @@ shown_there b i j r row is =
           ∙ ap shown_cell s.1,
     )
 
-settled_right : (h : Held) (test model : List ℕ) (x : Cell) (o : Outcome) → x ≡ Settled o
+settled_right : (h : TestsAndModels) (test model : List ℕ) (x : Cell) (o : Outcome) → x ≡ Settled o
     → IsRightCell h test model x → IsResultIn h test model o
 settled_right h test model x o e right = subst (λ (c : Cell). IsRightCell h test model c) e right
 
@@ -67,11 +67,11 @@ module _ (ops : List BoardOp) (legal : IsLegal ops) where
   abbrev b : BoardContent
   b = board_after ops
 
-  abbrev h : Held
+  abbrev h : TestsAndModels
   h = texts_after ops
 
   named : IsNamed b.rows b.columns h
-  named = names_from ops no_board nothing_held 0 legal (record { tests = refl; models = refl })
+  named = names_from ops no_board no_tests_or_models 0 legal (record { tests = refl; models = refl })
 
   listed : IsCountable b → (i j : ℕ) (r : RowContent) (c : ColumnContent)
       → slice_get b.rows i ≡ Some r → slice_get b.columns j ≡ Some c
@@ -96,7 +96,7 @@ module _ (ops : List BoardOp) (legal : IsLegal ops) where
       let s = shown_there b i j r.0 r.1 is in (
         s.0,
         s.1,
-        settled_right h test model (shown b test model) s.0 s.1
+        settled_right h test model (cell_named b test model) s.0 s.1
             (right_cell ops legal test model),
       )
 
@@ -108,9 +108,9 @@ product_few n m few_n few_m = let p = mul-le-mul_left n few_m in omega (arith, p
 history_is_countable : (ops : List BoardOp) → IsHistory ops → IsCountable (board_after ops)
 history_is_countable ops history =
     let board : BoardContent = board_after ops in
-    let texts : Held = texts_after ops in
+    let texts : TestsAndModels = texts_after ops in
     let within = history_is_within ops history in
-    let is_named : IsNamed board.rows board.columns texts = names_from ops no_board nothing_held 0 history.0 (record { tests = refl; models = refl }) in
+    let is_named : IsNamed board.rows board.columns texts = names_from ops no_board no_tests_or_models 0 history.0 (record { tests = refl; models = refl }) in
     let rows = as_many (λ r. r.name) (λ t. t.name) board.rows texts.tests is_named.tests in
     let columns = as_many (λ c. c.name) (λ m. m.name) board.columns texts.models is_named.models in
     product_few (length board.rows) (length board.columns)
@@ -206,23 +206,23 @@ test_names : (ts : List Test) → map (λ t. t.name) ts ≡ map (λ c. c.name) (
 test_names [] = refl
 test_names (t ∷ ts) = ap (λ (l : List (List ℕ)). t.name ∷ l) (test_names ts)
 
-model_names : (ms : List NamedModel) → map (λ m. m.name) ms ≡ map (λ m. m.name) (map model_of ms)
+model_names : (ms : List NamedModel) → map (λ m. m.name) ms ≡ map (λ m. m.name) (map plain_model ms)
 model_names [] = refl
 model_names (m ∷ ms) = ap (λ (l : List (List ℕ)). m.name ∷ l) (model_names ms)
 
-result_by : (h : Held) (test model : List ℕ) (o : Outcome) (c : Option Test) (m : Option NamedModel)
-    → test_named h test ≡ c → model_named h model ≡ m → scratch_by c m o → IsResultIn h test model o
+result_by : (h : TestsAndModels) (test model : List ℕ) (o : Outcome) (c : Option Test) (m : Option NamedModel)
+    → test_by_name h test ≡ c → model_by_name h model ≡ m → scratch_by c m o → IsResultIn h test model o
 result_by h test model o None m e f right = absurd right
 result_by h test model o (Some c) None e f right = absurd right
 result_by h test model o (Some c) (Some m) e f right =
     record { content = c; under = m; test_is = e; model_is = f; right = right }
 
-module _ (t : StampedTexts) (ops : List BoardOp) (sound : IsSound t) (after : AreAfter t ops)
+module _ (t : StampedTexts) (ops : List BoardOp) (sound : AreSoundTexts t) (after : AreAfter t ops)
     (legal : IsLegal ops) where
   abbrev board : BoardContent
   board = board_after ops
 
-  abbrev held : Held
+  abbrev held : TestsAndModels
   held = texts_after ops
 
   abbrev tests : List Test
@@ -232,10 +232,10 @@ module _ (t : StampedTexts) (ops : List BoardOp) (sound : IsSound t) (after : Ar
   models = t.texts.models.items
 
   tests_are : held.tests ≡ tests
-  tests_are = ap (λ (g : Held). g.tests) (sym after.held)
+  tests_are = ap (λ (g : TestsAndModels). g.tests) (sym after.held)
 
   models_are : held.models ≡ models
-  models_are = ap (λ (g : Held). g.models) (sym after.held)
+  models_are = ap (λ (g : TestsAndModels). g.models) (sym after.held)
 
   -- the index of a name is one, on the board and in the texts
   test_place : (test : List ℕ)
@@ -249,7 +249,7 @@ module _ (t : StampedTexts) (ops : List BoardOp) (sound : IsSound t) (after : Ar
       → found (λ x. x.name) model held.models ≡ model_index model (texts_of t.texts).models
   model_place model =
       ap (found (λ x. x.name) model) models_are
-      ∙ found_alike (λ x. x.name) (λ m. m.name) model models (map model_of models)
+      ∙ found_alike (λ x. x.name) (λ m. m.name) model models (map plain_model models)
       (model_names models)
 
   result_of : (test model : List ℕ) (o : Outcome) → from_scratch t test model o
@@ -280,7 +280,7 @@ module _ (t : StampedTexts) (ops : List BoardOp) (sound : IsSound t) (after : Ar
   column_place model j c there is =
       let x = same_name (λ c. c.name) (λ x. x.name) board.columns held.models j c (after.names).models there in
       let at : model_index model (texts_of t.texts).models ≡ j =
-      stands_there (λ (k : PlainModel). k.name) model_of model models j x.0 (models_apart t sound)
+      stands_there (λ (k : PlainModel). k.name) plain_model model models j x.0 (models_apart t sound)
       (ap (λ (l : List NamedModel). slice_get l j) (sym models_are) ∙ x.1) (x.2 ∙ is) in
       found_alike (λ c. c.name) (λ x. x.name) model board.columns held.models (after.names).models
       ∙ (model_place model ∙ at)
@@ -292,12 +292,12 @@ module _ (t : StampedTexts) (ops : List BoardOp) (sound : IsSound t) (after : Ar
       let i : row_index test board.rows ≡ l.i = row_place test l.i l.row l.row_there (l.test_is ∙ on.test_is) in
       let j : column_index model board.columns ≡ l.j = column_place model l.j l.column l.column_there (l.model_is ∙ on.model_is) in
       let s = shown_there board l.i l.j l.row l.row_there (subst (λ (x : Option Outcome). IsSome x) (sym l.outcome_is) on.settled) in
-      let seen : shown board test model ≡ Settled s.0 =
+      let seen : cell_named board test model ≡ Settled s.0 =
       ap (λ (n : ℕ). shown_cell (cell_at board.rows n (column_index model board.columns))) i
       ∙ (ap (λ (n : ℕ). shown_cell (cell_at board.rows l.i n)) j ∙ s.1) in
       let same : s.0 ≡ o =
       one_result held test model s.0 o
-      (settled_right held test model (shown board test model) s.0 seen
+      (settled_right held test model (cell_named board test model) s.0 seen
       (right_cell ops legal test model))
       (result_of test model o right) in
       seen ∙ ap (λ (p : Outcome). Settled p) same

@@ -21,13 +21,13 @@ use Rattle.bench_parts.proofs.SameWritten as written
 use Rattle.bench_parts.specs.Written.{IsSameWritten}
 use Rattle.bench_parts.specs.ItemLaws.{IsOfItsKind}
 use Rattle.bench_edits.specs.Edited.{AreTestsSame, AreModelsSame}
-use Rattle.bench_edits.specs.Owed.{AreNumbered, ArePartsOf}
+use Rattle.bench_edits.specs.Owed.{AreRowsNumbered, ArePartsOf}
 use Rattle.bench_edits.specs.Readings.{readings_of, all_facts, written_models}
 use Rattle.bench_edits.specs.Left.{AreKindsOf}
 use Rattle.bench_text_laws.specs.Orderly.{IsOrderly}
 use Rattle.bench_instance.specs.declared.stamped_texts.StampedTexts.{StampedTexts}
-use Rattle.bench_instance.specs.StampedTexts.{state_of, written_of, net_of, IsSound, IsSince}
-use Rattle.bench_instance.specs.Edited.{IsSame}
+use Rattle.bench_instance.specs.StampedTexts.{stamped_state, written_of, stamped_net, AreSoundTexts, AreTextsSince}
+use Rattle.bench_instance.specs.Edited.{AreSameTexts}
 
 -- ---- the numbers are not spent
 
@@ -50,7 +50,7 @@ applies_unspent t new spent e h =
 -- ---- states that are the same
 
 pub same_state : (p q : Parts) (ts us : List Test) → us ≡ ts → AreTestsSame p q → AreModelsSame p q
-    → q.last ≡ p.last → IsSameState (contents.state_of p ts) (contents.state_of q us)
+    → q.last ≡ p.last → IsSameState (contents.parts_state p ts) (contents.parts_state q us)
 same_state p q ts us e t m l = record {
   tests = e;
   test_rows = t.rows;
@@ -65,21 +65,21 @@ same_state p q ts us e t m l = record {
 }
 
 module _ (p q : Parts) (ts us : List Test) (ms : List NamedModel)
-    (same : IsSameState (contents.state_of p ts) (contents.state_of q us)) where
-  numbered_is : AreNumbered p.last p.table.tests.items p.table.models.items
-      → AreNumbered q.last q.table.tests.items q.table.models.items
+    (same : IsSameState (contents.parts_state p ts) (contents.parts_state q us)) where
+  numbered_is : AreRowsNumbered p.last p.table.tests.items p.table.models.items
+      → AreRowsNumbered q.last q.table.tests.items q.table.models.items
   numbered_is h =
-      subst (λ (l : ℕ). AreNumbered l q.table.tests.items q.table.models.items) (sym same.last)
-      (subst (λ (rs : List TestRow). AreNumbered p.last rs q.table.models.items)
+      subst (λ (l : ℕ). AreRowsNumbered l q.table.tests.items q.table.models.items) (sym same.last)
+      (subst (λ (rs : List TestRow). AreRowsNumbered p.last rs q.table.models.items)
       (sym same.test_rows)
-      (subst (λ (rs : List ModelRow). AreNumbered p.last p.table.tests.items rs)
+      (subst (λ (rs : List ModelRow). AreRowsNumbered p.last p.table.tests.items rs)
       (sym same.model_rows) h))
 
   pub parts_are_same : ArePartsOf p ts ms → ArePartsOf q us ms
   parts_are_same h = record {
     built =
-        subst (λ (rows : List ModelRow). IsBuilt (contents.state_of q us) (readings_of rows ms))
-        (sym same.model_rows) (states.built_is (contents.state_of p ts) (contents.state_of q us)
+        subst (λ (rows : List ModelRow). IsBuilt (contents.parts_state q us) (readings_of rows ms))
+        (sym same.model_rows) (states.built_is (contents.parts_state p ts) (contents.parts_state q us)
         same (readings_of p.table.models.items ms) h.built);
     each_model = ap length same.model_rows ∙ h.each_model;
     each_item = ap (map (λ i. i.number)) same.item_rows ∙ h.each_item;
@@ -99,8 +99,8 @@ module _ (p q : Parts) (ts us : List Test) (ms : List NamedModel)
       (subst (λ (is : List ItemRow). Each (IsOfItsKind is p.kinds.items) (all_facts ms))
       (sym same.item_rows) h)
 
-module _ (t u : StampedTexts) (same : IsSame t u) where
-  pub sound_is : IsSound t → IsSound u
+module _ (t u : StampedTexts) (same : AreSameTexts t u) where
+  pub sound_is : AreSoundTexts t → AreSoundTexts u
   sound_is s = record {
     read = same.read s.read;
     parts_are =
@@ -114,8 +114,8 @@ module _ (t u : StampedTexts) (same : IsSame t u) where
         same.state s.kinds);
   }
 
-  pub net_is : net_of u ≡ net_of t
-  net_is = states.net_is (state_of t) (state_of u) same.state
+  pub net_is : stamped_net u ≡ stamped_net t
+  net_is = states.net_is (stamped_state t) (stamped_state u) same.state
 
   models_are : (written_of u).models ≡ (written_of t).models
   models_are =
@@ -130,7 +130,7 @@ module _ (t u : StampedTexts) (same : IsSame t u) where
         next = ap (λ (b : BenchTexts). b.next) same.texts;
       }
 
-  pub since_is : (r : StampedTexts) → IsSince r t → IsSince r u
+  pub since_is : (r : StampedTexts) → AreTextsSince r t → AreTextsSince r u
   since_is r since = record {
     sound = sound_is since.sound;
     since = written.since_is (written_of t) (written_of u) same_written (written_of r) since.since;

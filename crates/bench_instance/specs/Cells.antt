@@ -39,13 +39,13 @@ abbrev pub HasCell : BoardContent → CellIndex → Type 0
 HasCell b at = (x : Option Outcome) × (cell_at b.rows at.test at.model ≡ Some x)
 
 -- they are those of the cell that the desk counts so
-abbrev pub IsIndexOf : BoardContent → ℕ → CellIndex → Type 0
-IsIndexOf b index at =
+abbrev pub IsCellIndexOf : BoardContent → ℕ → CellIndex → Type 0
+IsCellIndexOf b index at =
     (index ≡ at.test * length b.columns + at.model) × (at.model < length b.columns)
 
 -- they are those of the cell that the desk counts so, and it is there
 pub record IsCellAt (b : BoardContent) (index : ℕ) (at : CellIndex) : Type 0 where
-  pub is_index : IsIndexOf b index at
+  pub is_index : IsCellIndexOf b index at
   pub there : HasCell b at
   pub countable : IsCountable b
 

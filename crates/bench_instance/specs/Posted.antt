@@ -4,7 +4,7 @@ use Rattle.verdict.specs.declared.answer.Outcome.{Outcome}
 use Rattle.outcome_texts.specs.Cells.{Settled}
 use Rattle.desk.specs.Boards.{AreSettled, IsSettledOn}
 use Rattle.board.specs.declared.operation.BoardOp.{BoardOp}
-use Rattle.board.specs.Contents.{shown}
+use Rattle.board.specs.Contents.{cell_named}
 use Rattle.board.specs.Operations.{board_after}
 use Rattle.board.specs.Legal.{texts_after}
 use Rattle.bench_instance.specs.declared.stamped_texts.StampedTexts.{StampedTexts}
@@ -16,7 +16,7 @@ use Rattle.board.specs.Results.{HasBoth, IsResultIn}
 abbrev pub ShowsEachResult : List BoardOp → Type 0
 ShowsEachResult ops =
     (test model : List ℕ) → HasBoth (texts_after ops) test model
-    → (o : Outcome) × (shown (board_after ops) test model ≡ Settled o)
+    → (o : Outcome) × (cell_named (board_after ops) test model ≡ Settled o)
     × IsResultIn (texts_after ops) test model o
 
 -- where every cell that the desk lists is settled, each result is shown: a desk lists the cells
@@ -30,4 +30,4 @@ abbrev pub PostedIsShown : StampedTexts → List BoardOp → Type 0
 PostedIsShown t ops =
     (test model : List ℕ) (o : Outcome) → from_scratch t test model o
     → IsSettledOn (board_cells (board_after ops)) test model
-    → shown (board_after ops) test model ≡ Settled o
+    → cell_named (board_after ops) test model ≡ Settled o

@@ -29,9 +29,9 @@ abbrev pub from_scratch : StampedTexts → List ℕ → List ℕ → Outcome →
 from_scratch t test model o = scratch_by (test_of t test) (model_of t model) o
 
 -- what the verdict of the test under the model of these names depends on
-abbrev pub slice_of : StampedTexts → List ℕ → List ℕ → Option Slice
-slice_of t test model = cell_slice (test_of t test) (model_of t model)
+abbrev pub slice_by_names : StampedTexts → List ℕ → List ℕ → Option Slice
+slice_by_names t test model = cell_slice (test_of t test) (model_of t model)
 
 -- an edit reaches the cell whose slice it changes
-abbrev pub Reaches : StampedTexts → Edit → StampedTexts → List ℕ → List ℕ → Type 0
-Reaches t e u test model = slice_of u test model ≡ slice_of t test model → ⊥
+abbrev pub ReachesCellNamed : StampedTexts → Edit → StampedTexts → List ℕ → List ℕ → Type 0
+ReachesCellNamed t e u test model = slice_by_names u test model ≡ slice_by_names t test model → ⊥

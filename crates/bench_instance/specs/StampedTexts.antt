@@ -1,5 +1,5 @@
 -- Read this first: what the texts of the bench say with their stamps, and what holds of them at all
--- times (`IsSound`).
+-- times (`AreSoundTexts`).
 use Rattle.std.specs.Prelude.{◌≡◌, ℕ, List, Option, Some, None, slice_get}
 use Rattle.memo_core.specs.declared.keys.Kind.TheVariants as kinds
 use Rattle.memo_core.specs.declared.keys.Node.{Node}
@@ -8,20 +8,20 @@ use Rattle.bench_values.specs.Givens.{GivenContent}
 use Rattle.bench_nodes.specs.declared.table.ModelRow.{ModelRow}
 use Rattle.bench_nodes.specs.declared.table.TestRow.{TestRow}
 use Rattle.bench_parts.specs.Contents as contents
-use Rattle.bench_parts.specs.Contents.{State}
+use Rattle.bench_parts.specs.Contents.{PartsState}
 use Rattle.bench_parts.specs.States as states
 use Rattle.bench_parts.specs.Written as written
 use Rattle.bench_parts.specs.Written.{WrittenState}
 use Rattle.bench_texts.specs.BenchTexts.{test_index, model_index}
-use Rattle.bench_texts.specs.Held.{texts_of, AreRead}
+use Rattle.bench_texts.specs.Held.{texts_of, AreModelsRead}
 use Rattle.bench_edits.specs.Readings.{written_state}
 use Rattle.bench_edits.specs.Owed.{ArePartsOf}
 use Rattle.bench_edits.specs.Left.{AreKindsOf}
 use Rattle.bench_text_laws.specs.Orderly.{IsOrderly}
 use Rattle.bench_instance.specs.declared.stamped_texts.StampedTexts.{StampedTexts}
 
-abbrev pub state_of : StampedTexts → State
-state_of t = contents.state_of t.parts t.texts.tests.items
+abbrev pub stamped_state : StampedTexts → PartsState
+stamped_state t = contents.parts_state t.parts t.texts.tests.items
 
 -- the state with its models as they are written
 abbrev pub written_of : StampedTexts → WrittenState
@@ -29,8 +29,8 @@ written_of t = written_state t.parts t.texts.tests.items t.texts.models.items t.
 
 -- the models are as they are read, the parts are those of the tests and models, and all have names
 -- and numbers of their own
-pub record IsSound (t : StampedTexts) : Type 0 where
-  pub read : AreRead t.texts
+pub record AreSoundTexts (t : StampedTexts) : Type 0 where
+  pub read : AreModelsRead t.texts
   pub parts_are : ArePartsOf t.parts t.texts.tests.items t.texts.models.items
   pub orderly : IsOrderly (texts_of t.texts)
   pub kinds : AreKindsOf t.parts t.texts.models.items
@@ -42,16 +42,16 @@ pub record HasTextsOf (t u : StampedTexts) : Type 0 where
   pub models : u.texts.models.items ≡ t.texts.models.items
 
 -- the later texts came of the earlier ones; without an edit between them they say the same
-pub record IsSince (t u : StampedTexts) : Type 0 where
-  pub sound : IsSound u
-  pub since : written.IsSince (written_of t) (written_of u)
+pub record AreTextsSince (t u : StampedTexts) : Type 0 where
+  pub sound : AreSoundTexts u
+  pub since : written.IsStateSince (written_of t) (written_of u)
   pub same : u.parts.last ≡ t.parts.last → HasTextsOf t u
 
-abbrev pub net_of : StampedTexts → Net GivenContent
-net_of t = states.net_in (state_of t)
+abbrev pub stamped_net : StampedTexts → Net GivenContent
+stamped_net t = states.net_in (stamped_state t)
 
-abbrev pub IsThere : StampedTexts → Node → Type 0
-IsThere t n = states.IsThere (state_of t) n
+abbrev pub IsNodeThere : StampedTexts → Node → Type 0
+IsNodeThere t n = states.IsUsedNode (stamped_state t) n
 
 -- ---- cells
 

@@ -82,7 +82,7 @@ impl CellTexts for StampedTexts {
     ghost use Rattle.board.specs.Histories.{no_contents};
     ghost use Rattle.bench_values.specs.Values.{outcome_in};
     ghost use Rattle.bench_instance.specs.StampedTexts.{verdict_of};
-    ghost use Rattle.bench_instance.specs.StampedCells.{from_scratch, Reaches};
+    ghost use Rattle.bench_instance.specs.StampedCells.{from_scratch, ReachesCellNamed};
     ghost use Rattle.bench_instance.specs.Lemmas.CellProofs.{edited_alike, refused_alike, verdicts_used, all_needed, cells_solved};
     ghost use Rattle.bench_instance.specs.Lemmas.LeftCells.{cells_left};
 
@@ -92,7 +92,7 @@ impl CellTexts for StampedTexts {
 
     ghost from_scratch = { from_scratch };
 
-    ghost reaches = { Reaches };
+    ghost reaches = { ReachesCellNamed };
 
     ghost is_empty = { λ t. texts_of t.texts ≡ no_contents };
 

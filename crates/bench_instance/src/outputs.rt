@@ -2,7 +2,7 @@
 
 ghost use Rattle.std.specs.Prelude.{◌≡◌, option_map};
 ghost use Rattle.bench_parts.specs.Contents.{histories};
-ghost use Rattle.bench_instance.specs.StampedTexts.{state_of};
+ghost use Rattle.bench_instance.specs.StampedTexts.{stamped_state};
 ghost use Rattle.bench_instance.specs.Outputs.{seen_at, only_name, name_by, output_name};
 
 use crate::stamped_texts::StampedTexts;
@@ -41,7 +41,7 @@ fn name_by(kind: Kind, history: &[SeenName], number: u64) -> Option<&[u8]>
 impl StampedTexts {
     // The names that the item of that number has had, none where there is no such item.
     fn history(&self, item: u64) -> &[SeenName]
-        ensures { result.now ≡ histories (state_of self.now) item }
+        ensures { result.now ≡ histories (stamped_state self.now) item }
     {
         let index = self.parts.item_index(item);
         if index >= self.parts.table.items.len() || index >= self.parts.roles.len() {
@@ -60,7 +60,7 @@ impl StampedTexts {
     /// names, or not 0 for any other node.
     pub fn output_name(&self, node: Node, number: u64) -> Option<&[u8]>
         ensures { option_map (λ b. b.now) result
-            ≡ output_name (histories (state_of self.now)) node number }
+            ≡ output_name (histories (stamped_state self.now)) node number }
     {
         name_by(node.kind, self.history(node.of), number)
     }

@@ -1,7 +1,7 @@
 //! What a desk is made of.
 
 ghost use Rattle.std.specs.Prelude.{◌≡◌, [], IfOk, min};
-ghost use Rattle.bench_instance.specs.StampedTexts.{IsSound};
+ghost use Rattle.bench_instance.specs.StampedTexts.{AreSoundTexts};
 ghost use Rattle.bench_instance.specs.Texts.{AreAfter};
 
 use crate::stamped_texts::StampedTexts;
@@ -80,7 +80,7 @@ fn parts<J: Naming + StoreName, R: Wait + Drop>(
     store: Store<J, NodeValue>,
     held: R,
 ) -> Result<(Bench<J, StampedTexts>, Box<R>), AllocError>
-    ensures valid { IfOk result (λ made. IsSound made.0.texts) }
+    ensures valid { IfOk result (λ made. AreSoundTexts made.0.texts) }
     ensures after { IfOk result (λ made. AreAfter made.0.texts []) }
 {
     let held = Box::new(alloc, held)?;

@@ -2,10 +2,10 @@
 
 ghost use Rattle.std.specs.Prelude.{◌≡◌, ◌==◌, ℕ, ◌≤◌, false, [], IfOk, IfErr, OnOk};
 ghost use Rattle.std.specs.List.{position_or_len};
-ghost use Rattle.bench_texts.specs.Edits.{edit_of, Refuses};
+ghost use Rattle.bench_texts.specs.Edits.{edit_of, RefusesEdit};
 ghost use Rattle.bench_texts.specs.Held.{texts_of};
-ghost use Rattle.bench_instance.specs.StampedTexts.{IsSound, net_of};
-ghost use Rattle.bench_instance.specs.Edited.{most_used, IsSame, IsPrepared, IsReady};
+ghost use Rattle.bench_instance.specs.StampedTexts.{AreSoundTexts, stamped_net};
+ghost use Rattle.bench_instance.specs.Edited.{most_used, AreSameTexts, IsPrepared, HasRoomForEdit};
 
 use bench_edits::{EditedParts, commit_parts, prepare_parts};
 use bench_parts::{Parts, is_same, run};
@@ -70,8 +70,8 @@ impl PreparedEdit {
 impl StampedTexts {
     /// No tests and no models, before the first edit.
     pub fn new(alloc: Global) -> StampedTexts
-        ensures sound { IsSound result }
-        ensures parts { (part of : ℕ) → (net_of result).part part of ≡ 0 }
+        ensures sound { AreSoundTexts result }
+        ensures parts { (part of : ℕ) → (stamped_net result).part part of ≡ 0 }
         ensures last { result.parts.last ≡ 0 }
         ensures texts { texts_of result.texts ≡ record { tests = []; models = []; next = 1 } }
     {
@@ -112,11 +112,11 @@ impl StampedTexts {
         spent: bool,
     ) -> Result<PreparedEdit, EditFault>
         ensures prepares { IfOk result (λ p. IsPrepared self.old edit.now p self.new) }
-        ensures ready { IfOk result (λ p. IsReady self.new p) }
+        ensures ready { IfOk result (λ p. HasRoomForEdit self.new p) }
         ensures unspent { OnOk result (spent ≡ false) }
         ensures refuses { IfErr result (λ fault.
-            Refuses (texts_of self.old.texts) spent (edit_of edit.now) fault) }
-        ensures same { IsSame self.old self.new }
+            RefusesEdit (texts_of self.old.texts) spent (edit_of edit.now) fault) }
+        ensures same { AreSameTexts self.old self.new }
     {
         let texts = self.texts.prepare(alloc, edit, spent)?;
         match prepare_parts(
@@ -160,21 +160,21 @@ impl Texts for StampedTexts {
 
     ghost use Rattle.std.specs.Prelude.{◌≡◌};
     ghost use Rattle.bench_nodes.specs.Nodes.{users, rank};
-    ghost use Rattle.bench_texts.specs.Edits.{edit_of, Refuses};
+    ghost use Rattle.bench_texts.specs.Edits.{edit_of, RefusesEdit};
     ghost use Rattle.bench_texts.specs.Held.{texts_of};
     ghost use Rattle.bench_parts.specs.Equal.{same_value};
     ghost use Rattle.bench_parts.specs.States.{makes, keeps};
     ghost use Rattle.bench_parts.proofs.Equality.{value_exact};
-    ghost use Rattle.bench_instance.specs.StampedTexts.{IsSound, IsSince, IsThere, net_of};
-    ghost use Rattle.bench_instance.specs.Edited.{IsEdited, IsPrepared, IsReady, IsCommitted};
+    ghost use Rattle.bench_instance.specs.StampedTexts.{AreSoundTexts, AreTextsSince, IsNodeThere, stamped_net};
+    ghost use Rattle.bench_instance.specs.Edited.{IsEdited, IsPrepared, HasRoomForEdit, IsCommitted};
     ghost use Rattle.bench_instance.specs.Lemmas.Commits.{commits_edit};
     ghost use Rattle.bench_instance.specs.Lemmas.StampedLaws.{texts_are_sound, since_itself, since_edited, given_stays, valid_edited, used_there, used_closed, users_listed, ranks_fall, goes_on};
 
-    ghost is_valid = { IsSound };
+    ghost is_valid = { AreSoundTexts };
 
-    ghost net = { net_of };
+    ghost net = { stamped_net };
 
-    ghost since = { IsSince };
+    ghost since = { AreTextsSince };
 
     ghost last = { λ t. t.parts.last };
 
@@ -182,7 +182,7 @@ impl Texts for StampedTexts {
 
     ghost same = { same_value };
 
-    ghost is_there = { IsThere };
+    ghost is_there = { IsNodeThere };
 
     ghost users = { λ t n. users t.parts.table n };
 
@@ -192,11 +192,11 @@ impl Texts for StampedTexts {
 
     ghost edited = { IsEdited };
 
-    ghost refuses = { λ t e spent fault. Refuses (texts_of t.texts) spent (edit_of e) fault };
+    ghost refuses = { λ t e spent fault. RefusesEdit (texts_of t.texts) spent (edit_of e) fault };
 
     ghost prepares = { IsPrepared };
 
-    ghost is_ready = { IsReady };
+    ghost is_ready = { HasRoomForEdit };
 
     ghost commits = { IsCommitted };
 

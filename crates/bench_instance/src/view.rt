@@ -3,7 +3,7 @@
 ghost use Rattle.std.specs.Prelude.{◌≡◌, ◌≤◌, IfOk, IfErr};
 ghost use mathlib.Core.List.{IsPrefix};
 ghost use Rattle.outcome_texts.specs.Cells.{cell_of};
-ghost use Rattle.board.specs.Contents.{shown};
+ghost use Rattle.board.specs.Contents.{cell_named};
 ghost use Rattle.board.specs.Operations.{board_after};
 ghost use Rattle.board.specs.Legal.{IsLegal, texts_after, last_number};
 ghost use Rattle.board.specs.Results.{IsRightCell, ShowsRightCells};
@@ -48,7 +48,7 @@ pub fn result_in<'v, J: Naming>(
     model: &[u8],
 ) -> Shown<'v>
     requires legal { IsLegal view.now }
-    ensures shown { cell_of result ≡ shown (board_after view.now) test.now model.now }
+    ensures shown { cell_of result ≡ cell_named (board_after view.now) test.now model.now }
     ensures right { IsRightCell (texts_after view.now) test.now model.now (cell_of result) }
 {
     cells_are_right();

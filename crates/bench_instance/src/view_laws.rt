@@ -4,13 +4,13 @@ ghost use Rattle.std.specs.Prelude.{List};
 ghost use Rattle.board.specs.declared.operation.BoardOp.{BoardOp};
 ghost use Rattle.board.specs.Legal.{IsLegal, texts_after};
 ghost use Rattle.bench_instance.specs.declared.stamped_texts.StampedTexts.{StampedTexts};
-ghost use Rattle.bench_instance.specs.StampedTexts.{IsSound};
+ghost use Rattle.bench_instance.specs.StampedTexts.{AreSoundTexts};
 ghost use Rattle.board.specs.Operations.{board_after};
 ghost use Rattle.desk.specs.Boards.{AreSettled};
 ghost use Rattle.bench_instance.specs.Cells.{board_cells};
 ghost use Rattle.board.specs.Histories.{HasContents, IsHistory};
 ghost use Rattle.bench_instance.specs.Texts.{AreAfter};
-ghost use Rattle.bench_instance.specs.Contents.{IsApplied, IsWithinLimits, SayTheSame};
+ghost use Rattle.bench_instance.specs.Contents.{IsApplied, AreWithinLimits, SayTheSameTexts};
 ghost use Rattle.bench_instance.specs.Posted.{SettledIsShown, ShowsEachResult, PostedIsShown};
 
 /// The texts after some operations are what the edits among them make, one after another.
@@ -23,13 +23,13 @@ pub fn edits_are_applied()
 /// items: so an edit that is refused leaves them what they were.
 pub fn texts_are_one()
     ensures { (t u : StampedTexts) (ops : List BoardOp) → AreAfter t ops → AreAfter u ops
-        → SayTheSame t u }
+        → SayTheSameTexts t u }
 {}
 
 /// The texts after each history of a running bench have no more tests and models than a bench
 /// takes.
 pub fn histories_are_within_limits()
-    ensures { (ops : List BoardOp) → IsHistory ops → IsWithinLimits (texts_after ops) }
+    ensures { (ops : List BoardOp) → IsHistory ops → AreWithinLimits (texts_after ops) }
 {}
 
 /// Where every cell that a desk lists is settled, each test is shown with its result under each
@@ -44,6 +44,7 @@ pub fn settled_lists_are_shown()
 /// A cell that is settled on the bench, and listed by the desk as settled, is shown with the
 /// outcome of the bench.
 pub fn posted_cells_are_shown()
-    ensures { (t : StampedTexts) (ops : List BoardOp) → IsSound t → AreAfter t ops → IsLegal ops
+    ensures { (t : StampedTexts) (ops : List BoardOp) → AreSoundTexts t → AreAfter t ops
+        → IsLegal ops
         → PostedIsShown t ops }
 {}

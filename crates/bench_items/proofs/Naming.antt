@@ -7,10 +7,10 @@ use Rattle.std.proofs.lemmas.Bool.{cases_Bool, and_parts, and_from, false≢true
 use Rattle.std.proofs.lemmas.List.{append-nil}
 use Rattle.std.proofs.lemmas.Slice.Eq.{bytes_eq-Decides}
 use Rattle.bench_items.specs.Items.{RoleContent}
-use Rattle.bench_items.specs.Laws.{KeepsNumbers, TellsNames, HoldsNames}
+use Rattle.bench_items.specs.Laws.{KeepsNumbers, TellsNamesApart, HoldsNames}
 use Rattle.binding_kinds.specs.declared.kinds.Kind.{Kind}
 use Rattle.binding_kinds.specs.declared.kinds.Kind.TheVariants.{OfSet, OfRelation, OfAny}
-use Rattle.bench_items.specs.Naming.{SeenName, is_same_kind, is_same_name, names_in, number_of, IsNamed, IsNumberedAlike, AreNamed, with_name, with_names, with_role_names}
+use Rattle.bench_items.specs.Naming.{SeenName, is_same_kind, is_same_name, seen_names_in, number_of, IsInHistory, IsNumberedAlike, AreInHistory, with_new_name, with_names, with_role_names}
 
 -- ---- names that are the same
 
@@ -52,7 +52,7 @@ number_within (n ∷ h) a = elim (cases_Bool (is_same_name n a)) [
 ]
 
 -- a name keeps its number where names are added behind
-pub number_stays : (h rest : List SeenName) (a : SeenName) → IsNamed h a
+pub number_stays : (h rest : List SeenName) (a : SeenName) → IsInHistory h a
     → number_of (h ++ rest) a ≡ number_of h a
 number_stays [] rest a lt = absurd (omega (arith, lt))
 number_stays (n ∷ h) rest a lt = elim (cases_Bool (is_same_name n a)) [
@@ -62,13 +62,13 @@ number_stays (n ∷ h) rest a lt = elim (cases_Bool (is_same_name n a)) [
       rw f (ap (λ (k : ℕ). 1 + k) (number_stays h rest a (omega (arith, here)))))
 ]
 
-pub still_named : (h rest : List SeenName) (a : SeenName) → IsNamed h a → IsNamed (h ++ rest) a
+pub still_named : (h rest : List SeenName) (a : SeenName) → IsInHistory h a → IsInHistory (h ++ rest) a
 still_named h rest a lt =
     let same = number_stays h rest a lt in
     let long = length-append h rest in
     omega (arith, lt, same, long)
 
-last_named : (h : List SeenName) (a : SeenName) → IsNamed (h ++ a ∷ []) a
+last_named : (h : List SeenName) (a : SeenName) → IsInHistory (h ++ a ∷ []) a
 last_named [] a = rw (itself a) (omega arith)
 last_named (n ∷ h) a = elim (cases_Bool (is_same_name n a)) [
   | inl e ↦ rw e (omega arith)
@@ -76,7 +76,7 @@ last_named (n ∷ h) a = elim (cases_Bool (is_same_name n a)) [
 ]
 
 -- two names of one number are one name
-pub number_tells : (h : List SeenName) → TellsNames h
+pub number_tells : (h : List SeenName) → TellsNamesApart h
 number_tells [] a b lt same = absurd (omega (arith, lt))
 number_tells (n ∷ h) a b lt same = elim (cases_Bool (is_same_name n a)) [
   | inl e ↦ elim (cases_Bool (is_same_name n b)) [
@@ -94,7 +94,7 @@ number_tells (n ∷ h) a b lt same = elim (cases_Bool (is_same_name n a)) [
 
 -- ---- how a history grows
 
-with_name_named : (h : List SeenName) (a : SeenName) → IsNamed (with_name h a) a
+with_name_named : (h : List SeenName) (a : SeenName) → IsInHistory (with_new_name h a) a
 with_name_named h a = elim (cases_Bool (number_of h a == length h)) [
   | inl e ↦ rw e (last_named h a)
   | inr f ↦ (
@@ -104,7 +104,7 @@ with_name_named h a = elim (cases_Bool (number_of h a == length h)) [
 ]
 
 with_name_begins : (h : List SeenName) (a : SeenName)
-    → (rest : List SeenName) × (with_name h a ≡ h ++ rest)
+    → (rest : List SeenName) × (with_new_name h a ≡ h ++ rest)
 with_name_begins h a = elim (cases_Bool (number_of h a == length h)) [
   | inl e ↦ (a ∷ [], rw e refl)
   | inr f ↦ ([], rw f (sym (append-nil h)))
@@ -116,46 +116,46 @@ with_names_begin : (h names : List SeenName)
 with_names_begin h [] = ([], sym (append-nil h))
 with_names_begin h (n ∷ ns) =
     let first = with_name_begins h n in
-    let later = with_names_begin (with_name h n) ns in (
+    let later = with_names_begin (with_new_name h n) ns in (
       first.0 ++ later.0,
       later.1 ∙ ap (λ (l : List SeenName). l ++ later.0) first.1
           ∙ append_assoc h first.0 later.0,
     )
 
 -- it is what it was where it has the names
-pub names_stay : (h names : List SeenName) → Each (IsNamed h) names → with_names h names ≡ h
+pub names_stay : (h names : List SeenName) → Each (IsInHistory h) names → with_names h names ≡ h
 names_stay h [] named = refl
 names_stay h (n ∷ ns) named =
     let unlike : number_of h n ≡ length h → ⊥ = λ same. (let lt = named.0 in omega (arith, lt, same)) in
-    let same : with_name h n ≡ h = rw (ne_eqb (number_of h n) (length h) unlike) refl in
+    let same : with_new_name h n ≡ h = rw (ne_eqb (number_of h n) (length h) unlike) refl in
     ap (λ (l : List SeenName). with_names l ns) same ∙ names_stay h ns named.1
 
-names_named : (h names : List SeenName) → Each (IsNamed (with_names h names)) names
+names_named : (h names : List SeenName) → Each (IsInHistory (with_names h names)) names
 names_named h [] = tt
 names_named h (n ∷ ns) =
-    let first = with_name h n in
+    let first = with_new_name h n in
     let later = with_names_begin first ns in (
-      subst (λ (l : List SeenName). IsNamed l n) (sym later.1)
+      subst (λ (l : List SeenName). IsInHistory l n) (sym later.1)
           (still_named first later.0 n (with_name_named h n)),
       names_named first ns,
     )
 
 pub grown_begins : (h : List SeenName) (role : RoleContent)
     → (rest : List SeenName) × (with_role_names h role ≡ h ++ rest)
-grown_begins h role = with_names_begin h (names_in role)
+grown_begins h role = with_names_begin h (seen_names_in role)
 
-pub grown_stays : (h : List SeenName) (role : RoleContent) → AreNamed h role
+pub grown_stays : (h : List SeenName) (role : RoleContent) → AreInHistory h role
     → with_role_names h role ≡ h
-grown_stays h role named = names_stay h (names_in role) named
+grown_stays h role named = names_stay h (seen_names_in role) named
 
-pub grown_named : (h : List SeenName) (role : RoleContent) → AreNamed (with_role_names h role) role
-grown_named h role = names_named h (names_in role)
+pub grown_named : (h : List SeenName) (role : RoleContent) → AreInHistory (with_role_names h role) role
+grown_named h role = names_named h (seen_names_in role)
 
 -- the history of what an item does holds its names
 pub all_named : (h old : List SeenName) (role : RoleContent) → h ≡ with_role_names old role
-    → AreNamed h role
+    → AreInHistory h role
 all_named h old role e =
-    subst (λ (l : List SeenName). AreNamed l role) (sym e) (grown_named old role)
+    subst (λ (l : List SeenName). AreInHistory l role) (sym e) (grown_named old role)
 
 -- and grows no more by what the item does
 pub holds_itself : (h old : List SeenName) (role : RoleContent) → h ≡ with_role_names old role

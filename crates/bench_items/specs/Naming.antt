@@ -26,17 +26,17 @@ pub record SeenName : Type 0 where
 abbrev pub seen_name : BodyContent → SeenName
 seen_name b = record { name = b.name; kind = b.code.kind }
 
-abbrev pub names_of : List BodyContent → List SeenName
-names_of bodies = map seen_name bodies
+abbrev pub names_of_bodies : List BodyContent → List SeenName
+names_of_bodies bodies = map seen_name bodies
 
 -- the names of a group, in order; a check and a flag have none
-abbrev pub names_in : RoleContent → List SeenName
-names_in (Group recursive bodies) = names_of bodies
-names_in (Check negated word code flag) = []
-names_in Silent = []
+abbrev pub seen_names_in : RoleContent → List SeenName
+seen_names_in (Group recursive bodies) = names_of_bodies bodies
+seen_names_in (Check negated word code flag) = []
+seen_names_in Silent = []
 
 abbrev pub body_names : List Body → List SeenName
-body_names bodies = names_of (map body_content bodies)
+body_names bodies = names_of_bodies (map body_content bodies)
 
 -- ---- numbers
 
@@ -55,15 +55,15 @@ number_of history name = position_or_len (λ n. is_same_name n name) history
 
 -- of the names of a group, in order
 abbrev pub numbers_of : List SeenName → RoleContent → List ℕ
-numbers_of history role = map (number_of history) (names_in role)
+numbers_of history role = map (number_of history) (seen_names_in role)
 
 -- the name is one of the history
-abbrev pub IsNamed : List SeenName → SeenName → Type 0
-IsNamed history name = number_of history name < length history
+abbrev pub IsInHistory : List SeenName → SeenName → Type 0
+IsInHistory history name = number_of history name < length history
 
 -- so is each name of a group
-abbrev pub AreNamed : List SeenName → RoleContent → Type 0
-AreNamed history role = Each (IsNamed history) (names_in role)
+abbrev pub AreInHistory : List SeenName → RoleContent → Type 0
+AreInHistory history role = Each (IsInHistory history) (seen_names_in role)
 
 -- the name has one number in two histories
 abbrev pub IsNumberedAlike : List SeenName → List SeenName → SeenName → Type 0
@@ -72,18 +72,18 @@ IsNumberedAlike these those name = number_of these name ≡ number_of those name
 -- ---- how a history grows
 
 -- a name that is none of a history yet is added as the last
-abbrev pub with_name : List SeenName → SeenName → List SeenName
-with_name history name =
+abbrev pub with_new_name : List SeenName → SeenName → List SeenName
+with_new_name history name =
     if number_of history name == length history then history ++ name ∷ [] else history
 
 abbrev pub with_names : List SeenName → List SeenName → List SeenName
 with_names history [] = history
-with_names history (n ∷ ns) = with_names (with_name history n) ns
+with_names history (n ∷ ns) = with_names (with_new_name history n) ns
 
 -- the history of an item after it does this: that before, and then the names of a group that it has
 -- not had yet
 abbrev pub with_role_names : List SeenName → RoleContent → List SeenName
-with_role_names history role = with_names history (names_in role)
+with_role_names history role = with_names history (seen_names_in role)
 
 -- ---- the numbers by which the outputs of an item go, in the order of its values
 

@@ -4,8 +4,8 @@ ghost use Rattle.std.specs.Prelude.{◌≡◌, ◌↔◌, ◌≤◌, ◌∷◌, 
 ghost use Rattle.std.specs.List.{AllByRecursion as Each};
 ghost use Rattle.std.specs.Arc.{arc_value};
 ghost use Rattle.binding_graph.specs.Contents.{body_content, role_content};
-ghost use Rattle.bench_items.specs.Naming.{seen_name, names_in, body_names, is_same_kind, number_of, numbers_of, IsNamed, IsNumberedAlike};
-ghost use Rattle.bench_items.specs.Naming.{with_name, with_names, with_role_names, item_outputs};
+ghost use Rattle.bench_items.specs.Naming.{seen_name, seen_names_in, body_names, is_same_kind, number_of, numbers_of, IsInHistory, IsNumberedAlike};
+ghost use Rattle.bench_items.specs.Naming.{with_new_name, with_names, with_role_names, item_outputs};
 
 use binding_graph::{Body, Kind, Role};
 use std::alloc::{AllocError, Global};
@@ -98,7 +98,7 @@ fn body_number(history: &[SeenName], body: &Body) -> usize
 
 // The bodies of a group.
 fn bodies_in(role: &Role) -> &[Body]
-    ensures { body_names result.now ≡ names_in (role_content role.now) }
+    ensures { body_names result.now ≡ seen_names_in (role_content role.now) }
 {
     match role {
         Role::Group { bodies, .. } => bodies,
@@ -109,7 +109,7 @@ fn bodies_in(role: &Role) -> &[Body]
 
 // Whether the names of these bodies are in a history.
 fn are_named(history: &[SeenName], bodies: &[Body]) -> bool
-    ensures { IsTrue result ↔ Each (IsNamed history.now) (body_names bodies.now) }
+    ensures { IsTrue result ↔ Each (IsInHistory history.now) (body_names bodies.now) }
 {
     for body in bodies {
         if body_number(history, body) >= history.len() {
@@ -122,7 +122,7 @@ fn are_named(history: &[SeenName], bodies: &[Body]) -> bool
 // Adds the name of a body to a history, where it is none of its names yet.
 fn put_name(alloc: Global, history: &mut Vec<SeenName>, body: &Body) -> Result<(), AllocError>
     ensures { IfOk result (λ _. history.new.items
-        ≡ with_name history.old.items (seen_name (body_content body.now))) }
+        ≡ with_new_name history.old.items (seen_name (body_content body.now))) }
 {
     if body_number(history, body) == history.len() {
         history.push(SeenName::of_body(alloc, body)?)?;

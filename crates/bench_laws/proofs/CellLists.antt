@@ -10,7 +10,7 @@ use Rattle.bench_text_laws.specs.Orderly.{AreApart}
 use Rattle.bench_text_laws.proofs.Orderly.{named as name_is}
 use Rattle.board.specs.declared.operation.CellIndex.{CellIndex}
 use Rattle.board.specs.Contents.{RowContent, ColumnContent, cell_at}
-use Rattle.board.specs.Operations.{put_cell, open_cell, open_row, wider_row, with_name}
+use Rattle.board.specs.Operations.{put_cell, open_cell, open_row, wider_row, renamed_row}
 use Rattle.board.proofs.Lookups.{skip, get_removed, placed}
 use Rattle.board.proofs.ShownNames.{found, past}
 use Rattle.board.proofs.Widths.{AreWide}
@@ -178,7 +178,7 @@ opened_here (c ∷ cs) rows at x (suc k, lt, is) e = elim (cases_Bool (c.test ==
 -- ---- cells where names change
 
 named_same : (name : List ℕ) (at : ℕ) (rows : List RowContent) (i j : ℕ)
-    → cell_at (changed_at at (with_name name) rows) i j ≡ cell_at rows i j
+    → cell_at (changed_at at (renamed_row name) rows) i j ≡ cell_at rows i j
 named_same name at [] i j = refl
 named_same name zero (r ∷ rs) zero j = refl
 named_same name zero (r ∷ rs) (suc i) j = refl
@@ -194,7 +194,7 @@ row_more (q ∷ rs) r (suc i) j lt = row_more rs r i j (omega (arith, lt))
 pub longer_same : (b : Bool) (name : List ℕ) (at : ℕ) (columns : List ColumnContent)
     (rows : List RowContent) (i j : ℕ) → i < length rows
     → cell_at
-    (if b then changed_at at (with_name name) rows else rows ++ open_row name columns ∷ [])
+    (if b then changed_at at (renamed_row name) rows else rows ++ open_row name columns ∷ [])
     i j ≡ cell_at rows i j
 longer_same true name at columns rows i j lt = named_same name at rows i j
 longer_same false name at columns rows i j lt = row_more rows (open_row name columns) i j lt

@@ -11,8 +11,8 @@ use Rattle.memo_core.specs.declared.claims.Finish.TheVariants.{Unknown, Stale, S
 use Rattle.memo_core.specs.Names.{same_node}
 use Rattle.memo_core.specs.Graph.{Net, present_inputs, input_nodes, IsSettled}
 use Rattle.memo_core.specs.Laws.{DecidesSettled}
-use Rattle.memo_core.specs.Step.{OpenClaim, State, Return, claim_of, without_claim, AreNumbered, Accepts, Finishes, Gives, Loses}
-use Rattle.memo_core.specs.Run.{Bench, Event, Edit, Claim, NoClaim, Returned, Lose, Renew, Refused, IsFreshFrom, IsKept, Meaning, Run, Step, count_unsettled, state_in}
+use Rattle.memo_core.specs.Step.{OpenClaim, MemoState, Return, claim_of, without_claim, AreClaimsNumbered, Accepts, FinishesReturn, Gives, Loses}
+use Rattle.memo_core.specs.Run.{Bench, Event, Edit, Claim, NoClaim, Returned, Lose, Renew, Refused, IsFreshFrom, IsLawfulMeaning, Meaning, Run, Step, count_unsettled, state_in}
 use Rattle.memo_core.specs.Work.{IsJobEvent, number_given, numbers_given}
 use Rattle.memo_core.proofs.Counts.{count_no_more, count_less, progress_lowers}
 use Rattle.memo_core.proofs.Exact.{AreApart, HasRanks, decided_by, decides}
@@ -86,7 +86,7 @@ count_last first (d ∷ cs) c =
     more : (a b c d : ℕ) → b ≡ c + d → a + b ≡ (a + c) + d
     more a b c d e = omega (arith, e)
 
-count_none : (first : ℕ) (cs : List OpenClaim) → AreNumbered first cs → out_above first cs ≡ 0
+count_none : (first : ℕ) (cs : List OpenClaim) → AreClaimsNumbered first cs → out_above first cs ≡ 0
 count_none first [] a = refl
 count_none first (c ∷ cs) a = elim (cases_Bool (nat_lt first c.number)) [
   | inl t ↦ (let lt : first < c.number = ltb-true first c.number t in
@@ -96,26 +96,26 @@ count_none first (c ∷ cs) a = elim (cases_Bool (nat_lt first c.number)) [
 ]
 
 -- a claim more, or a node settled or a claim lost for each that is gone
-abbrev Balances : {V G : Type 0} → ℕ → (given lost : ℕ) → State V G → State V G → (Node → Bool)
+abbrev Balances : {V G : Type 0} → ℕ → (given lost : ℕ) → MemoState V G → MemoState V G → (Node → Bool)
     → (Node → Bool) → Type 0
 Balances first given lost old new p q =
     out_above first old.claims + given + count_unsettled q new.net.used
     ≤ out_above first new.claims + lost + count_unsettled p old.net.used
 
 -- where what was settled still is
-no_more : {V G : Type 0} (old new : State V G) (p q : Node → Bool) → new.net ≡ old.net
+no_more : {V G : Type 0} (old new : MemoState V G) (p q : Node → Bool) → new.net ≡ old.net
     → ((n : Node) → IsSettled old.net old.memos n → IsSettled new.net new.memos n)
     → DecidesSettled old p → DecidesSettled new q
     → count_unsettled q new.net.used ≤ count_unsettled p old.net.used
 no_more old new p q net still before after =
     rw net (count_no_more p q (λ n t. (after n).1 (still n ((before n).0 t))) old.net.used)
 
-settled_same : {V G : Type 0} (old new : State V G) → new.net ≡ old.net → new.memos ≡ old.memos
+settled_same : {V G : Type 0} (old new : MemoState V G) → new.net ≡ old.net → new.memos ≡ old.memos
     → (n : Node) → IsSettled old.net old.memos n → IsSettled new.net new.memos n
 settled_same old new net memos n s = rw (net, memos) s
 
 -- nothing is given, and what is out is the same
-same_balances : {V G : Type 0} (first : ℕ) (old new : State V G) (p q : Node → Bool)
+same_balances : {V G : Type 0} (first : ℕ) (old new : MemoState V G) (p q : Node → Bool)
     → new.net ≡ old.net → new.memos ≡ old.memos → new.claims ≡ old.claims → DecidesSettled old p
     → DecidesSettled new q → Balances first 0 0 old new p q
 same_balances first old new p q net memos claims before after =
@@ -123,7 +123,7 @@ same_balances first old new p q net memos claims before after =
     let out : out_above first new.claims ≡ out_above first old.claims = ap (λ (cs : List OpenClaim). out_above first cs) claims in
     omega (arith, low, out)
 
-accept_balances : {V G : Type 0} (first : ℕ) (old new : State V G) (r : Return V G)
+accept_balances : {V G : Type 0} (first : ℕ) (old new : MemoState V G) (r : Return V G)
     (p q : Node → Bool) → IsFreshFrom old.memos old.claims → AreReadyAbove first old
     → Accepts old r new → DecidesSettled old p → DecidesSettled new q
     → Balances first 0 0 old new p q
@@ -131,7 +131,7 @@ accept_balances {V} {G} first old new r p q fresh all a before after =
     let c = a.claim in
     let net : new.net ≡ old.net = net_stays old new r fresh a in
     let closed = count_closed first r.claim old.claims c a.out.found in
-    let out : out_above first new.claims ≡ out_above first (without_claim r.claim old.claims) = ap (λ (s : State V G). out_above first s.claims) a.after in
+    let out : out_above first new.claims ≡ out_above first (without_claim r.claim old.claims) = ap (λ (s : MemoState V G). out_above first s.claims) a.after in
     let low = no_more old new p q net (accept_stays old new r fresh a) before after in
     let most = above_most first c.number in
     elim (cases_Bool (nat_lt first c.number)) [
@@ -145,18 +145,18 @@ accept_balances {V} {G} first old new r p q fresh all a before after =
       | inr f ↦ (let none = above_no first c.number f in omega (arith, closed, out, low, none))
     ]
 
-finish_balances : {V G : Type 0} (first : ℕ) (old new : State V G) (r : Return V G) (f : Finish)
+finish_balances : {V G : Type 0} (first : ℕ) (old new : MemoState V G) (r : Return V G) (f : Finish)
     (p q : Node → Bool) → IsFreshFrom old.memos old.claims → AreReadyAbove first old
-    → Finishes old r f new → DecidesSettled old p → DecidesSettled new q
+    → FinishesReturn old r f new → DecidesSettled old p → DecidesSettled new q
     → Balances first 0 0 old new p q
 finish_balances {V} {G} first old new r Unknown p q fresh all h before after =
-    same_balances first old new p q (ap (λ (s : State V G). s.net) h.1)
-    (ap (λ (s : State V G). s.memos) h.1) (ap (λ (s : State V G). s.claims) h.1) before after
+    same_balances first old new p q (ap (λ (s : MemoState V G). s.net) h.1)
+    (ap (λ (s : MemoState V G). s.memos) h.1) (ap (λ (s : MemoState V G). s.claims) h.1) before after
 finish_balances {V} {G} first old new r (Stale stamp) p q fresh all h before after =
     let c = h.0 in
     let closed = count_closed first r.claim old.claims c (h.1).found in
-    let out : out_above first new.claims ≡ out_above first (without_claim r.claim old.claims) = ap (λ (s : State V G). out_above first s.claims) h.3 in
-    let low = no_more old new p q (ap (λ (s : State V G). s.net) h.3) (settled_same old new (ap (λ (s : State V G). s.net) h.3) (ap (λ (s : State V G). s.memos) h.3)) before after in
+    let out : out_above first new.claims ≡ out_above first (without_claim r.claim old.claims) = ap (λ (s : MemoState V G). out_above first s.claims) h.3 in
+    let low = no_more old new p q (ap (λ (s : MemoState V G). s.net) h.3) (settled_same old new (ap (λ (s : MemoState V G). s.net) h.3) (ap (λ (s : MemoState V G). s.memos) h.3)) before after in
     elim (cases_Bool (nat_lt first c.number)) [
       | inl t ↦ (
           let there = found_in (IsReadyAbove first old) r.claim old.claims c all (h.1).found in
@@ -168,34 +168,34 @@ finish_balances first old new r Same p q fresh all h before after =
 finish_balances first old new r (Stored names) p q fresh all h before after =
     accept_balances first old new r p q fresh all h.0 before after
 
-lose_balances : {V G : Type 0} (first : ℕ) (old new : State V G) (n : ℕ) (b : Bool)
+lose_balances : {V G : Type 0} (first : ℕ) (old new : MemoState V G) (n : ℕ) (b : Bool)
     (p q : Node → Bool) → Loses old n b new → DecidesSettled old p → DecidesSettled new q
     → Balances first 0 (if b then 1 else 0) old new p q
 lose_balances {V} {G} first old new n true p q h before after =
     let closed = count_closed first n old.claims h.0 h.1 in
-    let out : out_above first new.claims ≡ out_above first (without_claim n old.claims) = ap (λ (s : State V G). out_above first s.claims) h.2 in
-    let low = no_more old new p q (ap (λ (s : State V G). s.net) h.2) (settled_same old new (ap (λ (s : State V G). s.net) h.2) (ap (λ (s : State V G). s.memos) h.2)) before after in
+    let out : out_above first new.claims ≡ out_above first (without_claim n old.claims) = ap (λ (s : MemoState V G). out_above first s.claims) h.2 in
+    let low = no_more old new p q (ap (λ (s : MemoState V G). s.net) h.2) (settled_same old new (ap (λ (s : MemoState V G). s.net) h.2) (ap (λ (s : MemoState V G). s.memos) h.2)) before after in
     let most = above_most first (h.0).number in
     omega (arith, closed, out, low, most)
 lose_balances {V} {G} first old new n false p q h before after =
-    same_balances first old new p q (ap (λ (s : State V G). s.net) h.1)
-    (ap (λ (s : State V G). s.memos) h.1) (ap (λ (s : State V G). s.claims) h.1) before after
+    same_balances first old new p q (ap (λ (s : MemoState V G). s.net) h.1)
+    (ap (λ (s : MemoState V G). s.memos) h.1) (ap (λ (s : MemoState V G). s.claims) h.1) before after
 
-gives_balances : {V G : Type 0} (first : ℕ) (old new : State V G) (number : ℕ) (n : Node)
+gives_balances : {V G : Type 0} (first : ℕ) (old new : MemoState V G) (number : ℕ) (n : Node)
     (given : G) (keys : List Key) (values : List V) (p q : Node → Bool) → first ≤ old.taken
     → Gives old number n given keys values new → DecidesSettled old p → DecidesSettled new q
     → Balances first 1 0 old new p q
 gives_balances {V} {G} first old new number n given keys values p q le g before after =
     let claim : OpenClaim = record { number = number; node = n; inputs = present_inputs old.net old.memos (old.net.inputs n) } in
-    let out : out_above first new.claims ≡ out_above first (old.claims ++ claim ∷ []) = ap (λ (s : State V G). out_above first s.claims) g.after in
+    let out : out_above first new.claims ≡ out_above first (old.claims ++ claim ∷ []) = ap (λ (s : MemoState V G). out_above first s.claims) g.after in
     let last = count_last first old.claims claim in
     let is : number ≡ old.taken + 1 = g.number_is in
     let one = above_lt first number (omega (arith, is, le)) in
-    let low = no_more old new p q (ap (λ (s : State V G). s.net) g.after) (settled_same old new (ap (λ (s : State V G). s.net) g.after) (ap (λ (s : State V G). s.memos) g.after)) before after in
+    let low = no_more old new p q (ap (λ (s : MemoState V G). s.net) g.after) (settled_same old new (ap (λ (s : MemoState V G). s.net) g.after) (ap (λ (s : MemoState V G). s.memos) g.after)) before after in
     omega (arith, out, last, one, low)
 
 -- distinct nodes that are used and not settled are no more than all that are
-module _ {V G : Type 0} (s : State V G) (first : ℕ) where
+module _ {V G : Type 0} (s : MemoState V G) (first : ℕ) where
   abbrev IsFree : (Node → Bool) → OpenClaim → Type 0
   IsFree q c = first < c.number → q c.node ≡ false
 
@@ -285,7 +285,7 @@ not_true : (b : Bool) → not b ≡ true → b ≡ false
 not_true true h = cc
 not_true false h = refl
 
-module _ {T E V G : Type 0} (means : Meaning T E V G) (keeps : IsKept means) (rank : T → Node → ℕ)
+module _ {T E V G : Type 0} (means : Meaning T E V G) (keeps : IsLawfulMeaning means) (rank : T → Node → ℕ)
     (ranks : HasRanks means rank) where
   abbrev decision : Bench T V → Node → Bool
   decision b n = decided_by (rank b.texts n + 1) (means.net b.texts) b.memos n

@@ -13,7 +13,7 @@ use Rattle.cells.specs.declared.events.Event.{Event}
 use Rattle.cells.specs.declared.events.Event.TheVariants as events
 use Rattle.cells.specs.declared.events.Reply.{Reply}
 use Rattle.cells.specs.declared.events.Reply.TheVariants as replies
-use Rattle.cells.specs.Events.{Refusing, IsJob, IsClaimed, IsReturned, IsAnswered, AreAnswered, task_given}
+use Rattle.cells.specs.Events.{Refusing, IsJob, IsClaimed, IsReturned, IsEventAnswered, AreEventsAnswered, task_given}
 use Rattle.cells.specs.Views.{Task}
 use Rattle.cells.proofs.Listed.{runs_on}
 use Rattle.bench_laws.specs.Jobs.{given_count, lost_by, lost_count, GivenIsBounded}
@@ -73,7 +73,7 @@ module _ {T E V G F : Type 0} (means : Meaning T E V G) (refuses : Refusing T E 
     returned_step old new (Some t) (Err fault) h = no_step means old new h
 
     pub answered_step : (old new : Bench T V) (given after : List (Task V G)) (e : Event E)
-        (r : Reply F) → IsJob e → IsAnswered means refuses last old given e r new after
+        (r : Reply F) → IsJob e → IsEventAnswered means refuses last old given e r new after
         → HasStep means (given_in r) (lost_in r) old new
     answered_step old new given after (events.Edit e) r job h = absurd job
     answered_step old new given after events.Claim (replies.Edited answer) job h = absurd h
@@ -134,7 +134,7 @@ module _ {T E V G F : Type 0} (means : Meaning T E V G) (refuses : Refusing T E 
 
     list_steps : (old new : Bench T V) (given after : List (Task V G)) (es : List (Event E))
         (rs : List (Reply F)) → Each IsJob es
-        → AreAnswered means refuses last old given es rs new after
+        → AreEventsAnswered means refuses last old given es rs new after
         → HasStep means (given_among rs) (lost_among rs) old new
     list_steps old new given after [] [] jobs h = no_step means old new h.0
     list_steps old new given after [] (r ∷ rs) jobs h = absurd h

@@ -6,7 +6,7 @@ use Rattle.memo_core.specs.declared.keys.Key.{Key}
 use Rattle.memo_core.specs.declared.claims.Finish.{Finish}
 use Rattle.memo_core.specs.declared.claims.Finish.TheVariants.{Unknown, Stale, Same, Stored}
 use Rattle.memo_core.specs.Graph.{present_inputs}
-use Rattle.memo_core.specs.Step.{OpenClaim, State, Return, claim_of, without_claim, IsOut, IsOfPresent, AreNumbered, Finishes, Gives, Loses}
+use Rattle.memo_core.specs.Step.{OpenClaim, MemoState, Return, claim_of, without_claim, IsOut, IsOfPresent, AreClaimsNumbered, FinishesReturn, Gives, Loses}
 use Rattle.memo_core.specs.Run.{Bench, Event, Edit, Claim, NoClaim, Returned, Lose, Renew, Refused, IsFreshFrom, Meaning, Run, Step, state_in}
 use Rattle.memo_core.specs.Work.{IsJobEvent, is_accepted}
 use Rattle.memo_core.proofs.Exact.{AreApart}
@@ -19,39 +19,39 @@ use Rattle.bench_laws.proofs.Ready.{each_last, found_in, IsJobNow, IsReadyAbove,
 -- ---- claims of one number
 
 -- the claims after a call are among those before it, or have a greater number
-claims_closed : {V G : Type 0} (P : OpenClaim → Type 0) (old new : State V G) (n : ℕ)
+claims_closed : {V G : Type 0} (P : OpenClaim → Type 0) (old new : MemoState V G) (n : ℕ)
     → new.claims ≡ without_claim n old.claims → Each P old.claims → Each P new.claims
 claims_closed P old new n is all =
     subst (λ (cs : List OpenClaim). Each P cs) (sym is) (each_closed P n old.claims all)
 
-claims_finished : {V G : Type 0} (P : OpenClaim → Type 0) (old new : State V G) (r : Return V G)
-    (f : Finish) → Each P old.claims → Finishes old r f new → Each P new.claims
+claims_finished : {V G : Type 0} (P : OpenClaim → Type 0) (old new : MemoState V G) (r : Return V G)
+    (f : Finish) → Each P old.claims → FinishesReturn old r f new → Each P new.claims
 claims_finished P old new r Unknown all h = rw h.1 all
 claims_finished {V} {G} P old new r (Stale stamp) all h =
-    claims_closed P old new r.claim (ap (λ (s : State V G). s.claims) h.3) all
+    claims_closed P old new r.claim (ap (λ (s : MemoState V G). s.claims) h.3) all
 claims_finished {V} {G} P old new r Same all h =
-    claims_closed P old new r.claim (ap (λ (s : State V G). s.claims) (h.0).after) all
+    claims_closed P old new r.claim (ap (λ (s : MemoState V G). s.claims) (h.0).after) all
 claims_finished {V} {G} P old new r (Stored names) all h =
-    claims_closed P old new r.claim (ap (λ (s : State V G). s.claims) (h.0).after) all
+    claims_closed P old new r.claim (ap (λ (s : MemoState V G). s.claims) (h.0).after) all
 
-claims_lost : {V G : Type 0} (P : OpenClaim → Type 0) (old new : State V G) (n : ℕ) (b : Bool)
+claims_lost : {V G : Type 0} (P : OpenClaim → Type 0) (old new : MemoState V G) (n : ℕ) (b : Bool)
     → Each P old.claims → Loses old n b new → Each P new.claims
 claims_lost {V} {G} P old new n true all h =
-    claims_closed P old new n (ap (λ (s : State V G). s.claims) h.2) all
+    claims_closed P old new n (ap (λ (s : MemoState V G). s.claims) h.2) all
 claims_lost P old new n false all h = rw h.1 all
 
-claims_given : {V G : Type 0} (P : OpenClaim → Type 0) (old new : State V G) (number : ℕ) (n : Node)
+claims_given : {V G : Type 0} (P : OpenClaim → Type 0) (old new : MemoState V G) (number : ℕ) (n : Node)
     (given : G) (keys : List Key) (values : List V)
     → ((c : OpenClaim) → old.taken < c.number → P c) → Each P old.claims
     → Gives old number n given keys values new → Each P new.claims
 claims_given {V} {G} P old new number n given keys values later all g =
     let claim : OpenClaim = record { number = number; node = n; inputs = present_inputs old.net old.memos (old.net.inputs n) } in
-    subst (λ (cs : List OpenClaim). Each P cs) (sym (ap (λ (s : State V G). s.claims) g.after))
+    subst (λ (cs : List OpenClaim). Each P cs) (sym (ap (λ (s : MemoState V G). s.claims) g.after))
     (each_last P old.claims claim all (later claim (omega (arith, g.number_is))))
 
 -- ---- jobs
 
-job_same : {V G : Type 0} (old new : State V G) (n : Node) (given : G) (keys : List Key)
+job_same : {V G : Type 0} (old new : MemoState V G) (n : Node) (given : G) (keys : List Key)
     (values : List V) → new.net ≡ old.net → new.memos ≡ old.memos
     → IsJobNow old n given keys values → IsJobNow new n given keys values
 job_same old new n given keys values net memos h =
@@ -62,32 +62,32 @@ job_same old new n given keys values net memos h =
       present = rw (net, memos) h.present;
     }
 
-job_finished : {V G : Type 0} (old new : State V G) (r : Return V G) (f : Finish) (n : Node)
+job_finished : {V G : Type 0} (old new : MemoState V G) (r : Return V G) (f : Finish) (n : Node)
     (given : G) (keys : List Key) (values : List V)
-    → IsFreshFrom old.memos old.claims → IsJobNow old n given keys values → Finishes old r f new
+    → IsFreshFrom old.memos old.claims → IsJobNow old n given keys values → FinishesReturn old r f new
     → IsJobNow new n given keys values
 job_finished old new r Unknown n given keys values fresh job h = rw h.1 job
 job_finished {V} {G} old new r (Stale stamp) n given keys values fresh job h =
-    job_same old new n given keys values (ap (λ (s : State V G). s.net) h.3)
-    (ap (λ (s : State V G). s.memos) h.3) job
+    job_same old new n given keys values (ap (λ (s : MemoState V G). s.net) h.3)
+    (ap (λ (s : MemoState V G). s.memos) h.3) job
 job_finished old new r Same n given keys values fresh job h =
     accept_job old new r fresh h.0 n given keys values job
 job_finished old new r (Stored names) n given keys values fresh job h =
     accept_job old new r fresh h.0 n given keys values job
 
-job_lost : {V G : Type 0} (old new : State V G) (m : ℕ) (b : Bool) (n : Node) (given : G)
+job_lost : {V G : Type 0} (old new : MemoState V G) (m : ℕ) (b : Bool) (n : Node) (given : G)
     (keys : List Key) (values : List V) → IsJobNow old n given keys values → Loses old m b new
     → IsJobNow new n given keys values
 job_lost {V} {G} old new m true n given keys values job h =
-    job_same old new n given keys values (ap (λ (s : State V G). s.net) h.2)
-    (ap (λ (s : State V G). s.memos) h.2) job
+    job_same old new n given keys values (ap (λ (s : MemoState V G). s.net) h.2)
+    (ap (λ (s : MemoState V G). s.memos) h.2) job
 job_lost old new m false n given keys values job h = rw h.1 job
 
 -- a return of what the job made is accepted
-job_accepted : {V G : Type 0} (first : ℕ) (old new : State V G) (r : Return V G) (f : Finish)
+job_accepted : {V G : Type 0} (first : ℕ) (old new : MemoState V G) (r : Return V G) (f : Finish)
     (d : OpenClaim) (n : Node) → AreReadyAbove first old → first < r.claim
     → claim_of r.claim old.claims ≡ Some d → d.node ≡ r.node
-    → IsJobNow old r.node r.given r.keys r.values → Finishes old r f new → is_accepted f ≡ true
+    → IsJobNow old r.node r.given r.keys r.values → FinishesReturn old r f new → is_accepted f ≡ true
 job_accepted first old new r Unknown d n all lt found same job h =
     let out : IsOut old r d = record { found = found; same = same } in
     let present : IsOfPresent old r = record { given = job.gives; keys = job.keys_are; values = job.present } in
@@ -123,7 +123,7 @@ module _ {T E V G : Type 0} (means : Meaning T E V G) where
   step_job old new (Edit e) n given keys values job fresh now h = absurd job
   step_job old new (Claim number m g ks vs) n given keys values job fresh now h =
       job_same (state_in means old) (state_in means new) n given keys values
-      (ap (λ (s : State V G). s.net) (h.1).after) (ap (λ (s : State V G). s.memos) (h.1).after)
+      (ap (λ (s : MemoState V G). s.net) (h.1).after) (ap (λ (s : MemoState V G). s.memos) (h.1).after)
       now
   step_job old new NoClaim n given keys values job fresh now h = rw h.1 now
   step_job old new (Returned r answer) n given keys values job fresh now h =
@@ -172,7 +172,7 @@ module _ {T E V G : Type 0} (means : Meaning T E V G) where
 
   -- none of the claims before has the number of a new one
   numbered_one : (taken number : ℕ) (n : Node) (cs : List OpenClaim) → taken < number
-      → AreNumbered taken cs → Each (λ c. c.number ≡ number → c.node ≡ n) cs
+      → AreClaimsNumbered taken cs → Each (λ c. c.number ≡ number → c.node ≡ n) cs
   numbered_one taken number n [] lt a = tt
   numbered_one taken number n (c ∷ cs) lt a =
       ((λ is. absurd (omega (arith, lt, is, a.0))), numbered_one taken number n cs lt a.1)
@@ -186,7 +186,7 @@ module _ {T E V G : Type 0} (means : Meaning T E V G) where
       let is : number ≡ old.taken + 1 = g.number_is in
       let now : IsJobNow (state_in means old) n given keys values = record { gives = g.given_is; keys_are = g.keys_are; settled = g.work.inputs_settled; present = rw g.keys_are at g.values_are } in
       let claim : OpenClaim = record { number = number; node = n; inputs = present_inputs (means.net old.texts) old.memos ((means.net old.texts).inputs n) } in
-      let taken : new.taken ≡ number = ap (λ (s : State V G). s.taken) g.after in
+      let taken : new.taken ≡ number = ap (λ (s : MemoState V G). s.taken) g.after in
       record {
         apart = step_apart means old new (Claim number n given keys values) apart h;
         low = omega (arith, taken);
@@ -195,7 +195,7 @@ module _ {T E V G : Type 0} (means : Meaning T E V G) where
             values (above_none (state_in means old) old.claims apart.numbered) g;
         one =
             subst (λ (cs : List OpenClaim). Each (λ c. c.number ≡ number → c.node ≡ n) cs)
-            (sym (ap (λ (s : State V G). s.claims) g.after))
+            (sym (ap (λ (s : MemoState V G). s.claims) g.after))
             (each_last (λ c. c.number ≡ number → c.node ≡ n) old.claims claim
             (numbered_one old.taken number n old.claims (omega (arith, is)) apart.numbered)
             (λ same. refl));

@@ -9,7 +9,7 @@ use Rattle.memo_core.specs.declared.keys.Kind.TheVariants as kinds
 use Rattle.memo_core.specs.declared.keys.Node.{Node}
 use Rattle.memo_core.specs.Step.{Has}
 use Rattle.binding_graph.specs.Contents.{BodyContent, RoleContent, Group, Check, Silent}
-use Rattle.bench_items.specs.Naming.{SeenName, names_of, number_of, item_outputs}
+use Rattle.bench_items.specs.Naming.{SeenName, names_of_bodies, number_of, item_outputs}
 use Rattle.bench_nodes.specs.declared.table.Slot.{Slot}
 use Rattle.bench_nodes.specs.declared.table.SlotKey.{SlotKey}
 use Rattle.bench_nodes.specs.Nodes.{keys_at, has_slot, slot_keys}
@@ -17,14 +17,14 @@ use Rattle.bench_slots.specs.Tables.{ModelReading}
 use Rattle.bench_values.specs.Givens.{GivenContent, ForItem}
 use Rattle.bench_values.specs.Makes.{output_names}
 use Rattle.bench_parts.specs.Built.{IsBuilt}
-use Rattle.bench_parts.specs.Contents.{PartContent, OfRole, State, histories, content}
-use Rattle.bench_parts.specs.States.{contents, given_item, given}
+use Rattle.bench_parts.specs.Contents.{PartContent, OfRole, PartsState, histories, content}
+use Rattle.bench_parts.specs.States.{contents, given_item, given_to_node}
 use Rattle.bench_parts.proofs.Built.{no_inputs}
 use Rattle.bench_parts.proofs.BuiltSlots.{BeginsAsItem, good_slot, held_history_is}
 use Rattle.bench_edits.specs.Readings.{readings_of}
 use Rattle.bench_instance.specs.declared.stamped_texts.StampedTexts.{StampedTexts}
-use Rattle.bench_instance.specs.StampedTexts.{IsSound, state_of}
-use Rattle.bench_laws.specs.OutputNames.{IsItemOf, item_node, names_given}
+use Rattle.bench_instance.specs.StampedTexts.{AreSoundTexts, stamped_state}
+use Rattle.bench_laws.specs.OutputNames.{IsItemOfTexts, item_node, names_given}
 use Rattle.bench_laws.specs.ToldOutputs.{TellsOutputOf, ReturnsNameOutputs}
 use Rattle.bench_laws.proofs.OutputNames.{item_held, outputs_have_their_names}
 use Rattle.bench_laws.proofs.ToldOutputs.{returns_tell_outputs}
@@ -34,7 +34,7 @@ use Rattle.bench_laws.proofs.ToldOutputs.{returns_tell_outputs}
 given_is : {a b : GivenContent} → Some a ≡ Some b → b ≡ a
 given_is e = cc
 
-module _ (s : State) (models : List ModelReading) (built : IsBuilt s models) (of : ℕ)
+module _ (s : PartsState) (models : List ModelReading) (built : IsBuilt s models) (of : ℕ)
     (does : RoleContent) (history : List SeenName)
     (known : content s 0 of ≡ Some (OfRole does history)) where
   abbrev ss : List Slot
@@ -75,17 +75,17 @@ module _ (s : State) (models : List ModelReading) (built : IsBuilt s models) (of
       (λ t. (good_slot s models kinds.Check of built.slots built.models_in t).1) e
 
   node_given : (role : RoleContent) (test : ℕ) (g : GivenContent)
-      → given s (item_node role test of) ≡ Some g → g ≡ ForItem does (item_outputs does history)
+      → given_to_node s (item_node role test of) ≡ Some g → g ≡ ForItem does (item_outputs does history)
   node_given (Group recursive bodies) test g e = group_given test g e
   node_given (Check negated word code flag) test g e = check_given test g e
   node_given Silent test g e = group_given test g e
 
-item_given : (t : StampedTexts) → IsSound t → (test item : ℕ) (does : RoleContent)
-    → IsItemOf t item does → (g : GivenContent)
-    → given (state_of t) (item_node does test item) ≡ Some g
-    → g ≡ ForItem does (item_outputs does (histories (state_of t) item))
+item_given : (t : StampedTexts) → AreSoundTexts t → (test item : ℕ) (does : RoleContent)
+    → IsItemOfTexts t item does → (g : GivenContent)
+    → given_to_node (stamped_state t) (item_node does test item) ≡ Some g
+    → g ≡ ForItem does (item_outputs does (histories (stamped_state t) item))
 item_given t sound test item does is g e =
-    let s = state_of t in
+    let s = stamped_state t in
     let held = item_held t sound item does is in
     node_given s (readings_of t.parts.table.models.items t.texts.models.items)
     (sound.parts_are).built item does held.0 held.1 does test g e
@@ -104,7 +104,7 @@ name_there name e = absurd cc
 
 -- an output of an item has a name
 group_name : (h : List SeenName) (bodies : List BodyContent) (i n : ℕ)
-    → slice_get (map (number_of h) (names_of bodies)) i ≡ Some n
+    → slice_get (map (number_of h) (names_of_bodies bodies)) i ≡ Some n
     → slice_get (map (λ b. b.name) bodies) i ≡ None → ⊥
 group_name h [] i n at none = none-some n at
 group_name h (b ∷ bs) zero n at none = name_there b.name none
@@ -117,15 +117,15 @@ no_name h (Check negated word code flag) zero n at none = name_there (codes "che
 no_name h (Check negated word code flag) (suc i) n at none = none-some n at
 no_name h Silent i n at none = none-some n at
 
-module _ (t : StampedTexts) (sound : IsSound t) (test item : ℕ) (does : RoleContent)
-    (is : IsItemOf t item does) where
+module _ (t : StampedTexts) (sound : AreSoundTexts t) (test item : ℕ) (does : RoleContent)
+    (is : IsItemOfTexts t item does) where
   abbrev own : List ℕ
-  own = item_outputs does (histories (state_of t) item)
+  own = item_outputs does (histories (stamped_state t) item)
 
   tells_at : (number index : ℕ) → slice_get own index ≡ Some number → (o : Option (List ℕ))
       → slice_get (names_given does) index ≡ o → TellsOutputOf t test item does number
   tells_at number index at None none =
-      absurd (no_name (histories (state_of t) item) does index number at none)
+      absurd (no_name (histories (stamped_state t) item) does index number at none)
   tells_at number index at (Some name) named =
       record { index = index; output_is = at; name = name; name_is = named; told_is = outputs_have_their_names t sound test item index number does is at ∙ named }
 
@@ -138,5 +138,5 @@ module _ (t : StampedTexts) (sound : IsSound t) (test item : ℕ) (does : RoleCo
 pub returns_name_outputs : ReturnsNameOutputs
 returns_name_outputs old new r names test item does sound is node h =
     let told = returns_tell_outputs old new r names h in
-    let g = item_given old.texts sound test item does is r.given (subst (λ (n : Node). given (state_of old.texts) n ≡ Some r.given) node told.given_is) in
+    let g = item_given old.texts sound test item does is r.given (subst (λ (n : Node). given_to_node (stamped_state old.texts) n ≡ Some r.given) node told.given_is) in
     record { given_is = g; each = each_tells old.texts sound test item does is names.items (subst (λ (x : GivenContent). Each (Has (output_names x)) names.items) g told.each) }

@@ -14,7 +14,7 @@ use Rattle.bench_texts.specs.declared.model.NamedModel.{NamedModel}
 use Rattle.bench_texts.specs.declared.replacement.Replacement.{Replacement}
 use Rattle.bench_texts.specs.declared.replacement.Replacement.TheVariants as made
 use Rattle.bench_texts.specs.BenchTexts.{BenchTexts, PlainModel, changed_at, put_at, test_index, model_index, with_init, with_thread, with_condition, with_observed, with_items, with_tests, with_models, numbered_items}
-use Rattle.bench_texts.specs.Edits.{Edit as Change, PutTest as PutsTest, DropTest as DropsTest, SetInit, SetThread, SetCond, SetLocations, PutModel as PutsModel, DropModel as DropsModel, SetItem, InsertItem, RemoveItem, missing, has_test, has_model, Makes, Applies}
+use Rattle.bench_texts.specs.Edits.{Edit as Change, PutTest as PutsTest, DropTest as DropsTest, SetInit, SetThread, SetCond, SetLocations, PutModel as PutsModel, DropModel as DropsModel, SetItem, InsertItem, RemoveItem, missing_fault, has_test, has_model, EditMakes, Applies}
 use Rattle.bench_texts.proofs.Lists.{length-put_at, length-remove}
 use Rattle.bench_text_laws.proofs.Lists.{keys_put, keys_changed}
 use Rattle.bench_text_laws.proofs.Orderly.{named as name_is, not_named, is_there}
@@ -24,7 +24,7 @@ use Rattle.board.specs.declared.operation.NameChange.TheVariants.{PutTest, DropT
 use Rattle.board.specs.Contents.{RowContent, ColumnContent, BoardContent, cell_at}
 use Rattle.board.specs.Operations.{open_cell, open_row, wider_row, rows_after}
 use Rattle.board.specs.Histories.{IsContentOf}
-use Rattle.board.specs.Legal.{Held, held_with, Announces}
+use Rattle.board.specs.Legal.{TestsAndModels, tests_and_models_with, Announces}
 use Rattle.board.specs.Results.{LacksOne}
 use Rattle.board.proofs.Lookups.{skip, get_removed}
 use Rattle.board.proofs.Names.{IsNamed, as_many}
@@ -113,7 +113,7 @@ items_kept t i next g same =
     models_kept t (with_models (changed_at i g) next t) refl
     (λ many. keys_changed (λ m. m.name) g same i t.models)
 
-made_kept : (t u : BenchTexts) (e : Change) → missing t e ≡ None → Makes t e u → NamesKept t u
+made_kept : (t u : BenchTexts) (e : Change) → missing_fault t e ≡ None → EditMakes t e u → NamesKept t u
 made_kept t u (PutsTest text) there m =
     subst (NamesKept t) (sym m.2) (tests_kept t
     (with_tests (put_at (test_index (m.0).name t.tests) m.0) t) refl
@@ -231,13 +231,13 @@ longer_last b name at columns rows changed j no_test lt =
 
 -- ---- an edit
 
-abbrev pub HeldKept : Held → Held → Type 0
+abbrev pub HeldKept : TestsAndModels → TestsAndModels → Type 0
 HeldKept h g =
     HasNamesKept (map (λ t. t.name) h.tests) (map (λ t. t.name) g.tests)
     (map (λ m. m.name) h.models) (map (λ m. m.name) g.models)
 
 -- what is so of the contents is so of the tests and models
-pub held_kept : (t u : BenchTexts) (h g : Held) → IsContentOf t h → IsContentOf u g → NamesKept t u
+pub held_kept : (t u : BenchTexts) (h g : TestsAndModels) → IsContentOf t h → IsContentOf u g → NamesKept t u
     → HeldKept h g
 held_kept t u h g old new kept =
     let tests : content_names t ≡ map (λ t. t.name) h.tests = ap (map (λ c. c.name)) old.tests ∙ sym (test_names h.tests) in
@@ -255,7 +255,7 @@ held_kept t u h g old new kept =
           (many ∙ sym (ap (λ (l : List (List ℕ)). length l) models))) ∙ models);
     }
 
-module _ (h : Held) (b : BoardContent) (named : IsNamed b.rows b.columns h)
+module _ (h : TestsAndModels) (b : BoardContent) (named : IsNamed b.rows b.columns h)
     (wide : AreWide (length b.columns) b.rows) (test model : List ℕ) (lacks : LacksOne h test model)
   where
     row_count : length b.rows ≡ length h.tests
@@ -267,16 +267,16 @@ module _ (h : Held) (b : BoardContent) (named : IsNamed b.rows b.columns h)
     abbrev IsOpenNow : NameChange → List CellIndex → Replacement → Type 0
     IsOpenNow change cells r =
         cell_at (fold open_cell (rows_after change b.columns b.rows) cells)
-        (test_at (held_with r h) test) (model_at (held_with r h) model) ≡ Some None
+        (test_at (tests_and_models_with r h) test) (model_at (tests_and_models_with r h) model) ≡ Some None
 
     -- a test that is put and was not there
     test_added : (at index : ℕ) (name : _) (new : Test) (cells : List CellIndex) → at ≡ index
-        → at ≤ length h.tests → HeldKept h (held_with (made.PutTest index new) h)
-        → AreThere (held_with (made.PutTest index new) h) test model
+        → at ≤ length h.tests → HeldKept h (tests_and_models_with (made.PutTest index new) h)
+        → AreThere (tests_and_models_with (made.PutTest index new) h) test model
         → slice_get h.tests (test_at h test) ≡ None
         → IsOpenNow (PutTest at name) cells (made.PutTest index new)
     test_added at index name new cells same le kept now none =
-        let g : Held = held_with (made.PutTest index new) h in
+        let g : TestsAndModels = tests_and_models_with (made.PutTest index new) h in
         let k : ℕ = test_at g test in
         let now_name : (now.content).name ≡ test = found_name (λ t. t.name) test g.tests now.content now.test_is in
         let column_lt : model_at g model < length b.columns = (let lt = below h.models (model_at g model) now.under now.model_is in let many = column_count in omega (arith, lt, many)) in
@@ -305,12 +305,12 @@ module _ (h : Held) (b : BoardContent) (named : IsNamed b.rows b.columns h)
     -- a model that is put and was not there
     model_added : (at index next : ℕ) (name items : _) (new : NamedModel) (cells : List CellIndex)
         → at ≡ index → at ≤ length h.models
-        → HeldKept h (held_with (made.PutModel index new next) h)
-        → AreThere (held_with (made.PutModel index new next) h) test model
+        → HeldKept h (tests_and_models_with (made.PutModel index new next) h)
+        → AreThere (tests_and_models_with (made.PutModel index new next) h) test model
         → slice_get h.models (model_at h model) ≡ None
         → IsOpenNow (PutModel at name items) cells (made.PutModel index new next)
     model_added at index next name items new cells same le kept now none =
-        let g : Held = held_with (made.PutModel index new next) h in
+        let g : TestsAndModels = tests_and_models_with (made.PutModel index new next) h in
         let k : ℕ = model_at g model in
         let now_name : (now.under).name ≡ model = found_name (λ m. m.name) model g.models now.under now.model_is in
         let row_lt : test_at g test < length b.rows = (let lt = below h.tests (test_at g test) now.content now.test_is in let many = row_count in omega (arith, lt, many)) in
@@ -336,27 +336,27 @@ module _ (h : Held) (b : BoardContent) (named : IsNamed b.rows b.columns h)
         ]
 
     -- where something is dropped, no cell is added
-    test_not_dropped : (index : ℕ) → AreThere (held_with (made.DropTest index) h) test model → ⊥
+    test_not_dropped : (index : ℕ) → AreThere (tests_and_models_with (made.DropTest index) h) test model → ⊥
     test_not_dropped index now = elim lacks [
-      | inl none ↦ (let k : ℕ = test_at (held_with (made.DropTest index) h) test in
+      | inl none ↦ (let k : ℕ = test_at (tests_and_models_with (made.DropTest index) h) test in
           not_lacking (λ t. t.name) test h.tests (skip index k) now.content
           (sym (get_removed h.tests index k) ∙ now.test_is)
           (found_name (λ t. t.name) test (remove h.tests index) now.content now.test_is) none)
       | inr none ↦ none-some now.under (sym none ∙ now.model_is)
     ]
 
-    model_not_dropped : (index : ℕ) → AreThere (held_with (made.DropModel index) h) test model → ⊥
+    model_not_dropped : (index : ℕ) → AreThere (tests_and_models_with (made.DropModel index) h) test model → ⊥
     model_not_dropped index now = elim lacks [
       | inl none ↦ none-some now.content (sym none ∙ now.test_is)
-      | inr none ↦ (let k : ℕ = model_at (held_with (made.DropModel index) h) model in
+      | inr none ↦ (let k : ℕ = model_at (tests_and_models_with (made.DropModel index) h) model in
           not_lacking (λ m. m.name) model h.models (skip index k) now.under
           (sym (get_removed h.models index k) ∙ now.model_is)
           (found_name (λ m. m.name) model (remove h.models index) now.under now.model_is) none)
     ]
 
     pub added_cell : (whole : Bool) (change : NameChange) (cells : List CellIndex) (r : Replacement)
-        → Announces h whole change cells r → HeldKept h (held_with r h)
-        → AreThere (held_with r h) test model → IsOpenNow change cells r
+        → Announces h whole change cells r → HeldKept h (tests_and_models_with r h)
+        → AreThere (tests_and_models_with r h) test model → IsOpenNow change cells r
     added_cell whole (PutTest at name) cells (made.PutTest index new) a kept now = elim lacks [
       | inl none ↦ test_added at index name new cells a.0 a.1 kept now none
       | inr none ↦ absurd (none-some now.under (sym none ∙ now.model_is))

@@ -10,10 +10,10 @@ use Rattle.memo_core.specs.declared.keys.Key.{Key}
 use Rattle.bench_values.specs.Givens.{GivenContent}
 use Rattle.bench_values.specs.Makes.{output_names}
 use Rattle.bench_nodes.specs.Nodes.{inputs}
-use Rattle.bench_parts.specs.Contents.{PartContent, OfText, OfRole, OfFault, OfCondition, OfObserved, OfLocations, OfInit, OfThread, State}
+use Rattle.bench_parts.specs.Contents.{PartContent, OfText, OfRole, OfFault, OfCondition, OfObserved, OfLocations, OfInit, OfThread, PartsState}
 use Rattle.bench_parts.specs.States.{contents, flags_read, space_given, verdict_given, given_space, given_verdict, given_by}
 use Rattle.bench_instance.specs.declared.stamped_texts.StampedTexts.{StampedTexts}
-use Rattle.bench_instance.specs.StampedTexts.{state_of}
+use Rattle.bench_instance.specs.StampedTexts.{stamped_state}
 use Rattle.bench_laws.specs.OutputNames.{OthersHaveOneOutput}
 
 -- what is given has the outputs of what it is
@@ -78,11 +78,11 @@ verdict_one flags (Some (OfThread steps) ∷ cs) g e = absurd (none-some g e)
 
 pub others_have_one_output : (t : StampedTexts) → OthersHaveOneOutput t
 others_have_one_output t n g (inl space) e =
-    let s : State = state_of t in
+    let s : PartsState = stamped_state t in
     let keys : List Key = inputs t.parts.table n in
     space_one (contents s keys) g (sym (ap (λ (k : Kind). given_by s k keys) space) ∙ e)
 others_have_one_output t n g (inr verdict) e =
-    let s : State = state_of t in
+    let s : PartsState = stamped_state t in
     let keys : List Key = inputs t.parts.table n in
     verdict_one (flags_read s keys keys) (contents s keys) g
     (sym (ap (λ (k : Kind). given_by s k keys) verdict) ∙ e)

@@ -4,7 +4,7 @@ use Rattle.std.specs.List.{AllByRecursion as Each}
 use Rattle.std.proofs.lemmas.Bool.{cases_Bool}
 use Rattle.memo_core.specs.declared.keys.Node.{Node}
 use Rattle.memo_core.specs.Graph.{Net, IsSettled}
-use Rattle.memo_core.specs.Run.{Event, Edit, Claim, NoClaim, Returned, Lose, Renew, Refused, Run, Step, IsStart, count_unsettled, state_in}
+use Rattle.memo_core.specs.Run.{Event, Edit, Claim, NoClaim, Returned, Lose, Renew, Refused, Run, Step, IsNewBench, count_unsettled, state_in}
 use Rattle.memo_core.specs.Step.{Has}
 use Rattle.memo_core.specs.Work.{IsJobEvent}
 use Rattle.memo_core.proofs.Exact.{exact_laws}
@@ -16,7 +16,7 @@ use Rattle.bench_nodes.specs.Nodes.{rank}
 use Rattle.bench_texts.specs.declared.edit.Edit.{Edit as Code}
 use Rattle.bench_parts.specs.States.{keeps}
 use Rattle.cells.proofs.Listed.{runs_on}
-use Rattle.bench_instance.specs.StampedTexts.{IsSound, net_of, verdict_of}
+use Rattle.bench_instance.specs.StampedTexts.{AreSoundTexts, stamped_net, verdict_of}
 use Rattle.bench_instance.specs.Lemmas.StampedLaws.{since_itself}
 use Rattle.bench_instance.specs.Lemmas.LeftCells.{cells_left}
 use Rattle.bench_laws.specs.Live.{live_meaning, live_last}
@@ -36,11 +36,11 @@ some_is e = cc
 -- ---- claims, returns, losses and refused calls leave the nodes and the verdicts
 
 record SaysTheSame (old new : LiveState) : Type 0 where
-  nodes : net_of new.texts ≡ net_of old.texts
+  nodes : stamped_net new.texts ≡ stamped_net old.texts
   last : live_last new.texts ≡ live_last old.texts
 
 same_texts : (old new : LiveState) → new.texts ≡ old.texts → SaysTheSame old new
-same_texts old new e = record { nodes = ap net_of e; last = ap live_last e }
+same_texts old new e = record { nodes = ap stamped_net e; last = ap live_last e }
 
 step_same : (old new : LiveState) (e : LiveEvent) → IsJobEvent e → Step live_meaning old e new
     → SaysTheSame old new
@@ -61,7 +61,7 @@ run_same (e ∷ es) old new jobs h =
     record { nodes = rest.nodes ∙ one.nodes; last = rest.last ∙ one.last }
 
 verdicts_same : (es : List LiveEvent) (old new : LiveState) → Each IsJobEvent es
-    → Run live_meaning old es new → IsSound old.texts → (test model : List ℕ)
+    → Run live_meaning old es new → AreSoundTexts old.texts → (test model : List ℕ)
     → verdict_of new.texts test model ≡ verdict_of old.texts test model
 verdicts_same es old new jobs h sound test model =
     let same = run_same es old new jobs h in
@@ -72,7 +72,7 @@ verdicts_same es old new jobs h sound test model =
 -- ---- after an edit
 
 module _ (earlier : List LiveEvent) (first old start : LiveState) (e : Code)
-    (s : IsStart IsSound net_of first) (run : Run live_meaning first earlier old)
+    (s : IsNewBench AreSoundTexts stamped_net first) (run : Run live_meaning first earlier old)
     (step : Step live_meaning old (Edit e) start) where
   -- the events up to the edit, and it
   abbrev events : List LiveEvent
@@ -83,35 +83,35 @@ module _ (earlier : List LiveEvent) (first old start : LiveState) (e : Code)
 
   -- a settled cell that the edit does not reach stays settled
   verdict_settled : (test model : List ℕ) (v : Node) → IsUnreachedCell old start test model
-      → verdict_of start.texts test model ≡ Some v → IsSettled (net_of start.texts) start.memos v
+      → verdict_of start.texts test model ≡ Some v → IsSettled (stamped_net start.texts) start.memos v
   verdict_settled test model v cell is =
       let was = cell.settled in
       let left = cells_left old.texts start.texts e (old.taken + 1) test model (sound_after earlier first old s run) step.0 (λ reached. reached cell.slice) was.verdict was.is in
-      subst (λ (k : Node). IsSettled (net_of start.texts) start.memos k)
+      subst (λ (k : Node). IsSettled (stamped_net start.texts) start.memos k)
       (some_is (sym left.0 ∙ is))
       (untouched_edit (λ n. keeps start.texts.parts n) (state_in live_meaning old)
       (state_in live_meaning start) was.verdict step.1 left.1 was.settled)
 
   -- so does what it stands on
   under_settled : (n : Node) → IsUnderUnreached old start n
-      → IsSettled (net_of start.texts) start.memos n
+      → IsSettled (stamped_net start.texts) start.memos n
   under_settled n h =
       let of = h.under in
       let settled = verdict_settled h.test h.model of.verdict h.cell of.is in
-      settled_under (net_of start.texts) start.memos (of.stands).0 settled.0 of.verdict n
+      settled_under (stamped_net start.texts) start.memos (of.stands).0 settled.0 of.verdict n
       (of.stands).1 settled.1
 
   -- also after claims, returns, losses and refused calls
   settled_later : (later : List LiveEvent) (mid : LiveState) (n : Node) (test model : List ℕ)
       → Run live_meaning start later mid → Each IsJobEvent later
       → IsUnreachedCell old start test model → IsUnderCell mid test model n
-      → IsSettled (net_of mid.texts) mid.memos n
+      → IsSettled (stamped_net mid.texts) mid.memos n
   settled_later later mid n test model more jobs cell under =
       let same = verdicts_same later start mid jobs more (sound_after events first start s run_on) test model in
       let was = verdict_settled test model under.verdict cell (sym same ∙ under.is) in
       let laws = exact_laws live_meaning kept (λ t. rank t.parts.table) has_ranks in
       let settled = laws.2 events later first start mid s run_on more jobs under.verdict was in
-      settled_under (net_of mid.texts) mid.memos (under.stands).0 settled.0 under.verdict n
+      settled_under (stamped_net mid.texts) mid.memos (under.stands).0 settled.0 under.verdict n
       (under.stands).1 settled.1
 
 pub only_reached_is_given : OnlyReachedIsGiven
@@ -150,9 +150,9 @@ reached_bounds_given earlier later first old start end e is_open s run step unde
     let laws = exact_laws live_meaning kept (λ t. rank t.parts.table) has_ranks in
     let now = laws.3 before first start s all in
     let low = given_bounded live_meaning kept (λ t. rank t.parts.table) has_ranks before later first start end now.0 s all more jobs now.1 in
-    let still : (n : Node) → Has (net_of start.texts).used n → not (is_open n) ≡ true → now.0 n ≡ true =
+    let still : (n : Node) → Has (stamped_net start.texts).used n → not (is_open n) ≡ true → now.0 n ≡ true =
     λ n has t.
     (now.1 n).1 (under_settled earlier first old start e s run step n
     (under n has (not_true (is_open n) t))) in
-    let fewer = count_no_more (λ n. not (is_open n)) now.0 (net_of start.texts).used still in
+    let fewer = count_no_more (λ n. not (is_open n)) now.0 (stamped_net start.texts).used still in
     omega (arith, low, fewer)

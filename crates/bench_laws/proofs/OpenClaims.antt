@@ -5,7 +5,7 @@ use Rattle.std.proofs.lemmas.Bool.{cases_Bool}
 use Rattle.memo_core.specs.declared.claims.Finish.{Finish}
 use Rattle.memo_core.specs.declared.claims.Finish.TheVariants.{Unknown, Stale, Same, Stored}
 use Rattle.memo_core.specs.Graph.{present_inputs}
-use Rattle.memo_core.specs.Step.{OpenClaim, State, Return, claim_of, without_claim, AreNumbered, Finishes, Loses}
+use Rattle.memo_core.specs.Step.{OpenClaim, MemoState, Return, claim_of, without_claim, AreClaimsNumbered, FinishesReturn, Loses}
 use Rattle.memo_core.specs.Run.{Bench, Event, Edit, Claim, NoClaim, Returned, Lose, Renew, Refused, Meaning, Run, Step, state_in}
 use Rattle.memo_core.specs.Work.{IsJobEvent}
 use Rattle.bench_laws.specs.Jobs.{LeavesClaim, ClaimsStayOut}
@@ -38,7 +38,7 @@ claim_before n (x ∷ cs) c d e = elim (cases_Bool (n == x.number)) [
 
 -- a claim of a new number is found
 claim_last : (taken : ℕ) (cs : List OpenClaim) (c : OpenClaim) → taken < c.number
-    → AreNumbered taken cs → claim_of c.number (cs ++ c ∷ []) ≡ Some c
+    → AreClaimsNumbered taken cs → claim_of c.number (cs ++ c ∷ []) ≡ Some c
 claim_last taken [] c lt a = rw (eq-eqb c.number c.number refl) refl
 claim_last taken (d ∷ cs) c lt a = elim (cases_Bool (c.number == d.number)) [
   | inl t ↦ (let same : c.number ≡ d.number = eqb-true c.number d.number t in
@@ -47,8 +47,8 @@ claim_last taken (d ∷ cs) c lt a = elim (cases_Bool (c.number == d.number)) [
 ]
 
 module _ {T E V G : Type 0} (means : Meaning T E V G) where
-  finish_leaves : (number : ℕ) (c : OpenClaim) (old new : State V G) (r : Return V G) (f : Finish)
-      → r.claim ≢ number → claim_of number old.claims ≡ Some c → Finishes old r f new
+  finish_leaves : (number : ℕ) (c : OpenClaim) (old new : MemoState V G) (r : Return V G) (f : Finish)
+      → r.claim ≢ number → claim_of number old.claims ≡ Some c → FinishesReturn old r f new
       → claim_of number new.claims ≡ Some c
   finish_leaves number c old new r Unknown ne e h = rw h.1 e
   finish_leaves number c old new r (Stale stamp) ne e h =
@@ -58,7 +58,7 @@ module _ {T E V G : Type 0} (means : Meaning T E V G) where
   finish_leaves number c old new r (Stored names) ne e h =
       rw (h.0).after (left_claim number r.claim old.claims c ne e)
 
-  lose_leaves : (number : ℕ) (c : OpenClaim) (old new : State V G) (n : ℕ) (b : Bool) → n ≢ number
+  lose_leaves : (number : ℕ) (c : OpenClaim) (old new : MemoState V G) (n : ℕ) (b : Bool) → n ≢ number
       → claim_of number old.claims ≡ Some c → Loses old n b new
       → claim_of number new.claims ≡ Some c
   lose_leaves number c old new n true ne e h = rw h.2 (left_claim number n old.claims c ne e)
@@ -71,7 +71,7 @@ module _ {T E V G : Type 0} (means : Meaning T E V G) where
   step_leaves number c old new (Claim other n given keys values) job leaves is h =
       let claim : OpenClaim = record { number = other; node = n; inputs = present_inputs (means.net old.texts) old.memos ((means.net old.texts).inputs n) } in
       subst (λ (cs : List OpenClaim). claim_of number cs ≡ Some c)
-      (sym (ap (λ (s : State V G). s.claims) (h.1).after))
+      (sym (ap (λ (s : MemoState V G). s.claims) (h.1).after))
       (claim_before number old.claims c claim is)
   step_leaves number c old new NoClaim job leaves is h = rw h.1 is
   step_leaves number c old new (Returned r answer) job leaves is h =
@@ -96,5 +96,5 @@ module _ {T E V G : Type 0} (means : Meaning T E V G) where
       let is : number ≡ old.taken + 1 = g.number_is in
       let claim : OpenClaim = record { number = number; node = n; inputs = present_inputs (means.net old.texts) old.memos ((means.net old.texts).inputs n) } in
       let here = claim_last old.taken old.claims claim (omega (arith, is)) (apart_after means earlier first old s run).numbered in
-      let begun : claim_of number start.claims ≡ Some claim = subst (λ (cs : List OpenClaim). claim_of number cs ≡ Some claim) (sym (ap (λ (s : State V G). s.claims) g.after)) here in
+      let begun : claim_of number start.claims ≡ Some claim = subst (λ (cs : List OpenClaim). claim_of number cs ≡ Some claim) (sym (ap (λ (s : MemoState V G). s.claims) g.after)) here in
       (claim, run_leaves number claim later start end jobs leaves begun more)

@@ -6,22 +6,22 @@ use Rattle.std.proofs.lemmas.Option.{none-some, slice_get-map}
 use Rattle.memo_core.specs.Step.{Has}
 use Rattle.binding_graph.specs.Contents.{BodyContent, RoleContent, Group, Check, Silent, role_content}
 use Rattle.binding_graph.specs.declared.resolved.ResolvedItem.{ResolvedItem}
-use Rattle.bench_items.specs.Naming.{SeenName, names_of, is_same_name, number_of, IsNamed, AreNamed, item_outputs}
+use Rattle.bench_items.specs.Naming.{SeenName, names_of_bodies, is_same_name, number_of, IsInHistory, AreInHistory, item_outputs}
 use Rattle.bench_items.proofs.Naming.{one_name}
 use Rattle.bench_nodes.specs.declared.table.ModelRow.{ModelRow}
 use Rattle.bench_slots.specs.Tables.{ModelReading}
 use Rattle.bench_texts.specs.declared.model.NamedModel.{NamedModel}
 use Rattle.bench_texts.specs.declared.reading.Reading.{Reading}
 use Rattle.bench_texts.specs.declared.reading.Reading.TheVariants as readings
-use Rattle.bench_parts.specs.Built.{IsHeld, AreHeld, IsModelIn}
-use Rattle.bench_parts.specs.Contents.{State, histories}
+use Rattle.bench_parts.specs.Built.{IsRoleKnown, AreRolesKnown, IsModelIn}
+use Rattle.bench_parts.specs.Contents.{PartsState, histories}
 use Rattle.bench_parts.proofs.BuiltSlots.{held_history_is}
 use Rattle.bench_parts.proofs.Histories.{content_named}
 use Rattle.bench_edits.specs.Readings.{reading_by, reading_of, readings_of, resolved_in}
 use Rattle.bench_instance.specs.declared.stamped_texts.StampedTexts.{StampedTexts}
-use Rattle.bench_instance.specs.StampedTexts.{IsSound, state_of}
+use Rattle.bench_instance.specs.StampedTexts.{AreSoundTexts, stamped_state}
 use Rattle.bench_instance.specs.Outputs.{seen_at, only_name, name_by}
-use Rattle.bench_laws.specs.OutputNames.{IsItemOf, node_kind, names_given, OutputsHaveTheirNames}
+use Rattle.bench_laws.specs.OutputNames.{IsItemOfTexts, content_node_kind, names_given, OutputsHaveTheirNames}
 
 -- ---- names in a history
 
@@ -32,7 +32,7 @@ later_at : (n : SeenName) (h : List SeenName) (k : ℕ) → slice_get (n ∷ h) 
 later_at n h k = ap (slice_get (n ∷ h)) (one_more k)
 
 -- the number of a name is the index at which the history has it
-named_at : (h : List SeenName) (a : SeenName) → IsNamed h a → slice_get h (number_of h a) ≡ Some a
+named_at : (h : List SeenName) (a : SeenName) → IsInHistory h a → slice_get h (number_of h a) ≡ Some a
 named_at [] a lt = absurd (omega (arith, lt))
 named_at (n ∷ h) a lt = elim (cases_Bool (is_same_name n a)) [
   | inl e ↦ rw e (ap (λ (m : SeenName). let o : Option SeenName = Some m in o) (one_name n a e))
@@ -56,19 +56,19 @@ number_some : {a b : ℕ} → Some a ≡ Some b → a ≡ b
 number_some e = cc
 
 names_alike : (bodies : List BodyContent)
-    → map (λ n. n.name) (names_of bodies) ≡ map (λ b. b.name) bodies
+    → map (λ n. n.name) (names_of_bodies bodies) ≡ map (λ b. b.name) bodies
 names_alike [] = refl
 names_alike (b ∷ bs) = ap (λ (ns : List (List ℕ)). b.name ∷ ns) (names_alike bs)
 
-seen_by : (h names : List SeenName) (index number : ℕ) → Each (IsNamed h) names
+seen_by : (h names : List SeenName) (index number : ℕ) → Each (IsInHistory h) names
     → (o : Option SeenName) → slice_get names index ≡ o
     → option_map (number_of h) o ≡ Some number → seen_at h number ≡ option_map (λ n. n.name) o
 seen_by h names index number all None e is = absurd (none-some number is)
 seen_by h names index number all (Some n) e is =
     ap (λ (k : ℕ). seen_at h k) (sym (number_some is)) ∙ ap (option_map (λ (n : SeenName). n.name))
-    (named_at h n (each_at (IsNamed h) names index n all e))
+    (named_at h n (each_at (IsInHistory h) names index n all e))
 
-seen_names : (h names : List SeenName) (index number : ℕ) → Each (IsNamed h) names
+seen_names : (h names : List SeenName) (index number : ℕ) → Each (IsInHistory h) names
     → slice_get (map (number_of h) names) index ≡ Some number
     → seen_at h number ≡ slice_get (map (λ n. n.name) names) index
 seen_names h names index number all is =
@@ -81,11 +81,11 @@ only_check : (name : List ℕ) (index number : ℕ) → slice_get (0 ∷ []) ind
 only_check name zero number is = ap (only_name name) (sym (number_some is))
 only_check name (suc i) number is = absurd (none-some number is)
 
-named_by : (does : RoleContent) (h : List SeenName) (index number : ℕ) → AreNamed h does
+named_by : (does : RoleContent) (h : List SeenName) (index number : ℕ) → AreInHistory h does
     → slice_get (item_outputs does h) index ≡ Some number
-    → name_by (node_kind does) h number ≡ slice_get (names_given does) index
+    → name_by (content_node_kind does) h number ≡ slice_get (names_given does) index
 named_by (Group recursive bodies) h index number all is =
-    seen_names h (names_of bodies) index number all is ∙ ap
+    seen_names h (names_of_bodies bodies) index number all is ∙ ap
     (λ (ns : List (List ℕ)). slice_get ns index) (names_alike bodies)
 named_by (Check negated word code flag) h index number all is =
     only_check (codes "check") index number is
@@ -105,35 +105,35 @@ model_in P (r ∷ rs) (n ∷ ms) m l all (inr more) = model_in P rs ms m (omega 
 items_some : {a b : List ResolvedItem} → Some a ≡ Some b → a ≡ b
 items_some e = cc
 
-items_held : (s : State) (id : ℕ) (numbers : List ℕ) (reading : Reading) (items : List ResolvedItem)
+items_held : (s : PartsState) (id : ℕ) (numbers : List ℕ) (reading : Reading) (items : List ResolvedItem)
     → IsModelIn s (reading_by id numbers reading) → resolved_in reading ≡ Some items
-    → AreHeld s numbers items
+    → AreRolesKnown s numbers items
 items_held s id numbers (readings.Sound resolved used) items h e =
-    subst (λ (is : List ResolvedItem). AreHeld s numbers is) (items_some e) h.1
+    subst (λ (is : List ResolvedItem). AreRolesKnown s numbers is) (items_some e) h.1
 items_held s id numbers (readings.Faulty fault) items h e = absurd (none-some items e)
 
 -- it is known what the item does
-pub item_held : (t : StampedTexts) → IsSound t → (item : ℕ) (does : RoleContent)
-    → IsItemOf t item does → IsHeld (state_of t) item does
+pub item_held : (t : StampedTexts) → AreSoundTexts t → (item : ℕ) (does : RoleContent)
+    → IsItemOfTexts t item does → IsRoleKnown (stamped_state t) item does
 item_held t sound item does is =
-    let s = state_of t in
+    let s = stamped_state t in
     let parts = sound.parts_are in
     let model = is.model in
     let read = model_in (IsModelIn s) t.parts.table.models.items t.texts.models.items model parts.each_model (parts.built).models_in is.held in
     let held = items_held s (read.0).id model.numbers.items model.reading is.items read.1 is.read is.index is.item is.found in
     let role : RoleContent = role_content (is.item).role in
-    subst (λ (r : RoleContent). IsHeld s item r) (sym is.does_is)
-    (subst (λ (n : ℕ). IsHeld s n role) (sym is.number_is) held)
+    subst (λ (r : RoleContent). IsRoleKnown s item r) (sym is.does_is)
+    (subst (λ (n : ℕ). IsRoleKnown s n role) (sym is.number_is) held)
 
-item_named : (t : StampedTexts) → IsSound t → (item : ℕ) (does : RoleContent) → IsItemOf t item does
-    → AreNamed (histories (state_of t) item) does
+item_named : (t : StampedTexts) → AreSoundTexts t → (item : ℕ) (does : RoleContent) → IsItemOfTexts t item does
+    → AreInHistory (histories (stamped_state t) item) does
 item_named t sound item does is =
-    let s = state_of t in
+    let s = stamped_state t in
     let held = item_held t sound item does is in
-    subst (λ (h : List SeenName). AreNamed h does) (sym (held_history_is s item does held.0 held.1))
+    subst (λ (h : List SeenName). AreInHistory h does) (sym (held_history_is s item does held.0 held.1))
     (content_named t.parts.table.items.items t.parts.roles.items item does held.0 held.1)
 
-pub outputs_have_their_names : (t : StampedTexts) → IsSound t → OutputsHaveTheirNames t
+pub outputs_have_their_names : (t : StampedTexts) → AreSoundTexts t → OutputsHaveTheirNames t
 outputs_have_their_names t sound test item index number does is output =
-    named_by does (histories (state_of t) item) index number (item_named t sound item does is)
+    named_by does (histories (stamped_state t) item) index number (item_named t sound item does is)
     output

@@ -17,7 +17,7 @@ use Rattle.board.specs.declared.operation.NameChange.{NameChange}
 use Rattle.board.specs.declared.operation.NameChange.TheVariants.{PutTest, DropTest, PutModel, DropModel}
 use Rattle.board.specs.Contents.{RowContent, BoardContent, cell_at}
 use Rattle.board.specs.Operations.{open_cell, rows_after}
-use Rattle.board.specs.Legal.{Held, held_with, slice_after, IsReached, ListsReached, Announces}
+use Rattle.board.specs.Legal.{TestsAndModels, tests_and_models_with, board_slice_after, IsCellReached, ListsReached, Announces}
 use Rattle.board.proofs.Lookups.{skip, get_removed, placed, narrow_cell, dropped_row}
 use Rattle.board.proofs.Names.{IsNamed, as_many}
 use Rattle.board.proofs.ShownNames.{below}
@@ -26,12 +26,12 @@ use Rattle.bench_laws.specs.Openings.{slice_named, test_at, model_at}
 use Rattle.bench_laws.proofs.CellLists.{found_name, put_index, removed_index, skip_past, opened_other, opened_here, longer_same, wider_same, cell_missing}
 
 -- the tests and the models have names of their own
-pub record HasNamesApart (h : Held) : Type 0 where
+pub record HasNamesApart (h : TestsAndModels) : Type 0 where
   pub tests : AreApart (map (λ t. t.name) h.tests)
   pub models : AreApart (map (λ m. m.name) h.models)
 
 -- a test and a model of these names are there
-pub record AreThere (h : Held) (test model : List ℕ) : Type 0 where
+pub record AreThere (h : TestsAndModels) (test model : List ℕ) : Type 0 where
   pub content : Test
   pub under : NamedModel
   pub test_is : slice_get h.tests (test_at h test) ≡ Some content
@@ -39,16 +39,16 @@ pub record AreThere (h : Held) (test model : List ℕ) : Type 0 where
 
 -- where they stand after the edit, by where they stood: the slice by the indexes is the one by the
 -- names, and the cell is that of before, unless it is opened
-record IsMoved (h : Held) (b : BoardContent) (change : NameChange) (r : Replacement)
+record IsMoved (h : TestsAndModels) (b : BoardContent) (change : NameChange) (r : Replacement)
     (test model : List ℕ) : Type 0 where
-  slice_is : slice_after h r (test_at h test) (model_at h model)
-      ≡ slice_named (held_with r h) test model
-  test_same : test_at (held_with r h) test ≡ test_at h test
-  model_same : model_at (held_with r h) model ≡ model_at h model
+  slice_is : board_slice_after h r (test_at h test) (model_at h model)
+      ≡ slice_named (tests_and_models_with r h) test model
+  test_same : test_at (tests_and_models_with r h) test ≡ test_at h test
+  model_same : model_at (tests_and_models_with r h) model ≡ model_at h model
   cell : cell_at (rows_after change b.columns b.rows) (test_at h test) (model_at h model)
       ≡ cell_at b.rows (test_at h test) (model_at h model)
 
-module _ (h : Held) (b : BoardContent) (named : IsNamed b.rows b.columns h)
+module _ (h : TestsAndModels) (b : BoardContent) (named : IsNamed b.rows b.columns h)
     (wide : AreWide (length b.columns) b.rows) (test model : List ℕ) (was : AreThere h test model)
   where
     abbrev i : ℕ
@@ -77,12 +77,12 @@ module _ (h : Held) (b : BoardContent) (named : IsNamed b.rows b.columns h)
 
     -- a test that is put
     test_moved : (index : ℕ) (new : Test) (at : ℕ) (name : _) → index ≤ length h.tests
-        → HasNamesApart h → HasNamesApart (held_with (made.PutTest index new) h)
-        → AreThere (held_with (made.PutTest index new) h) test model
+        → HasNamesApart h → HasNamesApart (tests_and_models_with (made.PutTest index new) h)
+        → AreThere (tests_and_models_with (made.PutTest index new) h) test model
         → IsMoved h b (PutTest at name) (made.PutTest index new) test model
     test_moved index new at name le before after now =
         let now_name : (now.content).name ≡ test = found_name (λ t. t.name) test (put_at index new h.tests) now.content now.test_is in
-        let k : ℕ = test_at (held_with (made.PutTest index new) h) test in
+        let k : ℕ = test_at (tests_and_models_with (made.PutTest index new) h) test in
         let same : k ≡ i = put_index (λ t. t.name) h.tests index new i k was.content now.content le before.tests after.tests was.test_is now.test_is (test_name ∙ sym now_name) in
         record {
           slice_is =
@@ -99,12 +99,12 @@ module _ (h : Held) (b : BoardContent) (named : IsNamed b.rows b.columns h)
     -- a model that is put
     model_moved : (index next : ℕ) (new : NamedModel) (at : ℕ) (name items : _)
         → index ≤ length h.models → HasNamesApart h
-        → HasNamesApart (held_with (made.PutModel index new next) h)
-        → AreThere (held_with (made.PutModel index new next) h) test model
+        → HasNamesApart (tests_and_models_with (made.PutModel index new next) h)
+        → AreThere (tests_and_models_with (made.PutModel index new next) h) test model
         → IsMoved h b (PutModel at name items) (made.PutModel index new next) test model
     model_moved index next new at name items le before after now =
         let now_name : (now.under).name ≡ model = found_name (λ m. m.name) model (put_at index new h.models) now.under now.model_is in
-        let k : ℕ = model_at (held_with (made.PutModel index new next) h) model in
+        let k : ℕ = model_at (tests_and_models_with (made.PutModel index new next) h) model in
         let same : k ≡ j = put_index (λ m. m.name) h.models index new j k was.under now.under le before.models after.models was.model_is now.model_is (model_name ∙ sym now_name) in
         record {
           slice_is =
@@ -122,7 +122,7 @@ module _ (h : Held) (b : BoardContent) (named : IsNamed b.rows b.columns h)
     abbrev ShownAfter : NameChange → List CellIndex → Replacement → Option (Option Outcome) → Type 0
     ShownAfter change cells r cell =
         cell_at (fold open_cell (rows_after change b.columns b.rows) cells)
-        (test_at (held_with r h) test) (model_at (held_with r h) model) ≡ cell
+        (test_at (tests_and_models_with r h) test) (model_at (tests_and_models_with r h) model) ≡ cell
 
     module _ (whole : Bool) (change : NameChange) (cells : List CellIndex) (r : Replacement)
         (lists : ListsReached h whole r cells) (moved : IsMoved h b change r test model) where
@@ -135,71 +135,71 @@ module _ (h : Held) (b : BoardContent) (named : IsNamed b.rows b.columns h)
       at_moved : (cell : Option (Option Outcome)) → cell_at rows_now i j ≡ cell
           → ShownAfter change cells r cell
       at_moved cell e =
-          ap (λ (n : ℕ). cell_at rows_now n (model_at (held_with r h) model)) moved.test_same
+          ap (λ (n : ℕ). cell_at rows_now n (model_at (tests_and_models_with r h) model)) moved.test_same
           ∙ (ap (λ (n : ℕ). cell_at rows_now i n) moved.model_same ∙ e)
 
       kept_put : (IsTrue (whole && is_of r i j) → ⊥)
-          → slice_named h test model ≡ slice_named (held_with r h) test model
+          → slice_named h test model ≡ slice_named (tests_and_models_with r h) test model
           → ShownAfter change cells r (cell_at b.rows i j)
       kept_put part same =
-          let not_reached : IsReached h whole r i j → ⊥ = elim [ inl put ↦ part put | inr differ ↦ differ (same ∙ sym moved.slice_is) ] in
+          let not_reached : IsCellReached h whole r i j → ⊥ = elim [ inl put ↦ part put | inr differ ↦ differ (same ∙ sym moved.slice_is) ] in
           at_moved (cell_at b.rows i j) (opened_other cells (rows_after change b.columns b.rows)
           here
           (λ k. not_reached ((lists.exact here).0 k).1) ∙ moved.cell)
 
       opened_put : (x : Option Outcome) → cell_at b.rows i j ≡ Some x
-          → i < length (held_with r h).tests → j < length (held_with r h).models
+          → i < length (tests_and_models_with r h).tests → j < length (tests_and_models_with r h).models
           → IsTrue (whole && is_of r i j)
-          ⊎ (slice_named h test model ≡ slice_named (held_with r h) test model → ⊥)
+          ⊎ (slice_named h test model ≡ slice_named (tests_and_models_with r h) test model → ⊥)
           → ShownAfter change cells r (Some None)
       opened_put x there test_lt model_lt reached =
-          let is_reached : IsReached h whole r i j = elim reached [ inl put ↦ inl put | inr differ ↦ inr (λ same. differ (same ∙ moved.slice_is)) ] in
+          let is_reached : IsCellReached h whole r i j = elim reached [ inl put ↦ inl put | inr differ ↦ inr (λ same. differ (same ∙ moved.slice_is)) ] in
           at_moved (Some None) (opened_here cells (rows_after change b.columns b.rows) here x
           ((lists.exact here).1 ((test_lt, model_lt), is_reached)) (moved.cell ∙ there))
 
     -- ---- something is dropped
 
     test_dropped : (index : ℕ) → HasNamesApart h
-        → AreThere (held_with (made.DropTest index) h) test model
-        → skip index (test_at (held_with (made.DropTest index) h) test) ≡ i
+        → AreThere (tests_and_models_with (made.DropTest index) h) test model
+        → skip index (test_at (tests_and_models_with (made.DropTest index) h) test) ≡ i
     test_dropped index before now =
         let now_name : (now.content).name ≡ test = found_name (λ t. t.name) test (remove h.tests index) now.content now.test_is in
         removed_index (λ t. t.name) h.tests index i
-        (test_at (held_with (made.DropTest index) h) test)
+        (test_at (tests_and_models_with (made.DropTest index) h) test)
         was.content now.content before.tests was.test_is now.test_is (test_name ∙ sym now_name)
 
     model_dropped : (index : ℕ) → HasNamesApart h
-        → AreThere (held_with (made.DropModel index) h) test model
-        → skip index (model_at (held_with (made.DropModel index) h) model) ≡ j
+        → AreThere (tests_and_models_with (made.DropModel index) h) test model
+        → skip index (model_at (tests_and_models_with (made.DropModel index) h) model) ≡ j
     model_dropped index before now =
         let now_name : (now.under).name ≡ model = found_name (λ m. m.name) model (remove h.models index) now.under now.model_is in
         removed_index (λ m. m.name) h.models index j
-        (model_at (held_with (made.DropModel index) h) model) was.under now.under before.models
+        (model_at (tests_and_models_with (made.DropModel index) h) model) was.under now.under before.models
         was.model_is now.model_is (model_name ∙ sym now_name)
 
     kept_test_drop : (at index : ℕ) (cells : List CellIndex) → at ≡ index → cells ≡ []
-        → HasNamesApart h → AreThere (held_with (made.DropTest index) h) test model
+        → HasNamesApart h → AreThere (tests_and_models_with (made.DropTest index) h) test model
         → ShownAfter (DropTest at) cells (made.DropTest index) (cell_at b.rows i j)
     kept_test_drop at index cells same none before now =
-        rw (none, same) (dropped_row index b.rows (test_at (held_with (made.DropTest index) h) test)
+        rw (none, same) (dropped_row index b.rows (test_at (tests_and_models_with (made.DropTest index) h) test)
         j
         ∙ ap (λ (n : ℕ). cell_at b.rows n j) (test_dropped index before now))
 
     kept_model_drop : (at index : ℕ) (cells : List CellIndex) → at ≡ index → cells ≡ []
-        → HasNamesApart h → AreThere (held_with (made.DropModel index) h) test model
+        → HasNamesApart h → AreThere (tests_and_models_with (made.DropModel index) h) test model
         → ShownAfter (DropModel at) cells (made.DropModel index) (cell_at b.rows i j)
     kept_model_drop at index cells same none before now =
         rw (none, same) (narrow_cell index b.rows i
-        (model_at (held_with (made.DropModel index) h) model) ∙ ap
+        (model_at (tests_and_models_with (made.DropModel index) h) model) ∙ ap
         (λ (n : ℕ). cell_at b.rows i n) (model_dropped index before now))
 
     -- ---- any edit
 
     pub kept_cell : (whole : Bool) (change : NameChange) (cells : List CellIndex) (r : Replacement)
-        → Announces h whole change cells r → HasNamesApart h → HasNamesApart (held_with r h)
-        → AreThere (held_with r h) test model
+        → Announces h whole change cells r → HasNamesApart h → HasNamesApart (tests_and_models_with r h)
+        → AreThere (tests_and_models_with r h) test model
         → (IsTrue (whole && is_of r i j) → ⊥)
-        → slice_named h test model ≡ slice_named (held_with r h) test model
+        → slice_named h test model ≡ slice_named (tests_and_models_with r h) test model
         → ShownAfter change cells r (cell_at b.rows i j)
     kept_cell whole (PutTest at name) cells (made.PutTest index new) a before after now part same =
         kept_put whole (PutTest at name) cells (made.PutTest index new) a.3
@@ -252,12 +252,12 @@ module _ (h : Held) (b : BoardContent) (named : IsNamed b.rows b.columns h)
     reached_whole whole same e = (and_true whole same e).1
 
     opened_test_drop : (whole : Bool) (index : ℕ) → HasNamesApart h
-        → AreThere (held_with (made.DropTest index) h) test model
+        → AreThere (tests_and_models_with (made.DropTest index) h) test model
         → IsTrue (whole && is_of (made.DropTest index) i j)
         ⊎ (slice_named h test model
-        ≡ slice_named (held_with (made.DropTest index) h) test model → ⊥) → ⊥
+        ≡ slice_named (tests_and_models_with (made.DropTest index) h) test model → ⊥) → ⊥
     opened_test_drop whole index before now reached =
-        let k : ℕ = test_at (held_with (made.DropTest index) h) test in
+        let k : ℕ = test_at (tests_and_models_with (made.DropTest index) h) test in
         let same : skip index k ≡ i = test_dropped index before now in
         elim reached [
           | inl put ↦ skip_past index k (same ∙ eqb-true i index
@@ -267,12 +267,12 @@ module _ (h : Held) (b : BoardContent) (named : IsNamed b.rows b.columns h)
         ]
 
     opened_model_drop : (whole : Bool) (index : ℕ) → HasNamesApart h
-        → AreThere (held_with (made.DropModel index) h) test model
+        → AreThere (tests_and_models_with (made.DropModel index) h) test model
         → IsTrue (whole && is_of (made.DropModel index) i j)
         ⊎ (slice_named h test model
-        ≡ slice_named (held_with (made.DropModel index) h) test model → ⊥) → ⊥
+        ≡ slice_named (tests_and_models_with (made.DropModel index) h) test model → ⊥) → ⊥
     opened_model_drop whole index before now reached =
-        let k : ℕ = model_at (held_with (made.DropModel index) h) model in
+        let k : ℕ = model_at (tests_and_models_with (made.DropModel index) h) model in
         let same : skip index k ≡ j = model_dropped index before now in
         elim reached [
           | inl put ↦ skip_past index k (same ∙ eqb-true j index
@@ -284,24 +284,24 @@ module _ (h : Held) (b : BoardContent) (named : IsNamed b.rows b.columns h)
 
     opened_by_put : (whole : Bool) (change : NameChange) (cells : List CellIndex) (r : Replacement)
         → ListsReached h whole r cells → IsMoved h b change r test model
-        → AreThere (held_with r h) test model
+        → AreThere (tests_and_models_with r h) test model
         → IsTrue (whole && is_of r i j)
-        ⊎ (slice_named h test model ≡ slice_named (held_with r h) test model → ⊥)
+        ⊎ (slice_named h test model ≡ slice_named (tests_and_models_with r h) test model → ⊥)
         → ShownAfter change cells r (Some None)
     opened_by_put whole change cells r lists moved now reached =
         let there = cell_there (cell_at b.rows i j) refl in
-        let test_lt = below (held_with r h).tests (test_at (held_with r h) test) now.content now.test_is in
-        let model_lt = below (held_with r h).models (model_at (held_with r h) model) now.under now.model_is in
+        let test_lt = below (tests_and_models_with r h).tests (test_at (tests_and_models_with r h) test) now.content now.test_is in
+        let model_lt = below (tests_and_models_with r h).models (model_at (tests_and_models_with r h) model) now.under now.model_is in
         opened_put whole change cells r lists moved there.0 there.1
-        (subst (λ (n : ℕ). n < length (held_with r h).tests) moved.test_same test_lt)
-        (subst (λ (n : ℕ). n < length (held_with r h).models) moved.model_same model_lt) reached
+        (subst (λ (n : ℕ). n < length (tests_and_models_with r h).tests) moved.test_same test_lt)
+        (subst (λ (n : ℕ). n < length (tests_and_models_with r h).models) moved.model_same model_lt) reached
 
     pub reached_cell : (whole : Bool) (change : NameChange) (cells : List CellIndex)
         (r : Replacement)
-        → Announces h whole change cells r → HasNamesApart h → HasNamesApart (held_with r h)
-        → AreThere (held_with r h) test model
+        → Announces h whole change cells r → HasNamesApart h → HasNamesApart (tests_and_models_with r h)
+        → AreThere (tests_and_models_with r h) test model
         → IsTrue (whole && is_of r i j)
-        ⊎ (slice_named h test model ≡ slice_named (held_with r h) test model → ⊥)
+        ⊎ (slice_named h test model ≡ slice_named (tests_and_models_with r h) test model → ⊥)
         → ShownAfter change cells r (Some None)
     reached_cell whole (PutTest at name) cells (made.PutTest index new) a before after now reached =
         opened_by_put whole (PutTest at name) cells (made.PutTest index new) a.3

@@ -10,10 +10,10 @@ use Rattle.memo_core.specs.declared.keys.Input.{Input}
 use Rattle.memo_core.specs.declared.claims.Finish.{Finish}
 use Rattle.memo_core.specs.declared.claims.Finish.TheVariants.{Unknown, Stale, Same, Stored}
 use Rattle.memo_core.specs.Names.{same_node}
-use Rattle.memo_core.specs.Graph.{Memo, Net, stored_at, at, present_inputs, input_nodes, put_memo, IsSettled}
+use Rattle.memo_core.specs.Graph.{Memo, Net, stored_output, at, present_inputs, input_nodes, put_memo, IsSettled}
 use Rattle.memo_core.specs.Right.{ArePresent}
-use Rattle.memo_core.specs.Step.{OpenClaim, State, Return, Has, claim_of, without_claim, IsStale, AreNumbered, Accepts, Finishes, Gives, Loses}
-use Rattle.memo_core.specs.Run.{Bench, Event, Edit, Claim, NoClaim, Returned, Lose, Renew, Refused, IsFreshFrom, IsStart, Meaning, Run, Step, state_in}
+use Rattle.memo_core.specs.Step.{OpenClaim, MemoState, Return, Has, claim_of, without_claim, IsStale, AreClaimsNumbered, Accepts, FinishesReturn, Gives, Loses}
+use Rattle.memo_core.specs.Run.{Bench, Event, Edit, Claim, NoClaim, Returned, Lose, Renew, Refused, IsFreshFrom, IsNewBench, Meaning, Run, Step, state_in}
 use Rattle.memo_core.specs.Work.{IsJobEvent}
 use Rattle.memo_core.proofs.Exact.{AreApart, run_apart}
 use Rattle.memo_core.proofs.Headline.{settled_stays, same_present}
@@ -66,25 +66,25 @@ module _ {V G : Type 0} (net : Net G) (ms : List (Memo V)) (new : Memo V)
   values_stay (Part a b ∷ ks) vs s p = values_stay ks vs s p
   values_stay (Output n x ∷ ks) [] s p = p
   values_stay (Output n x ∷ ks) (v ∷ vs) s p = (
-    ((p.0).0, ap (stored_at x) (put_other new n ms (other n s.0)) ∙ (p.0).1),
+    ((p.0).0, ap (stored_output x) (put_other new n ms (other n s.0)) ∙ (p.0).1),
     values_stay ks vs s.1 p.1,
   )
 
 -- the node is used and its inputs are settled, and these are its present inputs
-pub record IsReady {V G : Type 0} (s : State V G) (n : Node) (inputs : List Input) : Type 0 where
+pub record IsReady {V G : Type 0} (s : MemoState V G) (n : Node) (inputs : List Input) : Type 0 where
   pub used : Has s.net.used n
   pub settled : Each (IsSettled s.net s.memos) (input_nodes (s.net.inputs n))
   pub present : inputs ≡ present_inputs s.net s.memos (s.net.inputs n)
 
 -- what the job of a node is given now
-pub record IsJobNow {V G : Type 0} (s : State V G) (n : Node) (given : G) (keys : List Key)
+pub record IsJobNow {V G : Type 0} (s : MemoState V G) (n : Node) (given : G) (keys : List Key)
     (values : List V) : Type 0 where
   pub gives : s.net.gives n given ≡ true
   pub keys_are : keys ≡ s.net.inputs n
   pub settled : Each (IsSettled s.net s.memos) (input_nodes (s.net.inputs n))
   pub present : ArePresent (at s.memos) (s.net.inputs n) values
 
-module _ {V G : Type 0} (old new : State V G) (r : Return V G)
+module _ {V G : Type 0} (old new : MemoState V G) (r : Return V G)
     (fresh : IsFreshFrom old.memos old.claims) (a : Accepts old r new) where
   abbrev stored : Memo V
   stored = record { node = r.node; inputs = a.claim.inputs; outputs = a.outputs }
@@ -100,7 +100,7 @@ module _ {V G : Type 0} (old new : State V G) (r : Return V G)
       each_on (IsSettled old.net old.memos) (IsSettled new.net new.memos) accept_stays ns s
 
   pub net_stays : new.net ≡ old.net
-  net_stays = ap (λ (s : State V G). s.net) a.after
+  net_stays = ap (λ (s : MemoState V G). s.net) a.after
 
   accept_ready : (n : Node) (is : List Input) → IsReady old n is → IsReady new n is
   accept_ready n is h =
@@ -132,20 +132,20 @@ module _ {V G : Type 0} (old new : State V G) (r : Return V G)
 
 -- ---- claims above a number are ready
 
-abbrev pub IsReadyAbove : {V G : Type 0} → ℕ → State V G → OpenClaim → Type 0
+abbrev pub IsReadyAbove : {V G : Type 0} → ℕ → MemoState V G → OpenClaim → Type 0
 IsReadyAbove first s c = first < c.number → IsReady s c.node c.inputs
 
-abbrev pub AreReadyAbove : {V G : Type 0} → ℕ → State V G → Type 0
+abbrev pub AreReadyAbove : {V G : Type 0} → ℕ → MemoState V G → Type 0
 AreReadyAbove first s = Each (IsReadyAbove first s) s.claims
 
 -- a ready claim is not stale
-pub not_stale : {V G : Type 0} (s : State V G) (c : OpenClaim) (stamp : Option ℕ)
+pub not_stale : {V G : Type 0} (s : MemoState V G) (c : OpenClaim) (stamp : Option ℕ)
     → IsReady s c.node c.inputs → IsStale s c stamp → ⊥
 not_stale s c None ready stale = stale ready.used
 not_stale s c (Some stamp) ready stale = stale.1 ready.present
 
 -- where the net and the memos are the same
-ready_same : {V G : Type 0} (old new : State V G) (n : Node) (is : List Input) → new.net ≡ old.net
+ready_same : {V G : Type 0} (old new : MemoState V G) (n : Node) (is : List Input) → new.net ≡ old.net
     → new.memos ≡ old.memos → IsReady old n is → IsReady new n is
 ready_same old new n is net memos h =
     record {
@@ -154,14 +154,14 @@ ready_same old new n is net memos h =
       present = rw (net, memos) h.present;
     }
 
-above_same : {V G : Type 0} (first : ℕ) (old new : State V G) (cs : List OpenClaim)
+above_same : {V G : Type 0} (first : ℕ) (old new : MemoState V G) (cs : List OpenClaim)
     → new.net ≡ old.net → new.memos ≡ old.memos → Each (IsReadyAbove first old) cs
     → Each (IsReadyAbove first new) cs
 above_same first old new cs net memos all =
     each_on (IsReadyAbove first old) (IsReadyAbove first new)
     (λ c f lt. ready_same old new c.node c.inputs net memos (f lt)) cs all
 
-above_closed : {V G : Type 0} (first : ℕ) (old new : State V G) (n : ℕ)
+above_closed : {V G : Type 0} (first : ℕ) (old new : MemoState V G) (n : ℕ)
     → new ≡ record {
       net = old.net;
       memos = old.memos;
@@ -169,22 +169,22 @@ above_closed : {V G : Type 0} (first : ℕ) (old new : State V G) (n : ℕ)
       taken = old.taken;
     } → AreReadyAbove first old → AreReadyAbove first new
 above_closed {V} {G} first old new n is all =
-    let later = above_same first old new old.claims (ap (λ (s : State V G). s.net) is) (ap (λ (s : State V G). s.memos) is) all in
+    let later = above_same first old new old.claims (ap (λ (s : MemoState V G). s.net) is) (ap (λ (s : MemoState V G). s.memos) is) all in
     subst (λ (cs : List OpenClaim). Each (IsReadyAbove first new) cs)
-    (sym (ap (λ (s : State V G). s.claims) is))
+    (sym (ap (λ (s : MemoState V G). s.claims) is))
     (each_closed (IsReadyAbove first new) n old.claims later)
 
-above_accepted : {V G : Type 0} (first : ℕ) (old new : State V G) (r : Return V G)
+above_accepted : {V G : Type 0} (first : ℕ) (old new : MemoState V G) (r : Return V G)
     → IsFreshFrom old.memos old.claims → AreReadyAbove first old → Accepts old r new
     → AreReadyAbove first new
 above_accepted {V} {G} first old new r fresh all a =
     let later = each_on (IsReadyAbove first old) (IsReadyAbove first new) (λ c f lt. accept_ready old new r fresh a c.node c.inputs (f lt)) old.claims all in
     subst (λ (cs : List OpenClaim). Each (IsReadyAbove first new) cs)
-    (sym (ap (λ (s : State V G). s.claims) a.after)) (each_closed (IsReadyAbove first new)
+    (sym (ap (λ (s : MemoState V G). s.claims) a.after)) (each_closed (IsReadyAbove first new)
     r.claim old.claims later)
 
-above_finished : {V G : Type 0} (first : ℕ) (old new : State V G) (r : Return V G) (f : Finish)
-    → IsFreshFrom old.memos old.claims → AreReadyAbove first old → Finishes old r f new
+above_finished : {V G : Type 0} (first : ℕ) (old new : MemoState V G) (r : Return V G) (f : Finish)
+    → IsFreshFrom old.memos old.claims → AreReadyAbove first old → FinishesReturn old r f new
     → AreReadyAbove first new
 above_finished first old new r Unknown fresh all h = rw h.1 all
 above_finished first old new r (Stale stamp) fresh all h =
@@ -193,27 +193,27 @@ above_finished first old new r Same fresh all h = above_accepted first old new r
 above_finished first old new r (Stored names) fresh all h =
     above_accepted first old new r fresh all h.0
 
-above_lost : {V G : Type 0} (first : ℕ) (old new : State V G) (n : ℕ) (b : Bool)
+above_lost : {V G : Type 0} (first : ℕ) (old new : MemoState V G) (n : ℕ) (b : Bool)
     → AreReadyAbove first old → Loses old n b new → AreReadyAbove first new
 above_lost first old new n true all h = above_closed first old new n h.2 all
 above_lost first old new n false all h = rw h.1 all
 
-pub above_given : {V G : Type 0} (first : ℕ) (old new : State V G) (number : ℕ) (n : Node)
+pub above_given : {V G : Type 0} (first : ℕ) (old new : MemoState V G) (number : ℕ) (n : Node)
     (given : G) (keys : List Key) (values : List V) → AreReadyAbove first old
     → Gives old number n given keys values new → AreReadyAbove first new
 above_given {V} {G} first old new number n given keys values all g =
-    let net : new.net ≡ old.net = ap (λ (s : State V G). s.net) g.after in
-    let memos : new.memos ≡ old.memos = ap (λ (s : State V G). s.memos) g.after in
+    let net : new.net ≡ old.net = ap (λ (s : MemoState V G). s.net) g.after in
+    let memos : new.memos ≡ old.memos = ap (λ (s : MemoState V G). s.memos) g.after in
     let claim : OpenClaim = record { number = number; node = n; inputs = present_inputs old.net old.memos (old.net.inputs n) } in
     let ready : IsReady old n claim.inputs = record { used = g.work.used; settled = g.work.inputs_settled; present = refl } in
     let later = above_same first old new old.claims net memos all in
     subst (λ (cs : List OpenClaim). Each (IsReadyAbove first new) cs)
-    (sym (ap (λ (s : State V G). s.claims) g.after))
+    (sym (ap (λ (s : MemoState V G). s.claims) g.after))
     (each_last (IsReadyAbove first new) old.claims claim later
     (λ lt. ready_same old new n claim.inputs net memos ready))
 
 -- claims whose numbers were given are not above the last number
-pub above_none : {V G : Type 0} (s : State V G) (cs : List OpenClaim) → AreNumbered s.taken cs
+pub above_none : {V G : Type 0} (s : MemoState V G) (cs : List OpenClaim) → AreClaimsNumbered s.taken cs
     → Each (IsReadyAbove s.taken s) cs
 above_none s [] a = tt
 above_none s (c ∷ cs) a = ((λ lt. absurd (omega (arith, lt, a.0))), above_none s cs a.1)
@@ -245,7 +245,7 @@ module _ {T E V G : Type 0} (means : Meaning T E V G) where
       all)
 
   pub apart_after : (es : List (Event E V G)) (first end : Bench T V)
-      → IsStart means.is_valid means.net first → Run means first es end
+      → IsNewBench means.is_valid means.net first → Run means first es end
       → AreApart (state_in means end)
   apart_after es first end s run =
       run_apart means es first end

@@ -7,8 +7,8 @@ use Rattle.bench_values.specs.Values.{NodeContent, outcome_in}
 use Rattle.verdict.specs.declared.answer.Outcome.{Outcome}
 use Rattle.cells.specs.declared.shown.Shown.{Shown}
 use Rattle.cells.specs.declared.shown.Shown.TheVariants.{Settled, Open, NoCell}
-use Rattle.cells.specs.Cells.{Carries, IsSettledCell, IsOpenCell, IsShown}
-use Rattle.bench_instance.specs.StampedTexts.{net_of, verdict_of}
+use Rattle.cells.specs.Cells.{Carries, IsSettledCell, IsOpenCell, IsCellShown}
+use Rattle.bench_instance.specs.StampedTexts.{stamped_net, verdict_of}
 use Rattle.bench_instance.specs.Lemmas.StampedLaws.{since_itself}
 use Rattle.bench_laws.specs.Live.{live_cells}
 use Rattle.bench_laws.specs.There.{LiveState}
@@ -17,24 +17,24 @@ use Rattle.bench_laws.proofs.Runs.{sound_after}
 use Rattle.bench_laws.proofs.SameVerdicts.{same_verdicts}
 
 -- two benches with the same nodes, memos and verdicts
-module _ (b c : LiveState) (nodes : net_of c.texts ≡ net_of b.texts) (memos : c.memos ≡ b.memos)
+module _ (b c : LiveState) (nodes : stamped_net c.texts ≡ stamped_net b.texts) (memos : c.memos ≡ b.memos)
     (verdicts : (test model : List ℕ)
     → verdict_of c.texts test model ≡ verdict_of b.texts test model) where
-  settled_alike : (n : Node) → IsSettled (net_of b.texts) b.memos n
-      → IsSettled (net_of c.texts) c.memos n
+  settled_alike : (n : Node) → IsSettled (stamped_net b.texts) b.memos n
+      → IsSettled (stamped_net c.texts) c.memos n
   settled_alike n s =
       subst (λ (net : Net GivenContent). IsSettled net c.memos n) (sym nodes)
-      (subst (λ (ms : List (Memo NodeContent)). IsSettled (net_of b.texts) ms n) (sym memos) s)
+      (subst (λ (ms : List (Memo NodeContent)). IsSettled (stamped_net b.texts) ms n) (sym memos) s)
 
-  settled_before : (n : Node) → IsSettled (net_of c.texts) c.memos n
-      → IsSettled (net_of b.texts) b.memos n
+  settled_before : (n : Node) → IsSettled (stamped_net c.texts) c.memos n
+      → IsSettled (stamped_net b.texts) b.memos n
   settled_before n s =
       subst (λ (net : Net GivenContent). IsSettled net b.memos n) nodes
-      (subst (λ (ms : List (Memo NodeContent)). IsSettled (net_of c.texts) ms n) memos s)
+      (subst (λ (ms : List (Memo NodeContent)). IsSettled (stamped_net c.texts) ms n) memos s)
 
   settled_cell : (test model : List ℕ) (o : Outcome)
-      → IsSettledCell net_of live_cells b test model o
-      → IsSettledCell net_of live_cells c test model o
+      → IsSettledCell stamped_net live_cells b test model o
+      → IsSettledCell stamped_net live_cells c test model o
   settled_cell test model o h = record {
     verdict = h.verdict;
     is = verdicts test model ∙ h.is;
@@ -44,8 +44,8 @@ module _ (b c : LiveState) (nodes : net_of c.texts ≡ net_of b.texts) (memos : 
         h.carries;
   }
 
-  open_cell : (test model : List ℕ) → IsOpenCell net_of live_cells b test model
-      → IsOpenCell net_of live_cells c test model
+  open_cell : (test model : List ℕ) → IsOpenCell stamped_net live_cells b test model
+      → IsOpenCell stamped_net live_cells c test model
   open_cell test model h = record {
     verdict = h.verdict;
     is = verdicts test model ∙ h.is;
@@ -53,7 +53,7 @@ module _ (b c : LiveState) (nodes : net_of c.texts ≡ net_of b.texts) (memos : 
   }
 
   shown_alike : (test model : List ℕ) (shown : Shown Outcome)
-      → IsShown net_of live_cells b test model shown → IsShown net_of live_cells c test model shown
+      → IsCellShown stamped_net live_cells b test model shown → IsCellShown stamped_net live_cells c test model shown
   shown_alike test model (Settled o) h = settled_cell test model o.now h
   shown_alike test model Open h = open_cell test model h
   shown_alike test model NoCell h = verdicts test model ∙ h

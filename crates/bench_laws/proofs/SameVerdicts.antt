@@ -28,7 +28,7 @@ use Rattle.bench_parts.specs.Built.{AreTestRows}
 use Rattle.bench_parts.specs.Contents.{histories}
 use Rattle.bench_edits.specs.Readings.{reading_by, readings_of}
 use Rattle.bench_instance.specs.declared.stamped_texts.StampedTexts.{StampedTexts}
-use Rattle.bench_instance.specs.StampedTexts.{IsSound, HasTextsOf, state_of, verdict_by, verdict_of}
+use Rattle.bench_instance.specs.StampedTexts.{AreSoundTexts, HasTextsOf, stamped_state, verdict_by, verdict_of}
 
 -- ---- the verdicts among slots
 
@@ -245,7 +245,7 @@ row_count last (r ∷ rs) (t ∷ ts) [] all = absurd all
 row_count last (r ∷ rs) (t ∷ ts) (l ∷ ls) all =
     let more = row_count last rs ts ls all.1 in omega (arith, more)
 
-verdicts_of : (t : StampedTexts) → IsSound t
+verdicts_of : (t : StampedTexts) → AreSoundTexts t
     → verdicts (used t.parts.table)
     ≡ all_verdicts t.parts.table.tests.items (model_ids t.parts.table.models.items)
 verdicts_of t sound =
@@ -254,10 +254,10 @@ verdicts_of t sound =
     let read = readings_of table.models.items t.texts.models.items in
     used_verdicts table.slots.items table.tests.items
     ∙ ap (λ (is : List ℕ). all_verdicts table.tests.items is)
-    (ap models_of (parts.built).slots ∙ all_models (histories (state_of t)) read ∙ ids_read
+    (ap models_of (parts.built).slots ∙ all_models (histories (stamped_state t)) read ∙ ids_read
     table.models.items t.texts.models.items parts.each_model)
 
-pub same_verdicts : (t u : StampedTexts) → IsSound t → IsSound u → HasTextsOf t u
+pub same_verdicts : (t u : StampedTexts) → AreSoundTexts t → AreSoundTexts u → HasTextsOf t u
     → used u.parts.table ≡ used t.parts.table → (test model : List ℕ)
     → verdict_of u test model ≡ verdict_of t test model
 same_verdicts t u sound later same nodes test model =

@@ -8,8 +8,8 @@ use Rattle.memo_core.specs.declared.claims.Finish.{Finish}
 use Rattle.memo_core.specs.declared.claims.Finish.TheVariants.{Unknown, Stale, Same, Stored}
 use Rattle.memo_core.specs.Graph.{at, present_inputs}
 use Rattle.memo_core.specs.Right.{IsRightMemo}
-use Rattle.memo_core.specs.Step.{OpenClaim, State, Return, without_claim, Accepts, Finishes, Gives, Loses}
-use Rattle.memo_core.specs.Run.{Bench, Event, Edit, Claim, NoClaim, Returned, Lose, Renew, Refused, IsKept, IsStart, Meaning, Run, Step, counted, state_in}
+use Rattle.memo_core.specs.Step.{OpenClaim, MemoState, Return, without_claim, Accepts, FinishesReturn, Gives, Loses}
+use Rattle.memo_core.specs.Run.{Bench, Event, Edit, Claim, NoClaim, Returned, Lose, Renew, Refused, IsLawfulMeaning, IsNewBench, Meaning, Run, Step, counting_on, state_in}
 use Rattle.memo_core.proofs.Exact.{run_apart}
 use Rattle.memo_core.proofs.Headline.{stamps_low}
 use Rattle.memo_core.proofs.Honest.{step_goes}
@@ -18,7 +18,7 @@ use Rattle.memo_core.proofs.Runs.{RightState, step_right}
 use Rattle.bench_values.specs.Givens.{GivenContent}
 use Rattle.bench_values.specs.Values.{NodeContent}
 use Rattle.bench_texts.specs.declared.edit.Edit.{Edit as Code}
-use Rattle.bench_instance.specs.StampedTexts.{IsSound, net_of}
+use Rattle.bench_instance.specs.StampedTexts.{AreSoundTexts, stamped_net}
 use Rattle.bench_laws.specs.Live.{live_meaning}
 use Rattle.bench_laws.specs.There.{LiveState}
 use Rattle.bench_laws.specs.Stamps.{AreLow, HasLowStamps, ChangedOutputIsNewer}
@@ -39,7 +39,7 @@ each_last P (y ∷ ys) x all p = (all.0, each_last P ys x all.1 p)
 abbrev IsLow : ℕ → OpenClaim → Type 0
 IsLow taken c = AreLow taken c.inputs
 
-abbrev LowClaims : {V G : Type 0} → State V G → Type 0
+abbrev LowClaims : {V G : Type 0} → MemoState V G → Type 0
 LowClaims s = Each (IsLow s.taken) s.claims
 
 inputs_later : (taken : ℕ) (is : List Input) → AreLow taken is → AreLow (taken + 1) is
@@ -51,26 +51,26 @@ claims_later : (taken : ℕ) (cs : List OpenClaim) → Each (IsLow taken) cs
 claims_later taken cs low =
     each_on (IsLow taken) (IsLow (taken + 1)) (λ c l. inputs_later taken c.inputs l) cs low
 
-accepts_low : {V G : Type 0} (old new : State V G) (r : Return V G) → LowClaims old
+accepts_low : {V G : Type 0} (old new : MemoState V G) (r : Return V G) → LowClaims old
     → Accepts old r new → LowClaims new
 accepts_low old new r low a =
     rw a.after (claims_later old.taken (without_claim r.claim old.claims)
     (each_closed (IsLow old.taken) r.claim old.claims low))
 
-finish_low : {V G : Type 0} (old new : State V G) (r : Return V G) (f : Finish) → LowClaims old
-    → Finishes old r f new → LowClaims new
+finish_low : {V G : Type 0} (old new : MemoState V G) (r : Return V G) (f : Finish) → LowClaims old
+    → FinishesReturn old r f new → LowClaims new
 finish_low old new r Unknown low h = rw h.1 low
 finish_low old new r (Stale stamp) low h =
     rw h.3 (each_closed (IsLow old.taken) r.claim old.claims low)
 finish_low old new r Same low h = accepts_low old new r low h.0
 finish_low old new r (Stored names) low h = accepts_low old new r low h.0
 
-lose_low : {V G : Type 0} (old new : State V G) (n : ℕ) (b : Bool) → LowClaims old
+lose_low : {V G : Type 0} (old new : MemoState V G) (n : ℕ) (b : Bool) → LowClaims old
     → Loses old n b new → LowClaims new
 lose_low old new n true low h = rw h.2 (each_closed (IsLow old.taken) n old.claims low)
 lose_low old new n false low h = rw h.1 low
 
-gives_low : {V G : Type 0} (old new : State V G) (number : ℕ) (n : Node) (given : G)
+gives_low : {V G : Type 0} (old new : MemoState V G) (number : ℕ) (n : Node) (given : G)
     (keys : List Key) (values : List V)
     → AreLow old.taken (present_inputs old.net old.memos (old.net.inputs n)) → LowClaims old
     → Gives old number n given keys values new → LowClaims new
@@ -81,9 +81,9 @@ gives_low old new number n given keys values present low g =
 
 -- ---- any list of events
 
-module _ {T E V G : Type 0} (means : Meaning T E V G) (keeps : IsKept means) where
+module _ {T E V G : Type 0} (means : Meaning T E V G) (keeps : IsLawfulMeaning means) where
   abbrev IsRightBench : Bench T V → Type 0
-  IsRightBench b = means.is_valid b.texts × RightState (counted means b.texts) (state_in means b)
+  IsRightBench b = means.is_valid b.texts × RightState (counting_on means b.texts) (state_in means b)
 
   step_low : (old new : Bench T V) (e : Event E V G) → IsRightBench old
       → LowClaims (state_in means old) → Step means old e new → LowClaims (state_in means new)
@@ -91,14 +91,14 @@ module _ {T E V G : Type 0} (means : Meaning T E V G) (keeps : IsKept means) whe
       rw (h.1.claims, h.1.taken) (claims_later old.taken old.claims low)
   step_low old new (Claim number n given keys values) right low h =
       gives_low (state_in means old) (state_in means new) number n given keys values
-      (stamps_low (counted means old.texts) (means.net old.texts) old.memos old.taken right.1
+      (stamps_low (counting_on means old.texts) (means.net old.texts) old.memos old.taken right.1
       ((means.net old.texts).inputs n)) low h.1
   step_low old new NoClaim right low h = rw h.1 low
   step_low old new (Returned r answer) right low h =
       finish_low (state_in means old) (state_in means new) r answer low h.2
   step_low old new (Lose n answer) right low h =
       lose_low (state_in means old) (state_in means new) n answer low h.1
-  step_low old new Renew right low h = subst (λ (s : State V G). LowClaims s) (sym h.1) tt
+  step_low old new Renew right low h = subst (λ (s : MemoState V G). LowClaims s) (sym h.1) tt
   step_low old new Refused right low h = rw (h.claims, h.taken) low
 
   run_low : (es : List (Event E V G)) (old new : Bench T V) → IsRightBench old
@@ -109,10 +109,10 @@ module _ {T E V G : Type 0} (means : Meaning T E V G) (keeps : IsKept means) whe
       (step_low old h.0 e right low h.1) h.2
 
 pub low_after : (events : List (Event Code NodeContent GivenContent)) (start end : LiveState)
-    → IsStart IsSound net_of start → Run live_meaning start events end → HasLowStamps end
+    → IsNewBench AreSoundTexts stamped_net start → Run live_meaning start events end → HasLowStamps end
 low_after events start end s run =
     let right = (right_after events start end s run).1 in
-    let memo = IsRightMemo (counted live_meaning end.texts) (at end.memos) end.taken in
+    let memo = IsRightMemo (counting_on live_meaning end.texts) (at end.memos) end.taken in
     record {
       parts = right.parts;
       inputs = each_on memo (λ m. AreLow end.taken m.inputs) (λ m h. h.low) end.memos right.each;

@@ -8,9 +8,9 @@ use Rattle.outcome_texts.specs.Cells.{Cell, Settled}
 use Rattle.board.specs.declared.operation.BoardOp.{BoardOp}
 use Rattle.board.specs.declared.operation.BoardOp.TheVariants.{Edit, Settle}
 use Rattle.board.specs.declared.operation.CellIndex.{CellIndex}
-use Rattle.board.specs.Contents.{RowContent, BoardContent, cell_at, shown_cell, shown}
+use Rattle.board.specs.Contents.{RowContent, BoardContent, cell_at, shown_cell, cell_named}
 use Rattle.board.specs.Operations.{put_cell, after_operation, no_board, board_after}
-use Rattle.board.specs.Legal.{Held, nothing_held, held_after, texts_after}
+use Rattle.board.specs.Legal.{TestsAndModels, no_tests_or_models, tests_and_models_after, texts_after}
 use Rattle.board.specs.Histories.{no_contents, IsHistory}
 use Rattle.board.specs.Results.{IsResultIn, IsRightCell}
 use Rattle.board.proofs.Names.{beginning_is_legal}
@@ -47,33 +47,33 @@ settled_cell (Some (Some p)) o e = cc
 
 beginning : (ops others : List BoardOp) → IsHistory (ops ++ others) → IsHistory ops
 beginning ops others history = (
-  beginning_is_legal ops others nothing_held 0 history.0,
+  beginning_is_legal ops others no_tests_or_models 0 history.0,
   made_beginning ops others no_contents history.1,
 )
 
-result_shown : (h : Held) (test model : List ℕ) (c : Cell) (o : Outcome)
+result_shown : (h : TestsAndModels) (test model : List ℕ) (c : Cell) (o : Outcome)
     → IsRightCell h test model c → c ≡ Settled o → IsResultIn h test model o
 result_shown h test model c o right e = subst (λ (x : Cell). IsRightCell h test model x) e right
 
 module _ (ops : List BoardOp) (at : CellIndex) (outcome : _)
     (history : IsHistory (ops ++ Settle at outcome ∷ [])) (test model : List ℕ) (o : Outcome)
-    (was : shown (board_after ops) test model ≡ Settled o) where
+    (was : cell_named (board_after ops) test model ≡ Settled o) where
   abbrev after : List BoardOp
   after = ops ++ Settle at outcome ∷ []
 
-  abbrev h : Held
+  abbrev h : TestsAndModels
   h = texts_after ops
 
   before : IsHistory ops
   before = beginning ops (Settle at outcome ∷ []) history
 
   texts_same : texts_after after ≡ h
-  texts_same = fold_last held_after ops (Settle at outcome) nothing_held
+  texts_same = fold_last tests_and_models_after ops (Settle at outcome) no_tests_or_models
 
   board_is : board_after after ≡ after_operation (board_after ops) (Settle at outcome)
   board_is = fold_last after_operation ops (Settle at outcome) no_board
 
-  moved : shown (board_after after) test model
+  moved : cell_named (board_after after) test model
       ≡ shown_cell (cell_at
       (put_cell at.test at.model (Some (arc_value outcome)) (board_after ops).rows)
       (test_at h test) (model_at h model))
@@ -83,12 +83,12 @@ module _ (ops : List BoardOp) (at : CellIndex) (outcome : _)
       (λ (c : BoardContent). shown_cell (cell_at c.rows (test_at (texts_after after) test)
       (model_at (texts_after after) model))) board_is
       ∙ ap
-      (λ (g : Held). shown_cell (cell_at
+      (λ (g : TestsAndModels). shown_cell (cell_at
       (put_cell at.test at.model (Some (arc_value outcome)) (board_after ops).rows)
       (test_at g test) (model_at g model))) texts_same)
 
   -- some outcome is shown
-  some_shown : (q : Outcome) × (shown (board_after after) test model ≡ Settled q)
+  some_shown : (q : Outcome) × (cell_named (board_after after) test model ≡ Settled q)
   some_shown =
       let b : BoardContent = board_after ops in
       let here = settled_cell (cell_at b.rows (test_at h test) (model_at h model)) o (sym (shown_at h b (named_after ops before.0) test model) ∙ was) in
@@ -96,33 +96,33 @@ module _ (ops : List BoardOp) (at : CellIndex) (outcome : _)
       (still.0, moved ∙ ap shown_cell still.1)
 
   -- and it is the one before, since texts have one result
-  settle_stays : shown (board_after after) test model ≡ Settled o
+  settle_stays : cell_named (board_after after) test model ≡ Settled o
   settle_stays =
-      let new = result_shown (texts_after after) test model (shown (board_after after) test model) some_shown.0 (right_cell after history.0 test model) some_shown.1 in
-      let old = result_shown h test model (shown (board_after ops) test model) o (right_cell ops before.0 test model) was in
-      let same = one_result h test model some_shown.0 o (subst (λ (g : Held). IsResultIn g test model some_shown.0) texts_same new) old in
+      let new = result_shown (texts_after after) test model (cell_named (board_after after) test model) some_shown.0 (right_cell after history.0 test model) some_shown.1 in
+      let old = result_shown h test model (cell_named (board_after ops) test model) o (right_cell ops before.0 test model) was in
+      let same = one_result h test model some_shown.0 o (subst (λ (g : TestsAndModels). IsResultIn g test model some_shown.0) texts_same new) old in
       some_shown.1 ∙ ap Settled same
 
 one_stays : (ops : List BoardOp) (op : BoardOp) (test model : List ℕ) (o : Outcome)
     → IsHistory (ops ++ op ∷ []) → LeavesCell ops op test model
-    → shown (board_after ops) test model ≡ Settled o
-    → shown (board_after (ops ++ op ∷ [])) test model ≡ Settled o
+    → cell_named (board_after ops) test model ≡ Settled o
+    → cell_named (board_after (ops ++ op ∷ [])) test model ≡ Settled o
 one_stays ops (Edit edit) test model o history leaves was =
     keeps_unreached ops edit history test model leaves.0 leaves.1 ∙ was
 one_stays ops (Settle at outcome) test model o history leaves was =
     settle_stays ops at outcome history test model o was
 
 all_stay : (more ops : List BoardOp) (test model : List ℕ) (o : Outcome) → IsHistory (ops ++ more)
-    → AllLeaveCell ops more test model → shown (board_after ops) test model ≡ Settled o
-    → shown (board_after (ops ++ more)) test model ≡ Settled o
+    → AllLeaveCell ops more test model → cell_named (board_after ops) test model ≡ Settled o
+    → cell_named (board_after (ops ++ more)) test model ≡ Settled o
 all_stay [] ops test model o history leaves was =
-    subst (λ (l : List BoardOp). shown (board_after l) test model ≡ Settled o)
+    subst (λ (l : List BoardOp). cell_named (board_after l) test model ≡ Settled o)
     (sym (append-nil ops)) was
 all_stay (op ∷ more) ops test model o history leaves was =
     let same = append_assoc ops (op ∷ []) more in
     let later : IsHistory ((ops ++ op ∷ []) ++ more) = subst (λ (l : List BoardOp). IsHistory l) (sym same) history in
     let one = one_stays ops op test model o (beginning (ops ++ op ∷ []) more later) leaves.0 was in
-    subst (λ (l : List BoardOp). shown (board_after l) test model ≡ Settled o) same
+    subst (λ (l : List BoardOp). cell_named (board_after l) test model ≡ Settled o) same
     (all_stay more (ops ++ op ∷ []) test model o later leaves.1 one)
 
 pub stays_settled : (ops more : List BoardOp) → IsHistory (ops ++ more) → StaysSettled ops more

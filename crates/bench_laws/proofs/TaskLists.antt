@@ -7,13 +7,13 @@ use Rattle.std.proofs.lemmas.Bool.{cases_Bool}
 use Rattle.memo_core.specs.declared.claims.ClaimFault.{ClaimFault}
 use Rattle.memo_core.specs.declared.claims.Finish.{Finish}
 use Rattle.memo_core.specs.Run as core
-use Rattle.memo_core.specs.Run.{Bench, Meaning, Step, Run, IsStart}
+use Rattle.memo_core.specs.Run.{Bench, Meaning, Step, Run, IsNewBench}
 use Rattle.memo_core.specs.Work.{IsJobEvent, is_accepted}
 use Rattle.cells.specs.declared.events.Event.{Event}
 use Rattle.cells.specs.declared.events.Event.TheVariants as events
 use Rattle.cells.specs.declared.events.Reply.{Reply}
 use Rattle.cells.specs.declared.events.Reply.TheVariants as replies
-use Rattle.cells.specs.Events.{Refusing, IsJob, IsClaimed, IsReturned, IsAnswered, AreAnswered, task_given}
+use Rattle.cells.specs.Events.{Refusing, IsJob, IsClaimed, IsReturned, IsEventAnswered, AreEventsAnswered, task_given}
 use Rattle.cells.specs.Views.{Task}
 use Rattle.cells.proofs.Listed.{runs_on}
 use Rattle.bench_laws.specs.Jobs.{IsClaimOut, JobsAreAccepted}
@@ -81,7 +81,7 @@ module _ {T E V G F : Type 0} (means : Meaning T E V G) (refuses : Refusing T E 
 
   answered_given : (es : List (core.Event E V G)) (old new : Bench T V)
       (given after : List (Task V G)) (e : Event E) (r : Reply F) → IsJob e
-      → Run means first es old → IsAnswered means refuses last old given e r new after
+      → Run means first es old → IsEventAnswered means refuses last old given e r new after
       → Each (IsGiven new) given → Each (IsGiven new) after
   answered_given es old new given after (events.Edit e) r job sofar h all = absurd job
   answered_given es old new given after events.Claim (replies.Edited answer) job sofar h all =
@@ -118,7 +118,7 @@ module _ {T E V G F : Type 0} (means : Meaning T E V G) (refuses : Refusing T E 
   list_given : (run : List (core.Event E V G)) (old new : Bench T V) (given after : List (Task V G))
       (es : List (Event E)) (rs : List (Reply F)) → Each IsJob es → Run means first run old
       → Each (IsGiven old) given
-      → AreAnswered means refuses last old given es rs new after → Each (IsGiven new) after
+      → AreEventsAnswered means refuses last old given es rs new after → Each (IsGiven new) after
   list_given run old new given after [] [] jobs sofar all h = rw (h.0, h.1) all
   list_given run old new given after [] (r ∷ rs) jobs sofar all h = absurd h
   list_given run old new given after (e ∷ es) [] jobs sofar all h = absurd h
@@ -129,7 +129,7 @@ module _ {T E V G F : Type 0} (means : Meaning T E V G) (refuses : Refusing T E 
       (runs_on means run step.run first old h.0 sofar step.is)
       (answered_given run old h.0 given h.1 e r jobs.0 sofar h.2 on) h.3
 
-  return_accepted : JobsAreAccepted means → IsStart means.is_valid means.net first
+  return_accepted : JobsAreAccepted means → IsNewBench means.is_valid means.net first
       → (mid end : Bench T V) (task : Task V G) (o : Option (Task V G)) (answer : Finish)
       → IsGiven mid task → IsClaimOut mid task.claim
       → o ≡ Some task → IsReturned means refuses last mid o (Ok answer) end

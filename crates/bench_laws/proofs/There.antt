@@ -9,17 +9,17 @@ use Rattle.bench_nodes.specs.declared.table.ModelRow.{ModelRow}
 use Rattle.bench_nodes.specs.declared.table.TestRow.{TestRow}
 use Rattle.bench_texts.specs.declared.model.NamedModel.{NamedModel}
 use Rattle.bench_texts.specs.BenchTexts.{test_index, model_index}
-use Rattle.bench_texts.specs.Held.{texts_of, model_of}
-use Rattle.board.specs.Legal.{Held, held_of}
-use Rattle.board.specs.Results.{test_named, model_named, HasBoth, LacksOne, IsResultIn}
+use Rattle.bench_texts.specs.Held.{texts_of, plain_model}
+use Rattle.board.specs.Legal.{TestsAndModels, tests_and_models}
+use Rattle.board.specs.Results.{test_by_name, model_by_name, HasBoth, LacksOne, IsResultIn}
 use Rattle.board.proofs.ShownNames.{found_alike}
 use Rattle.bench_instance.specs.declared.stamped_texts.StampedTexts.{StampedTexts}
-use Rattle.bench_instance.specs.StampedTexts.{IsSound, net_of, verdict_by, verdict_of}
+use Rattle.bench_instance.specs.StampedTexts.{AreSoundTexts, stamped_net, verdict_by, verdict_of}
 use Rattle.bench_instance.specs.StampedCells.{scratch_by, from_scratch, test_of, model_of as model_in}
 use Rattle.bench_instance.specs.Lemmas.CellProofs.{cell_in, row_there, model_row_there}
 use Rattle.cells.specs.declared.shown.Shown.{Shown}
 use Rattle.cells.specs.declared.shown.Shown.TheVariants.{Settled, Open, NoCell}
-use Rattle.cells.specs.Cells.{IsSettledCell, IsShown}
+use Rattle.cells.specs.Cells.{IsSettledCell, IsCellShown}
 use Rattle.bench_laws.specs.Live.{live_cells}
 use Rattle.bench_laws.specs.There.{LiveState, IsRightShown, HasJustItsCells, ShowsRight}
 
@@ -28,7 +28,7 @@ test_names [] = refl
 test_names (t ∷ ts) = ap (λ (l : List (List ℕ)). t.name ∷ l) (test_names ts)
 
 pub model_names : (ms : List NamedModel)
-    → map (λ m. m.name) ms ≡ map (λ m. m.name) (map model_of ms)
+    → map (λ m. m.name) ms ≡ map (λ m. m.name) (map plain_model ms)
 model_names [] = refl
 model_names (m ∷ ms) = ap (λ (l : List (List ℕ)). m.name ∷ l) (model_names ms)
 
@@ -52,37 +52,37 @@ is_none (Some n) never = absurd (never n refl)
 both_none : {A : Type 0} (x : Option A) (a : A) → x ≡ None → x ≡ Some a → ⊥
 both_none x a none some = none-some a (sym none ∙ some)
 
-result_by : (h : Held) (test model : List ℕ) (o : Outcome) (c : Option Test) (m : Option NamedModel)
-    → test_named h test ≡ c → model_named h model ≡ m → scratch_by c m o → IsResultIn h test model o
+result_by : (h : TestsAndModels) (test model : List ℕ) (o : Outcome) (c : Option Test) (m : Option NamedModel)
+    → test_by_name h test ≡ c → model_by_name h model ≡ m → scratch_by c m o → IsResultIn h test model o
 result_by h test model o None m e f right = absurd right
 result_by h test model o (Some c) None e f right = absurd right
 result_by h test model o (Some c) (Some m) e f right =
     record { content = c; under = m; test_is = e; model_is = f; right = right }
 
-module _ (t : StampedTexts) (sound : IsSound t) where
-  abbrev held : Held
-  held = held_of t.texts
+module _ (t : StampedTexts) (sound : AreSoundTexts t) where
+  abbrev held : TestsAndModels
+  held = tests_and_models t.texts
 
   -- the test and the model of a name are one, by the texts and by their contents
-  test_is : (test : List ℕ) → test_named held test ≡ test_of t test
+  test_is : (test : List ℕ) → test_by_name held test ≡ test_of t test
   test_is test =
       ap (slice_get t.texts.tests.items) (found_alike (λ x. x.name) (λ c. c.name) test
       t.texts.tests.items (map content_of t.texts.tests.items) (test_names t.texts.tests.items))
 
-  model_is : (model : List ℕ) → model_named held model ≡ model_in t model
+  model_is : (model : List ℕ) → model_by_name held model ≡ model_in t model
   model_is model =
       ap (slice_get t.texts.models.items) (found_alike (λ x. x.name) (λ m. m.name) model
-      t.texts.models.items (map model_of t.texts.models.items)
+      t.texts.models.items (map plain_model t.texts.models.items)
       (model_names t.texts.models.items))
 
-  no_row : (test : List ℕ) (c : Test) → test_named held test ≡ Some c
+  no_row : (test : List ℕ) (c : Test) → test_by_name held test ≡ Some c
       → slice_get t.parts.table.tests.items (test_index test (texts_of t.texts).tests) ≡ None → ⊥
   no_row test c there none =
       let i : ℕ = test_index test (texts_of t.texts).tests in
       let row = row_there t.parts.last t.parts.table.tests.items t.texts.tests.items t.parts.locations.items i c ((sound.parts_are).built).tests (sym (test_is test) ∙ there) in
       both_none (slice_get t.parts.table.tests.items i) row.0 none row.1
 
-  no_model_row : (model : List ℕ) (m : NamedModel) → model_named held model ≡ Some m
+  no_model_row : (model : List ℕ) (m : NamedModel) → model_by_name held model ≡ Some m
       → slice_get t.parts.table.models.items (model_index model (texts_of t.texts).models) ≡ None
       → ⊥
   no_model_row model m there none =
@@ -93,7 +93,7 @@ module _ (t : StampedTexts) (sound : IsSound t) where
   lacking : (test model : List ℕ) → verdict_of t test model ≡ None → LacksOne held test model
   lacking test model none =
       let rows = no_verdict (slice_get t.parts.table.tests.items (test_index test (texts_of t.texts).tests)) (slice_get t.parts.table.models.items (model_index model (texts_of t.texts).models)) none in
-      lacks_one (test_named held test) (model_named held model)
+      lacks_one (test_by_name held test) (model_by_name held model)
       (λ c there m under. elim rows [
         | inl absent ↦ no_row test c there absent
         | inr absent ↦ no_model_row model m under absent
@@ -128,22 +128,22 @@ module _ (t : StampedTexts) (sound : IsSound t) where
       result_by held test model o (test_of t test) (model_in t model) (test_is test)
       (model_is model) right
 
-pub has_just_its_cells : (b : LiveState) → IsSound b.texts → HasJustItsCells b
+pub has_just_its_cells : (b : LiveState) → AreSoundTexts b.texts → HasJustItsCells b
 has_just_its_cells b sound test model =
     (lacking b.texts sound test model, no_cell b.texts sound test model)
 
-right_shown : (b : LiveState) (test model : List ℕ) (shown : Shown Outcome) → IsSound b.texts
-    → ((o : Outcome) → IsSettledCell net_of live_cells b test model o
+right_shown : (b : LiveState) (test model : List ℕ) (shown : Shown Outcome) → AreSoundTexts b.texts
+    → ((o : Outcome) → IsSettledCell stamped_net live_cells b test model o
     → from_scratch b.texts test model o)
-    → IsShown net_of live_cells b test model shown
-    → IsRightShown (held_of b.texts.texts) test model shown
+    → IsCellShown stamped_net live_cells b test model shown
+    → IsRightShown (tests_and_models b.texts.texts) test model shown
 right_shown b test model (Settled o) sound right is =
     result_is b.texts sound test model o.now (right o.now is)
 right_shown b test model Open sound right is = has_both b.texts sound test model is.verdict is.is
 right_shown b test model NoCell sound right is = lacking b.texts sound test model is
 
-pub shows_right : (b : LiveState) → IsSound b.texts
-    → ((test model : List ℕ) (o : Outcome) → IsSettledCell net_of live_cells b test model o
+pub shows_right : (b : LiveState) → AreSoundTexts b.texts
+    → ((test model : List ℕ) (o : Outcome) → IsSettledCell stamped_net live_cells b test model o
     → from_scratch b.texts test model o) → ShowsRight b
 shows_right b sound right test model shown is =
     right_shown b test model shown sound (λ o settled. right test model o settled) is

@@ -7,9 +7,9 @@ use Rattle.memo_core.specs.Step.{Has, names_stamped}
 use Rattle.bench_values.specs.Givens.{GivenContent}
 use Rattle.bench_values.specs.Makes.{output_names}
 use Rattle.bench_values.specs.Values.{NodeContent}
-use Rattle.bench_parts.specs.States.{given, is_given}
+use Rattle.bench_parts.specs.States.{given_to_node, is_given}
 use Rattle.bench_parts.proofs.Equality.{given_exact}
-use Rattle.bench_instance.specs.StampedTexts.{state_of}
+use Rattle.bench_instance.specs.StampedTexts.{stamped_state}
 use Rattle.bench_laws.specs.ToldOutputs.{ReturnsTellOutputs}
 
 each_later : (n : ℕ) (ns ks : List ℕ) → Each (Has ns) ks → Each (Has (n ∷ ns)) ks
@@ -48,6 +48,6 @@ returns_tell_outputs old new r names h =
     let made = h.0 in
     let among = stamped_among (old.taken + 1) (output_names r.given) made.0 a.outputs (a.values ∙ made.2) in
     record {
-      given_is = given_some (given (state_of old.texts) r.node) r.given a.of_present.given;
+      given_is = given_some (given_to_node (stamped_state old.texts) r.node) r.given a.of_present.given;
       each = subst (λ (ns : List ℕ). Each (Has (output_names r.given)) ns) (sym (h.2).1) among;
     }

@@ -18,7 +18,7 @@ use Rattle.bench_slices.specs.Slices.{Slice}
 use Rattle.bench_parts.specs.States.{keeps}
 use Rattle.cells.specs.Cells.{AllAreSettled, StandsOnBy}
 use Rattle.bench_instance.specs.declared.stamped_texts.StampedTexts.{StampedTexts}
-use Rattle.bench_instance.specs.StampedTexts.{IsSound, net_of, verdict_by, verdict_of}
+use Rattle.bench_instance.specs.StampedTexts.{AreSoundTexts, stamped_net, verdict_by, verdict_of}
 use Rattle.bench_instance.specs.StampedCells.{test_of, model_of}
 use Rattle.bench_instance.specs.Lemmas.CellProofs.{cell_in, row_there, model_row_there, all_needed, verdicts_used}
 use Rattle.bench_instance.specs.Lemmas.LeftCells.{cells_left}
@@ -76,7 +76,7 @@ slice_there (Some c) None test model e f = none_is f
 slice_there (Some c) (Some m) test model e f = (_, refl)
 
 -- where a test and a model are there, they have a verdict
-verdict_there : (t : StampedTexts) (test model : List ℕ) → IsSound t
+verdict_there : (t : StampedTexts) (test model : List ℕ) → AreSoundTexts t
     → HasParts (test_of t test) (model_of t model) → (v : Node) × (verdict_of t test model ≡ Some v)
 verdict_there t test model sound parts =
     let i : ℕ = test_index test (texts_of t.texts).tests in
@@ -90,10 +90,10 @@ verdict_there t test model sound parts =
 
 -- ---- after an edit
 
-module _ (old new : LiveState) (e : Code) (sound : IsSound old.texts)
-    (step : Step live_meaning old (Edit e) new) (all : AllAreSettled net_of old)
+module _ (old new : LiveState) (e : Code) (sound : AreSoundTexts old.texts)
+    (step : Step live_meaning old (Edit e) new) (all : AllAreSettled stamped_net old)
     (same : HaveSameSlices old.texts new.texts) where
-  sound_now : IsSound new.texts
+  sound_now : AreSoundTexts new.texts
   sound_now = (step.0).sound sound
 
   verdict_before : (test model : List ℕ) (v : Node) → verdict_of new.texts test model ≡ Some v
@@ -107,7 +107,7 @@ module _ (old new : LiveState) (e : Code) (sound : IsSound old.texts)
       was.1 ∙ sym left.0 ∙ is
 
   verdict_settled : (test model : List ℕ) (v : Node) → verdict_of new.texts test model ≡ Some v
-      → IsSettled (net_of new.texts) new.memos v
+      → IsSettled (stamped_net new.texts) new.memos v
   verdict_settled test model v is =
       let was = verdict_before test model v is in
       let left = cells_left old.texts new.texts e (old.taken + 1) test model sound step.0 (λ reached. reached (same test model)) v was in
@@ -115,17 +115,17 @@ module _ (old new : LiveState) (e : Code) (sound : IsSound old.texts)
       (state_in live_meaning new) v step.1 left.1
       (all v (verdicts_used old.texts test model v sound was))
 
-  all_settled : AllAreSettled net_of new
+  all_settled : AllAreSettled stamped_net new
   all_settled n has =
       let need = all_needed new.texts sound_now n has in
       let settled = verdict_settled need.test need.model need.verdict need.is in
-      settled_under (net_of new.texts) new.memos (need.stands).0 settled.0 need.verdict n
+      settled_under (stamped_net new.texts) new.memos (need.stands).0 settled.0 need.verdict n
       (need.stands).1 settled.1
 
   no_work : HasNoWork new
   no_work n work =
       let s = all_settled n work.used in
-      work.unmatched (settled_matches (net_of new.texts) new.memos s.0 n s.1)
+      work.unmatched (settled_matches (stamped_net new.texts) new.memos s.0 n s.1)
 
 pub unreached_needs_no_job : UnreachedNeedsNoJob
 unreached_needs_no_job events start old new e s run step all same =

@@ -19,7 +19,7 @@ use Rattle.bench_slots.specs.Slots.{PlainSlot, plain, number_at, slots_of, item_
 use Rattle.bench_slots.specs.Tables.{ModelReading, Sound, Faulty, space_slots, slots_in, all_slots}
 use Rattle.bench_slots.proofs.Lists.{has_contains}
 use Rattle.bench_parts.specs.Contents.{histories}
-use Rattle.bench_edits.specs.Kept.{IsRead, id_in, numbers_in, AreOther}
+use Rattle.bench_edits.specs.Kept.{IsReadingOfText, id_in, numbers_in, AreOther}
 use Rattle.bench_edits.specs.Owed as owed
 use Rattle.bench_edits.specs.Readings.{readings_of}
 use Rattle.bench_edits.proofs.Kept.{parts_are_kept}
@@ -27,7 +27,7 @@ use Rattle.bench_edits.proofs.Origin.{pairs_tail, pairs_head, one_index, number_
 use Rattle.bench_text_laws.specs.Orderly.{AreApart}
 use Rattle.bench_text_laws.proofs.Lists.{has_append, apart_append}
 use Rattle.bench_instance.specs.declared.stamped_texts.StampedTexts.{StampedTexts}
-use Rattle.bench_instance.specs.StampedTexts.{IsSound, state_of}
+use Rattle.bench_instance.specs.StampedTexts.{AreSoundTexts, stamped_state}
 use Rattle.bench_instance.specs.Lemmas.CellProofs.{orderly_parts}
 use Rattle.bench_laws.specs.There.{HoldsAfterEvents}
 use Rattle.bench_laws.specs.UsedOnce.{ListsEachNodeOnce, HasEachNodeOnce}
@@ -158,7 +158,7 @@ own_apart m o kinds.Verdict of other a b = other.ids (a ∙ sym b)
 
 -- a used index is one of a number
 within : (id : ℕ) (numbers : List ℕ) (items : List ResolvedItem) (used : List ℕ)
-    → IsRead (Sound id numbers items used) → (i : ℕ) → Has used i → i < length numbers
+    → IsReadingOfText (Sound id numbers items used) → (i : ℕ) → Has used i → i < length numbers
 within id numbers items used read i there =
     let is = read.1 in
     let lt = ((is.reached.exact i).0 (has_contains used i there)).0 in
@@ -166,7 +166,7 @@ within id numbers items used read i there =
     omega (arith, lt, many)
 
 module _ (test : ℕ) (past : ℕ → List SeenName) where
-  model_own : (m : ModelReading) (n : Node) → IsRead m → Has (nodes_of test (slots_in past m)) n
+  model_own : (m : ModelReading) (n : Node) → IsReadingOfText m → Has (nodes_of test (slots_in past m)) n
       → IsOwn m n.kind n.of
   model_own (Sound id numbers items used) n read h =
       elim (either_list test (used_slots past numbers items used)
@@ -185,7 +185,7 @@ module _ (test : ℕ) (past : ℕ → List SeenName) where
       subst (λ (k : Node). IsOwn (Faulty id fault) k.kind k.of) e refl
   model_own (Faulty id fault) n read (inr h) = absurd h
 
-  model_apart : (m : ModelReading) → IsRead m → AreApart (nodes_of test (slots_in past m))
+  model_apart : (m : ModelReading) → IsReadingOfText m → AreApart (nodes_of test (slots_in past m))
   model_apart (Sound id numbers items used) read =
       apart_both test (used_slots past numbers items used)
       (record { kind = kinds.Verdict; of = id; inputs = verdict_keys numbers items used } ∷ [])
@@ -205,7 +205,7 @@ module _ (test : ℕ) (past : ℕ → List SeenName) where
     among : Has ms model
     own : IsOwn model n.kind n.of
 
-  models_own : (ms : List ModelReading) (n : Node) → Each IsRead ms
+  models_own : (ms : List ModelReading) (n : Node) → Each IsReadingOfText ms
       → Has (nodes_of test (flat_map (slots_in past) ms)) n → IsOfModel ms n
   models_own [] n read h = absurd h
   models_own (m ∷ ms) n read h =
@@ -215,7 +215,7 @@ module _ (test : ℕ) (past : ℕ → List SeenName) where
             record { model = rest.model; among = inr rest.among; own = rest.own })
       ]
 
-  models_apart : (ms : List ModelReading) → Each IsRead ms → AllPairs AreOther ms
+  models_apart : (ms : List ModelReading) → Each IsReadingOfText ms → AllPairs AreOther ms
       → AreApart (nodes_of test (flat_map (slots_in past) ms))
   models_apart [] read apart = tt
   models_apart (m ∷ ms) read apart =
@@ -239,7 +239,7 @@ module _ (test : ℕ) (past : ℕ → List SeenName) where
   space_apart (Sound id numbers items used ∷ ms) = ((λ h. h), tt)
   space_apart (Faulty id fault ∷ ms) = space_apart ms
 
-  all_apart : (ms : List ModelReading) → Each IsRead ms → AllPairs AreOther ms
+  all_apart : (ms : List ModelReading) → Each IsReadingOfText ms → AllPairs AreOther ms
       → AreApart (nodes_of test (all_slots past ms))
   all_apart ms read apart =
       apart_both test (space_slots ms) (flat_map (slots_in past) ms) (space_apart ms)
@@ -277,7 +277,7 @@ tests_apart ss (r ∷ rs) each apart =
     (λ n a b. apart.0 (subst (λ (test : ℕ). Has (map (λ (q : TestRow). q.id) rs) test)
     (sym (in_test ss r.id n a)) (in_tests ss rs n b)))
 
-pub lists_each_node_once : (t : StampedTexts) → IsSound t → ListsEachNodeOnce t
+pub lists_each_node_once : (t : StampedTexts) → AreSoundTexts t → ListsEachNodeOnce t
 lists_each_node_once t sound =
     let table = t.parts.table in
     let orderly = orderly_parts t sound in
@@ -286,7 +286,7 @@ lists_each_node_once t sound =
     let each : (test : ℕ) → AreApart (nodes_at table.slots.items test) =
     λ test. subst (λ (ns : List Node). AreApart ns)
     (sym (slots_nodes table.slots.items test ∙ ap (nodes_of test) (kept.built).slots))
-    (all_apart test (histories (state_of t)) read kept.read kept.models_apart) in
+    (all_apart test (histories (stamped_state t)) read kept.read kept.models_apart) in
     tests_apart table.slots.items table.tests.items each ((orderly.parts_are).numbered).tests_apart
 
 pub has_each_node_once : HoldsAfterEvents HasEachNodeOnce

@@ -6,13 +6,13 @@ use Rattle.memo_core.specs.declared.keys.Node.{Node}
 use Rattle.memo_core.specs.declared.claims.Finish.{Finish}
 use Rattle.memo_core.specs.Laws.{DecidesSettled}
 use Rattle.memo_core.specs.Run as core
-use Rattle.memo_core.specs.Run.{Bench, Meaning, state_in, Run, IsStart, count_unsettled}
+use Rattle.memo_core.specs.Run.{Bench, Meaning, state_in, Run, IsNewBench, count_unsettled}
 use Rattle.memo_core.specs.Work.{is_accepted}
 use Rattle.cells.specs.declared.events.Event.{Event}
 use Rattle.cells.specs.declared.events.Event.TheVariants.{Return}
 use Rattle.cells.specs.declared.events.Reply.{Reply}
 use Rattle.cells.specs.declared.events.Reply.TheVariants as replies
-use Rattle.cells.specs.Events.{Refusing, Answers, AreAnswered, IsAnswered, IsJob, task_given}
+use Rattle.cells.specs.Events.{Refusing, AnswersEvents, AreEventsAnswered, IsEventAnswered, IsJob, task_given}
 use Rattle.cells.specs.Views.{Task}
 use Rattle.bench_laws.specs.Jobs.{IsClaimOut}
 
@@ -49,8 +49,8 @@ abbrev pub ListBoundsGiven : {T E V G F : Type 0} → Meaning T E V G → Refusi
 ListBoundsGiven {T} {E} {V} {G} {F} means refuses last =
     (earlier : List (core.Event E V G)) (first start end : Bench T V) (events : List (Event E))
     (answers : List (Reply F)) (settled : Node → Bool)
-    → IsStart means.is_valid means.net first → Run means first earlier start
-    → Answers means refuses last start events answers end → Each IsJob events
+    → IsNewBench means.is_valid means.net first → Run means first earlier start
+    → AnswersEvents means refuses last start events answers end → Each IsJob events
     → DecidesSettled (state_in means start) settled
     → given_among answers
     ≤ count_unsettled settled (means.net start.texts).used + lost_among answers
@@ -63,8 +63,8 @@ ListAcceptsJobs {T} {E} {V} {G} {F} means refuses last =
     (earlier : List (core.Event E V G)) (first start mid end : Bench T V) (events : List (Event E))
     (answers : List (Reply F))
     (given after : List (Task V G)) (task : Task V G) (claim : ℕ) (answer : Finish)
-    → IsStart means.is_valid means.net first → Run means first earlier start
-    → AreAnswered means refuses last start [] events answers mid given → Each IsJob events
+    → IsNewBench means.is_valid means.net first → Run means first earlier start
+    → AreEventsAnswered means refuses last start [] events answers mid given → Each IsJob events
     → task_given claim given ≡ Some task → IsClaimOut mid claim
-    → IsAnswered means refuses last mid given (Return claim) (replies.Returned (Ok answer)) end
+    → IsEventAnswered means refuses last mid given (Return claim) (replies.Returned (Ok answer)) end
     after → is_accepted answer ≡ true

@@ -8,7 +8,7 @@ use Rattle.memo_core.specs.declared.claims.Finish.{Finish}
 use Rattle.memo_core.specs.Graph.{IsSettled}
 use Rattle.memo_core.specs.Laws.{DecidesSettled}
 use Rattle.memo_core.specs.Right.{IsUntouchedBy}
-use Rattle.memo_core.specs.Run.{Bench, Event, Edit, Claim, NoClaim, Returned, Lose, Renew, Refused, Meaning, state_in, Step, Run, IsStart, count_unsettled}
+use Rattle.memo_core.specs.Run.{Bench, Event, Edit, Claim, NoClaim, Returned, Lose, Renew, Refused, Meaning, state_in, Step, Run, IsNewBench, count_unsettled}
 use Rattle.memo_core.specs.Step.{OpenClaim, Return, Has, claim_of}
 use Rattle.memo_core.specs.Work.{IsJobEvent, is_accepted, numbers_given}
 use Rattle.cells.specs.Views.{task_of, task_answered}
@@ -24,7 +24,7 @@ JobsAreAccepted {T} {E} {V} {G} means =
     (earlier later : List (Event E V G)) (first old start end new : Bench T V)
     (number : ℕ) (n : Node) (given : G) (keys : List Key) (values : List V) (r : Return V G)
     (answer : Finish)
-    → IsStart means.is_valid means.net first → Run means first earlier old
+    → IsNewBench means.is_valid means.net first → Run means first earlier old
     → Step means old (Claim number n given keys values) start → Run means start later end
     → Each IsJobEvent later
     → IsClaimOut end number → task_answered r ≡ task_of number n given keys values
@@ -46,7 +46,7 @@ abbrev pub ClaimsStayOut : {T E V G : Type 0} → Meaning T E V G → Type 0
 ClaimsStayOut {T} {E} {V} {G} means =
     (earlier later : List (Event E V G)) (first old start end : Bench T V) (number : ℕ) (n : Node)
     (given : G) (keys : List Key) (values : List V)
-    → IsStart means.is_valid means.net first → Run means first earlier old
+    → IsNewBench means.is_valid means.net first → Run means first earlier old
     → Step means old (Claim number n given keys values) start → Run means start later end
     → Each IsJobEvent later
     → Each (LeavesClaim number) later → IsClaimOut end number
@@ -56,7 +56,7 @@ abbrev pub UnsettledIsGiven : {T E V G : Type 0} → Meaning T E V G → Type 0
 UnsettledIsGiven {T} {E} {V} {G} means =
     (events : List (Event E V G)) (first old new : Bench T V) (number : ℕ) (n : Node) (given : G)
     (keys : List Key) (values : List V)
-    → IsStart means.is_valid means.net first → Run means first events old
+    → IsNewBench means.is_valid means.net first → Run means first events old
     → Step means old (Claim number n given keys values) new
     → Has (means.net old.texts).used n × (IsSettled (means.net old.texts) old.memos n → ⊥)
 
@@ -84,7 +84,7 @@ lost_count (e ∷ es) = lost_by e + lost_count es
 abbrev pub GivenIsBounded : {T E V G : Type 0} → Meaning T E V G → Type 0
 GivenIsBounded {T} {E} {V} {G} means =
     (earlier events : List (Event E V G)) (first start end : Bench T V) (settled : Node → Bool)
-    → IsStart means.is_valid means.net first → Run means first earlier start
+    → IsNewBench means.is_valid means.net first → Run means first earlier start
     → Run means start events end → Each IsJobEvent events
     → DecidesSettled (state_in means start) settled
     → given_count events ≤ count_unsettled settled (means.net start.texts).used + lost_count events
@@ -105,7 +105,7 @@ abbrev pub EditBoundsGiven : {T E V G : Type 0} → Meaning T E V G → Type 0
 EditBoundsGiven {T} {E} {V} {G} means =
     (earlier events : List (Event E V G)) (first old start end : Bench T V) (e : E)
     (is_open : Node → Bool)
-    → IsStart means.is_valid means.net first → Run means first earlier old
+    → IsNewBench means.is_valid means.net first → Run means first earlier old
     → Step means old (Edit e) start
     → ((n : Node) → is_open n ≡ false → IsLeftSettled means old start n)
     → Run means start events end → Each IsJobEvent events

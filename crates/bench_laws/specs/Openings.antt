@@ -11,34 +11,34 @@ use Rattle.bench_slices.specs.Slices.{Slice}
 use Rattle.board.specs.declared.operation.BoardEdit.{BoardEdit}
 use Rattle.board.specs.declared.operation.BoardOp.{BoardOp}
 use Rattle.board.specs.declared.operation.BoardOp.TheVariants.{Edit, Settle}
-use Rattle.board.specs.Contents.{shown}
-use Rattle.board.specs.Histories.{contents_after, IsMadeBy}
-use Rattle.board.specs.Legal.{Held, texts_after}
+use Rattle.board.specs.Contents.{cell_named}
+use Rattle.board.specs.Histories.{contents_after, IsOperationOf}
+use Rattle.board.specs.Legal.{TestsAndModels, texts_after}
 use Rattle.board.specs.Operations.{board_after}
-use Rattle.board.specs.Results.{HasBoth, test_named, model_named}
+use Rattle.board.specs.Results.{HasBoth, test_by_name, model_by_name}
 
 -- the slice of the cell of these names; none, where the texts lack its test or its model
-abbrev pub slice_named : Held → (test model : List ℕ) → Option Slice
-slice_named h test model = cell_slice (test_named h test) (model_named h model)
+abbrev pub slice_named : TestsAndModels → (test model : List ℕ) → Option Slice
+slice_named h test model = cell_slice (test_by_name h test) (model_by_name h model)
 
 -- the indexes of the first test and of the first model of that name, or of what would come behind
 -- the last
-abbrev pub test_at : Held → List ℕ → ℕ
+abbrev pub test_at : TestsAndModels → List ℕ → ℕ
 test_at h name = position_or_len (λ t. bytes_eq t.name name) h.tests
 
-abbrev pub model_at : Held → List ℕ → ℕ
+abbrev pub model_at : TestsAndModels → List ℕ → ℕ
 model_at h name = position_or_len (λ m. bytes_eq m.name name) h.models
 
 -- what the edit of these texts puts or drops is the test or the model of these names, or a part of
 -- it
-abbrev pub IsOfCell : Held → BoardEdit → (test model : List ℕ) → Type 0
+abbrev pub IsOfCell : TestsAndModels → BoardEdit → (test model : List ℕ) → Type 0
 IsOfCell h edit test model =
     IsTrue (is_of edit.prepared.value.replacement (test_at h test) (model_at h model))
 
 -- After these operations, the edit puts or drops the test or the model of these names as a whole.
 pub record IsPutWhole (ops : List BoardOp) (edit : BoardEdit) (test model : List ℕ) : Type 0 where
   pub made : edits.Edit
-  pub is_made : IsMadeBy (contents_after ops) edit made
+  pub is_made : IsOperationOf (contents_after ops) edit made
   pub whole : IsTrue (is_whole made)
   pub of_cell : IsOfCell (texts_after ops) edit test model
 
@@ -57,14 +57,15 @@ HasOneSlice ops edit test model =
 abbrev pub KeepsUnreached : List BoardOp → BoardEdit → Type 0
 KeepsUnreached ops edit =
     (test model : List ℕ) → HasOneSlice ops edit test model → (IsPutWhole ops edit test model → ⊥)
-    → shown (board_after (with_edit ops edit)) test model ≡ shown (board_after ops) test model
+    → cell_named (board_after (with_edit ops edit)) test model
+    ≡ cell_named (board_after ops) test model
 
 -- Each other cell that there is after the edit is shown open.
 abbrev pub OpensReached : List BoardOp → BoardEdit → Type 0
 OpensReached ops edit =
     (test model : List ℕ) → HasBoth (texts_after (with_edit ops edit)) test model
     → IsPutWhole ops edit test model ⊎ (HasOneSlice ops edit test model → ⊥)
-    → shown (board_after (with_edit ops edit)) test model ≡ Open
+    → cell_named (board_after (with_edit ops edit)) test model ≡ Open
 
 -- ---- over many operations
 
@@ -84,5 +85,5 @@ AllLeaveCell ops (op ∷ more) test model =
 abbrev pub StaysSettled : (ops more : List BoardOp) → Type 0
 StaysSettled ops more =
     (test model : List ℕ) (o : Outcome) → AllLeaveCell ops more test model
-    → shown (board_after ops) test model ≡ Settled o
-    → shown (board_after (ops ++ more)) test model ≡ Settled o
+    → cell_named (board_after ops) test model ≡ Settled o
+    → cell_named (board_after (ops ++ more)) test model ≡ Settled o

@@ -13,14 +13,14 @@ use Rattle.bench_values.specs.Givens.{GivenContent}
 use Rattle.bench_values.specs.Makes.{output_names}
 use Rattle.bench_texts.specs.declared.model.NamedModel.{NamedModel}
 use Rattle.bench_parts.specs.Contents.{histories}
-use Rattle.bench_parts.specs.States.{given}
+use Rattle.bench_parts.specs.States.{given_to_node}
 use Rattle.bench_edits.specs.Readings.{resolved_in}
 use Rattle.bench_instance.specs.declared.stamped_texts.StampedTexts.{StampedTexts}
-use Rattle.bench_instance.specs.StampedTexts.{state_of}
+use Rattle.bench_instance.specs.StampedTexts.{stamped_state}
 use Rattle.bench_instance.specs.Outputs.{output_name}
 
 -- an item of a model that the texts hold, by its number: this is what it does
-pub record IsItemOf (t : StampedTexts) (number : ℕ) (does : RoleContent) : Type 0 where
+pub record IsItemOfTexts (t : StampedTexts) (number : ℕ) (does : RoleContent) : Type 0 where
   pub model : NamedModel
   pub held : Has t.texts.models.items model
   pub items : List ResolvedItem
@@ -32,13 +32,13 @@ pub record IsItemOf (t : StampedTexts) (number : ℕ) (does : RoleContent) : Typ
   pub does_is : does ≡ role_content item.role
 
 -- its node for a test is that of a check or a flag, or else of a group
-abbrev pub node_kind : RoleContent → Kind
-node_kind (Group recursive bodies) = kinds.Group
-node_kind (Check negated word code flag) = kinds.Check
-node_kind Silent = kinds.Group
+abbrev pub content_node_kind : RoleContent → Kind
+content_node_kind (Group recursive bodies) = kinds.Group
+content_node_kind (Check negated word code flag) = kinds.Check
+content_node_kind Silent = kinds.Group
 
 abbrev pub item_node : RoleContent → (test item : ℕ) → Node
-item_node does test item = record { kind = node_kind does; test = test; of = item }
+item_node does test item = record { kind = content_node_kind does; test = test; of = item }
 
 -- the names of its outputs: those that a group binds, in order, and `check` for the answers of a
 -- check or a flag
@@ -51,13 +51,13 @@ names_given Silent = []
 -- first, the second the second, and so on: the number by which it goes tells that name.
 abbrev pub OutputsHaveTheirNames : StampedTexts → Type 0
 OutputsHaveTheirNames t =
-    (test item index number : ℕ) (does : RoleContent) → IsItemOf t item does
-    → slice_get (item_outputs does (histories (state_of t) item)) index ≡ Some number
-    → output_name (histories (state_of t)) (item_node does test item) number
+    (test item index number : ℕ) (does : RoleContent) → IsItemOfTexts t item does
+    → slice_get (item_outputs does (histories (stamped_state t) item)) index ≡ Some number
+    → output_name (histories (stamped_state t)) (item_node does test item) number
     ≡ slice_get (names_given does) index
 
 -- The node of a space or of a verdict gives one output, which goes by 0.
 abbrev pub OthersHaveOneOutput : StampedTexts → Type 0
 OthersHaveOneOutput t =
     (n : Node) (g : GivenContent) → (n.kind ≡ kinds.Space) ⊎ (n.kind ≡ kinds.Verdict)
-    → given (state_of t) n ≡ Some g → output_names g ≡ 0 ∷ []
+    → given_to_node (stamped_state t) n ≡ Some g → output_names g ≡ 0 ∷ []

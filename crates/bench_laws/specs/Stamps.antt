@@ -5,12 +5,12 @@ use Rattle.std.specs.List.{AllByRecursion as Each}
 use Rattle.memo_core.specs.declared.keys.Input.{Input}
 use Rattle.memo_core.specs.Graph.{at}
 use Rattle.memo_core.specs.Right.{GoesOn}
-use Rattle.memo_core.specs.Step.{AreNumbered}
+use Rattle.memo_core.specs.Step.{AreClaimsNumbered}
 use Rattle.memo_core.specs.Run.{Event, Step}
 use Rattle.bench_values.specs.Givens.{GivenContent}
 use Rattle.bench_values.specs.Values.{NodeContent}
 use Rattle.bench_texts.specs.declared.edit.Edit.{Edit}
-use Rattle.bench_instance.specs.StampedTexts.{net_of}
+use Rattle.bench_instance.specs.StampedTexts.{stamped_net}
 use Rattle.bench_laws.specs.Live.{live_meaning}
 use Rattle.bench_laws.specs.There.{LiveState}
 
@@ -21,11 +21,11 @@ AreLow number inputs = Each (λ i. i.stamp ≤ number) inputs
 -- No stamp that is stored is above the last number that was taken: of a part, in a memo, or of an
 -- input of a claim that is out. Nor is the number of a claim.
 pub record HasLowStamps (b : LiveState) : Type 0 where
-  pub parts : (part of : ℕ) → (net_of b.texts).part part of ≤ b.taken
+  pub parts : (part of : ℕ) → (stamped_net b.texts).part part of ≤ b.taken
   pub inputs : Each (λ m. AreLow b.taken m.inputs) b.memos
   pub outputs : Each (λ m. Each (λ o. o.stamp ≤ b.taken) m.outputs) b.memos
   pub claims : Each (λ c. AreLow b.taken c.inputs) b.claims
-  pub numbers : AreNumbered b.taken b.claims
+  pub numbers : AreClaimsNumbered b.taken b.claims
 
 -- An output that is stored after an event was stored before it with this stamp and value, or its
 -- stamp is above all numbers taken before.

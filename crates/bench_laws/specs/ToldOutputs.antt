@@ -11,19 +11,19 @@ use Rattle.bench_values.specs.Givens.{GivenContent, ForItem}
 use Rattle.bench_values.specs.Makes.{output_names}
 use Rattle.bench_values.specs.Values.{NodeContent}
 use Rattle.bench_parts.specs.Contents.{histories}
-use Rattle.bench_parts.specs.States.{given}
+use Rattle.bench_parts.specs.States.{given_to_node}
 use Rattle.bench_instance.specs.declared.stamped_texts.StampedTexts.{StampedTexts}
-use Rattle.bench_instance.specs.StampedTexts.{IsSound, state_of}
+use Rattle.bench_instance.specs.StampedTexts.{AreSoundTexts, stamped_state}
 use Rattle.bench_instance.specs.Outputs.{output_name}
 use Rattle.bench_laws.specs.Live.{live_meaning}
 use Rattle.bench_laws.specs.There.{LiveState}
-use Rattle.bench_laws.specs.OutputNames.{IsItemOf, item_node, names_given}
+use Rattle.bench_laws.specs.OutputNames.{IsItemOfTexts, item_node, names_given}
 
 -- the job was given what its node is given, and each of these numbers is one by which an output of
 -- that goes
 pub record AreOutputsOf (t : StampedTexts) (r : Return NodeContent GivenContent) (numbers : List ℕ)
     : Type 0 where
-  pub given_is : given (state_of t) r.node ≡ Some r.given
+  pub given_is : given_to_node (stamped_state t) r.node ≡ Some r.given
   pub each : Each (Has (output_names r.given)) numbers
 
 -- The numbers that a return tells are those of outputs of its node.
@@ -37,16 +37,18 @@ ReturnsTellOutputs =
 pub record TellsOutputOf (t : StampedTexts) (test item : ℕ) (does : RoleContent) (number : ℕ)
     : Type 0 where
   pub index : ℕ
-  pub output_is : slice_get (item_outputs does (histories (state_of t) item)) index ≡ Some number
+  pub output_is : slice_get (item_outputs does (histories (stamped_state t) item)) index
+      ≡ Some number
   pub name : List ℕ
   pub name_is : slice_get (names_given does) index ≡ Some name
-  pub told_is : output_name (histories (state_of t)) (item_node does test item) number ≡ Some name
+  pub told_is : output_name (histories (stamped_state t)) (item_node does test item) number
+      ≡ Some name
 
 -- the job was given what the item does, with the numbers of its outputs, and each of these numbers
 -- tells one of them, by its name
 pub record TellsItem (t : StampedTexts) (r : Return NodeContent GivenContent) (test item : ℕ)
     (does : RoleContent) (numbers : List ℕ) : Type 0 where
-  pub given_is : r.given ≡ ForItem does (item_outputs does (histories (state_of t) item))
+  pub given_is : r.given ≡ ForItem does (item_outputs does (histories (stamped_state t) item))
   pub each : Each (TellsOutputOf t test item does) numbers
 
 -- The numbers that a return of the node of an item tells are those of outputs of the item that the
@@ -55,6 +57,7 @@ abbrev pub ReturnsNameOutputs : Type 0
 ReturnsNameOutputs =
     (old new : LiveState) (r : Return NodeContent GivenContent) (names : Vec ℕ Global)
     (test item : ℕ) (does : RoleContent)
-    → IsSound old.texts → IsItemOf old.texts item does → r.node ≡ item_node does test item
+    → AreSoundTexts old.texts → IsItemOfTexts old.texts item does
+    → r.node ≡ item_node does test item
     → Step live_meaning old (Returned r (Stored names)) new
     → TellsItem old.texts r test item does names.items

@@ -7,7 +7,7 @@ ghost use Rattle.board.specs.declared.operation.BoardEdit.{BoardEdit};
 ghost use Rattle.board.specs.declared.operation.BoardOp.{BoardOp};
 ghost use Rattle.board.specs.Histories.{IsHistory};
 ghost use Rattle.bench_instance.specs.declared.stamped_texts.StampedTexts.{StampedTexts as StampedRecord};
-ghost use Rattle.bench_instance.specs.StampedTexts.{IsThere, IsSound};
+ghost use Rattle.bench_instance.specs.StampedTexts.{IsNodeThere, AreSoundTexts};
 ghost use Rattle.bench_instance.specs.StampedCells.{from_scratch};
 ghost use Rattle.memo_core.specs.Work.{ReturnsLowerInRuns, WorkIsBounded, WorkUnsettlesNone, SettledIsDecided};
 ghost use Rattle.memo_core.specs.Laws.{SettledIsSolved, MatchingIsSolved, ValuesStayPresent, GivenStaysPresent};
@@ -70,7 +70,7 @@ pub fn work_is_exact()
 /// and stamps are the present ones. What a job was given, and the values that it holds, stay the
 /// present ones as long as its inputs and stamps are the present ones, whatever happens between.
 pub fn memos_are_right()
-    ensures settled { SettledIsSolved live_meaning IsThere }
+    ensures settled { SettledIsSolved live_meaning IsNodeThere }
     ensures matching { MatchingIsSolved live_meaning }
     ensures values { ValuesStayPresent live_meaning }
     ensures given { GivenStaysPresent live_meaning }
@@ -152,7 +152,7 @@ pub fn only_reached_is_given()
 /// The list of the nodes that cells use has each of them once. So where a bound counts the members
 /// of that list, it counts nodes.
 pub fn used_nodes_are_listed_once()
-    ensures sound { (t : StampedRecord) → IsSound t → ListsEachNodeOnce t }
+    ensures sound { (t : StampedRecord) → AreSoundTexts t → ListsEachNodeOnce t }
     ensures after { HoldsAfterEvents HasEachNodeOnce }
 {}
 
@@ -171,7 +171,7 @@ pub fn refused_edits_change_nothing()
 /// and each number that it tells is that of one of the item's outputs, by the name that the item
 /// gives it.
 pub fn outputs_have_their_names()
-    ensures items { (t : StampedRecord) → IsSound t → OutputsHaveTheirNames t }
+    ensures items { (t : StampedRecord) → AreSoundTexts t → OutputsHaveTheirNames t }
     ensures others { (t : StampedRecord) → OthersHaveOneOutput t }
     ensures told { ReturnsTellOutputs }
     ensures named { ReturnsNameOutputs }

@@ -20,7 +20,7 @@ use Rattle.bench_nodes.specs.declared.table.SlotKey.{SlotKey}
 use Rattle.bench_nodes.specs.declared.table.SlotKey.TheVariants as slots
 use Rattle.bench_nodes.specs.declared.table.TestRow.{TestRow}
 use Rattle.bench_nodes.specs.Nodes.{node_of, is_output_of, uses, users_at, used, keys_at, is_slot, slot_keys, thread_parts, space_keys, row_of, row_parts, inputs_of, users, has_test, has_slot, slot_index, rank_of, rank, net_of}
-use Rattle.bench_nodes.specs.Order.{IsBehind, AreOrderedAfter, IsOrdered}
+use Rattle.bench_nodes.specs.Order.{IsOfEarlierSlot, AreOrderedAfter, IsTableOrdered}
 use Rattle.bench_nodes.proofs.Lists.{has_used}
 use Rattle.std.proofs.lemmas.Bool.{cases_Bool, and_from}
 
@@ -93,7 +93,7 @@ StandsBefore before ss i (slots.Fault id) = ⊤
 StandsBefore before ss i (slots.Value kind of name) =
     (has_slot before kind of ≡ true) ⊎ ((has_slot ss kind of ≡ true) × (slot_index ss kind of < i))
 
-behind_before : (before ss : List Slot) (i : ℕ) (ks : List SlotKey) → Each (IsBehind before) ks
+behind_before : (before ss : List Slot) (i : ℕ) (ks : List SlotKey) → Each (IsOfEarlierSlot before) ks
     → Each (StandsBefore before ss i) ks
 behind_before before ss i [] h = tt
 behind_before before ss i (slots.Test part ∷ ks) h = (tt, behind_before before ss i ks h.1)
@@ -150,7 +150,7 @@ each_used t test i (slots.Value kind of name ∷ ks) there h = (
   each_used t test i ks there h.1,
 )
 
-used_among : (t : NodeTable) (kind : Kind) (test of : ℕ) → IsOrdered t
+used_among : (t : NodeTable) (kind : Kind) (test of : ℕ) → IsTableOrdered t
     → has_test t.tests.items test ≡ true
     → Each (Has (used t)) (input_nodes (keys_at test (slot_keys t.slots.items kind of)))
 used_among t kind test of o there =
@@ -158,7 +158,7 @@ used_among t kind test of o there =
     (slot_index t.slots.items kind of) (slot_keys t.slots.items kind of) there
     (keys_before [] t.slots.items kind of o))
 
-used_inputs : (t : NodeTable) (kind : Kind) (test of : ℕ) → IsOrdered t
+used_inputs : (t : NodeTable) (kind : Kind) (test of : ℕ) → IsTableOrdered t
     → has_test t.tests.items test ≡ true
     → Each (Has (used t)) (input_nodes (inputs_of t kind test of))
 used_inputs t Space test of o there = rw (no_nodes_in_space t.tests.items test) tt
@@ -167,7 +167,7 @@ used_inputs t Check test of o there = used_among t Check test of o there
 used_inputs t Verdict test of o there = used_among t Verdict test of o there
 
 -- the inputs of used nodes are used
-pub used_is_closed : {G : Type 0} (t : NodeTable) (gives : Node → G → Bool) → IsOrdered t
+pub used_is_closed : {G : Type 0} (t : NodeTable) (gives : Node → G → Bool) → IsTableOrdered t
     → IsUsedClosed (net_of t gives)
 used_is_closed t gives o n h = used_inputs t n.kind n.test n.of o (used_test t n h)
 
@@ -191,7 +191,7 @@ lower ss test i (slots.Value kind of name ∷ ks) h = (
     low Check l = omega (arith, l)
     low Verdict l = omega (arith, l)
 
-lower_among : (t : NodeTable) (kind : Kind) (test of : ℕ) → IsOrdered t
+lower_among : (t : NodeTable) (kind : Kind) (test of : ℕ) → IsTableOrdered t
     → Each (λ m. rank_of t.slots.items m.kind m.of < slot_index t.slots.items kind of + 1)
     (input_nodes (keys_at test (slot_keys t.slots.items kind of)))
 lower_among t kind test of o =
@@ -200,7 +200,7 @@ lower_among t kind test of o =
     (lower t.slots.items test (slot_index t.slots.items kind of) (slot_keys t.slots.items kind of)
     (keys_before [] t.slots.items kind of o))
 
-lower_inputs : (t : NodeTable) (kind : Kind) (test of : ℕ) → IsOrdered t
+lower_inputs : (t : NodeTable) (kind : Kind) (test of : ℕ) → IsTableOrdered t
     → Each (λ m. rank_of t.slots.items m.kind m.of < rank_of t.slots.items kind of)
     (input_nodes (inputs_of t kind test of))
 lower_inputs t Space test of o = rw (no_nodes_in_space t.tests.items test) tt
@@ -209,7 +209,7 @@ lower_inputs t Check test of o = lower_among t Check test of o
 lower_inputs t Verdict test of o = lower_among t Verdict test of o
 
 -- a node ranks above its inputs
-pub ranks_fall : {G : Type 0} (t : NodeTable) (gives : Node → G → Bool) → IsOrdered t
+pub ranks_fall : {G : Type 0} (t : NodeTable) (gives : Node → G → Bool) → IsTableOrdered t
     → Falls (net_of t gives) (rank t)
 ranks_fall t gives o n = lower_inputs t n.kind n.test n.of o
 

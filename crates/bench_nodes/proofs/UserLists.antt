@@ -11,7 +11,7 @@ use Rattle.bench_nodes.specs.declared.table.Slot.{Slot}
 use Rattle.bench_nodes.specs.declared.table.SlotKey.{SlotKey}
 use Rattle.bench_nodes.specs.declared.table.SlotKey.TheVariants as keys
 use Rattle.bench_nodes.specs.Slots.{is_slot, has_slot, is_output_of, uses}
-use Rattle.bench_nodes.specs.Places.{are_apart, name_of, user_names, user_lists, put_at, with_user}
+use Rattle.bench_nodes.specs.Places.{are_apart, slot_name, user_names, user_lists, put_at, with_user}
 use Rattle.bench_nodes.proofs.Lookups.{slot_is, has_placed, turned}
 
 -- ---- inputs
@@ -170,7 +170,7 @@ new_output name ks kind of output (suc at) (s ∷ ss) (l ∷ ls) apart h there =
 -- ---- one more user
 
 names_more : (us : List Slot) (u : Slot) (kind : Kind) (of : ℕ)
-    → (if uses kind of u.inputs.items then user_names us kind of ++ name_of u ∷ []
+    → (if uses kind of u.inputs.items then user_names us kind of ++ slot_name u ∷ []
     else user_names us kind of) ≡ user_names (us ++ u ∷ []) kind of
 names_more [] u kind of = elim (cases_Bool (uses kind of u.inputs.items)) [
   | inl e ↦ rw e refl
@@ -178,20 +178,20 @@ names_more [] u kind of = elim (cases_Bool (uses kind of u.inputs.items)) [
 ]
 names_more (v ∷ us) u kind of = elim (cases_Bool (uses kind of v.inputs.items)) [
   | inl e ↦ rw e (moved (uses kind of u.inputs.items)
-      ∙ ap (λ (ns : List SlotName). name_of v ∷ ns) (names_more us u kind of))
+      ∙ ap (λ (ns : List SlotName). slot_name v ∷ ns) (names_more us u kind of))
   | inr f ↦ rw f (names_more us u kind of)
 ]
   where
     moved : (b : Bool)
-        → (if b then name_of v ∷ (user_names us kind of ++ name_of u ∷ [])
-        else name_of v ∷ user_names us kind of)
-        ≡ name_of v
-        ∷ (if b then user_names us kind of ++ name_of u ∷ [] else user_names us kind of)
+        → (if b then slot_name v ∷ (user_names us kind of ++ slot_name u ∷ [])
+        else slot_name v ∷ user_names us kind of)
+        ≡ slot_name v
+        ∷ (if b then user_names us kind of ++ slot_name u ∷ [] else user_names us kind of)
     moved true = refl
     moved false = refl
 
 pub lists_more : (us ss : List Slot) (u : Slot)
-    → with_user (name_of u) u.inputs.items ss (user_lists us ss) ≡ user_lists (us ++ u ∷ []) ss
+    → with_user (slot_name u) u.inputs.items ss (user_lists us ss) ≡ user_lists (us ++ u ∷ []) ss
 lists_more us [] u = refl
 lists_more us (s ∷ ss) u =
     rw (names_more us u s.kind s.of) (ap

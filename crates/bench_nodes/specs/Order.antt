@@ -8,17 +8,17 @@ use Rattle.bench_nodes.specs.declared.table.SlotKey.TheVariants as slots
 use Rattle.bench_nodes.specs.Nodes.{has_slot}
 
 -- an input that is an output is one of these slots
-abbrev pub IsBehind : List Slot → SlotKey → Type 0
-IsBehind before (slots.Test part) = ⊤
-IsBehind before (slots.Item number) = ⊤
-IsBehind before (slots.Fault id) = ⊤
-IsBehind before (slots.Value kind of name) = has_slot before kind of ≡ true
+abbrev pub IsOfEarlierSlot : List Slot → SlotKey → Type 0
+IsOfEarlierSlot before (slots.Test part) = ⊤
+IsOfEarlierSlot before (slots.Item number) = ⊤
+IsOfEarlierSlot before (slots.Fault id) = ⊤
+IsOfEarlierSlot before (slots.Value kind of name) = has_slot before kind of ≡ true
 
 -- each slot uses those before it alone, the latest first
 abbrev pub AreOrderedAfter : List Slot → List Slot → Type 0
 AreOrderedAfter before [] = ⊤
 AreOrderedAfter before (s ∷ ss) =
-    Each (IsBehind before) s.inputs.items × AreOrderedAfter (s ∷ before) ss
+    Each (IsOfEarlierSlot before) s.inputs.items × AreOrderedAfter (s ∷ before) ss
 
-abbrev pub IsOrdered : NodeTable → Type 0
-IsOrdered t = AreOrderedAfter [] t.slots.items
+abbrev pub IsTableOrdered : NodeTable → Type 0
+IsTableOrdered t = AreOrderedAfter [] t.slots.items

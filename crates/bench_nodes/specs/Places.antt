@@ -27,14 +27,15 @@ abbrev pub are_apart : List Slot → Bool
 are_apart [] = true
 are_apart (s ∷ ss) = not (has_slot ss s.kind s.of) && are_apart ss
 
-abbrev pub name_of : Slot → SlotName
-name_of s = record { kind = s.kind; of = s.of }
+abbrev pub slot_name : Slot → SlotName
+slot_name s = record { kind = s.kind; of = s.of }
 
 -- the slots that use the outputs of the nodes of this kind and number
 abbrev pub user_names : List Slot → Kind → ℕ → List SlotName
 user_names [] kind of = []
 user_names (s ∷ ss) kind of =
-    if uses kind of s.inputs.items then name_of s ∷ user_names ss kind of else user_names ss kind of
+    if uses kind of s.inputs.items then slot_name s ∷ user_names ss kind of
+    else user_names ss kind of
 
 -- those of each of these slots
 abbrev pub user_lists : List Slot → List Slot → List (List SlotName)
@@ -55,8 +56,8 @@ with_user name keys (s ∷ ss) [] = []
 with_user name keys (s ∷ ss) (l ∷ ls) =
     (if uses s.kind s.of keys then l ++ name ∷ [] else l) ∷ with_user name keys ss ls
 
-abbrev pub names_in : Vec SlotName Global → List SlotName
-names_in v = v.items
+abbrev pub slot_names : Vec SlotName Global → List SlotName
+slot_names v = v.items
 
 -- the node of a test and a slot's name
 abbrev pub named : ℕ → SlotName → Node
@@ -68,5 +69,5 @@ lists_if true ss = user_lists ss ss
 lists_if false ss = []
 
 abbrev pub lists_in : Bool → List (Vec SlotName Global) → List (List SlotName)
-lists_in true vs = map names_in vs
+lists_in true vs = map slot_names vs
 lists_in false vs = []

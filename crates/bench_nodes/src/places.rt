@@ -3,7 +3,7 @@
 
 ghost use Rattle.std.specs.Prelude.{◌≡◌, ◌||◌, ◌++◌, ◌∷◌, not, true, false, List, [], IfOk, IfSome, Some, map, slice_get, option_map};
 ghost use Rattle.bench_nodes.specs.Slots.{is_slot};
-ghost use Rattle.bench_nodes.specs.Places.{are_apart, user_names, user_lists, lists_if, lists_in, names_in, name_of, put_at, with_user};
+ghost use Rattle.bench_nodes.specs.Places.{are_apart, user_names, user_lists, lists_if, lists_in, slot_names, slot_name, put_at, with_user};
 ghost use Rattle.bench_nodes.specs.declared.places.SlotName.{SlotName as NameOfSlot};
 
 use crate::find::{has_slot_among, is_slot};
@@ -122,7 +122,7 @@ fn user_names(
 
 // The users of each slot.
 fn user_lists(alloc: Global, slots: &[Slot]) -> Result<Vec<Vec<SlotName>>, AllocError>
-    ensures { IfOk result (λ v. map names_in v.items ≡ user_lists slots.now slots.now) }
+    ensures { IfOk result (λ v. map slot_names v.items ≡ user_lists slots.now slots.now) }
 {
     let mut lists = Vec::with_capacity(alloc, slots.len())?;
     for slot in slots {
@@ -133,7 +133,7 @@ fn user_lists(alloc: Global, slots: &[Slot]) -> Result<Vec<Vec<SlotName>>, Alloc
 
 // No users of each slot.
 fn no_lists(alloc: Global, slots: &[Slot]) -> Result<Vec<Vec<SlotName>>, AllocError>
-    ensures { IfOk result (λ v. map names_in v.items ≡ user_lists [] slots.now) }
+    ensures { IfOk result (λ v. map slot_names v.items ≡ user_lists [] slots.now) }
 {
     let mut lists = Vec::with_capacity(alloc, slots.len())?;
     for _ in slots {
@@ -144,8 +144,8 @@ fn no_lists(alloc: Global, slots: &[Slot]) -> Result<Vec<Vec<SlotName>>, AllocEr
 
 // Adds a user of the slot at an index.
 fn put_at(lists: &mut Vec<Vec<SlotName>>, at: usize, name: SlotName) -> Result<(), AllocError>
-    ensures { IfOk result (λ _. map names_in lists.new.items
-        ≡ put_at at name (map names_in lists.old.items)) }
+    ensures { IfOk result (λ _. map slot_names lists.new.items
+        ≡ put_at at name (map slot_names lists.old.items)) }
 {
     if at < lists.len() {
         lists[at].push(name)?;
@@ -165,8 +165,8 @@ fn put_key(
 ) -> Result<bool, AllocError>
     requires { are_apart slots.now ≡ true }
     ensures { IfOk result (λ found. found ≡ true → (all : List (List NameOfSlot))
-        → map names_in lists.old.items ≡ with_user name before.now slots.now all
-        → map names_in lists.new.items
+        → map slot_names lists.old.items ≡ with_user name before.now slots.now all
+        → map slot_names lists.new.items
         ≡ with_user name (before.now ++ key ∷ []) slots.now all) }
 {
     let SlotKey::Value(kind, of, _) = key else {
@@ -194,9 +194,9 @@ fn put_user(
 ) -> Result<bool, AllocError>
     requires { are_apart slots.now ≡ true }
     ensures { IfOk result (λ found. found ≡ true
-        → map names_in lists.new.items
-        ≡ with_user (name_of user.now) user.now.inputs.items slots.now
-        (map names_in lists.old.items)) }
+        → map slot_names lists.new.items
+        ≡ with_user (slot_name user.now) user.now.inputs.items slots.now
+        (map slot_names lists.old.items)) }
 {
     let inputs = user.inputs.as_slice();
     let name = SlotName {
@@ -219,7 +219,7 @@ fn guessed_lists(
 ) -> Result<Option<Vec<Vec<SlotName>>>, AllocError>
     requires { are_apart slots.now ≡ true }
     ensures { IfOk result (λ found.
-        IfSome found (λ v. map names_in v.items ≡ user_lists slots.now slots.now)) }
+        IfSome found (λ v. map slot_names v.items ≡ user_lists slots.now slots.now)) }
 {
     let mut lists = no_lists(alloc, slots)?;
     for slot in slots {

@@ -23,8 +23,8 @@ use Rattle.bench_items.specs.Naming.{SeenName, item_outputs}
 use Rattle.bench_values.specs.Makes.{output_names}
 use Rattle.bench_slots.specs.Tables.{ModelReading, Sound, Faulty, IsOrderedModel}
 use Rattle.bench_slots.proofs.Ordered.{table_ordered}
-use Rattle.bench_parts.specs.Contents.{PartContent, OfText, OfRole, OfFault, OfCondition, OfObserved, OfLocations, OfInit, OfThread, State, histories, content}
-use Rattle.bench_parts.specs.States.{contents, space_given, given_space, given_item, given_verdict, given_by, given, HasOutput, IsValid}
+use Rattle.bench_parts.specs.Contents.{PartContent, OfText, OfRole, OfFault, OfCondition, OfObserved, OfLocations, OfInit, OfThread, PartsState, histories, content}
+use Rattle.bench_parts.specs.States.{contents, space_given, given_space, given_item, given_verdict, given_by, given_to_node, HasOutput, IsValidState}
 use Rattle.bench_parts.specs.Built.{IsModelIn, IsTestRow, IsBuilt}
 use Rattle.bench_parts.specs.Views.{FoundTest, view_of}
 use Rattle.bench_parts.proofs.BuiltRows.{found_test, stamps_are_low, empty_are_none}
@@ -73,7 +73,7 @@ no_inputs (s ∷ ss) kind of e = elim (cases_Bool (is_slot kind of s)) [
   | inr t ↦ rw t (no_inputs ss kind of (rw t at e))
 ]
 
-module _ (s : State) where
+module _ (s : PartsState) where
   -- ---- what items and verdicts are given
 
   item_given : (test of : ℕ) (keys : List SlotKey) (b : BeginsAsItem s of keys)
@@ -225,7 +225,7 @@ module _ (s : State) where
       given_some kinds.Verdict of has =
           verdict_some (slot_keys ss kinds.Verdict of) _ (good kinds.Verdict of has).1
 
-    used_given : (n : Node) → Has (used s.parts.table) n → is_some (given s n) ≡ true
+    used_given : (n : Node) → Has (used s.parts.table) n → is_some (given_to_node s n) ≡ true
     used_given n h =
         let found = found_test s.parts.last s.parts.table.tests.items s.tests s.parts.locations.items n.test built.tests (used_test s.parts.table n h) in
         given_some n.test found.0 found.1 found.2 n.kind n.of (used_slot s.parts.table n h)
@@ -240,7 +240,7 @@ module _ (s : State) where
     ordered_models [] h = tt
     ordered_models (m ∷ ms) h = (ordered_model m h.0, ordered_models ms h.1)
 
-    pub built_valid : IsValid s
+    pub built_valid : IsValidState s
     built_valid = record {
       ordered =
           table_ordered s.parts.table (histories s) models built.slots

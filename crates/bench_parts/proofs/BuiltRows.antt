@@ -13,7 +13,7 @@ use Rattle.bench_nodes.specs.declared.table.ModelRow.{ModelRow}
 use Rattle.bench_nodes.specs.declared.table.TestRow.{TestRow}
 use Rattle.bench_nodes.specs.Nodes.{item_stamp, fault_stamp, stamp_in, test_stamp, has_test, part_stamp}
 use Rattle.bench_items.specs.declared.items.SharedItem.{SharedItem}
-use Rattle.bench_parts.specs.Contents.{OfThread, role_part, item_content, fault_part, fault_content, test_part, test_content, State, content}
+use Rattle.bench_parts.specs.Contents.{OfThread, role_part, item_content, fault_part, fault_content, test_part, test_content, PartsState, content}
 use Rattle.bench_parts.specs.Built.{IsStamp, IsItemRow, IsModelRow, IsTestRow, AreTestRows}
 use Rattle.bench_parts.specs.Views.{FoundTest, view_of}
 
@@ -167,7 +167,7 @@ module _ (last : ℕ) where
 
 -- ---- all parts
 
-pub stamps_are_low : (s : State) (last : ℕ)
+pub stamps_are_low : (s : PartsState) (last : ℕ)
     → AllZip (IsItemRow last) s.parts.table.items.items s.parts.roles.items
     → AllZip (IsModelRow last) s.parts.table.models.items s.parts.faults.items
     → AreTestRows last s.parts.table.tests.items s.tests s.parts.locations.items → (part of : ℕ)
@@ -181,7 +181,7 @@ stamps_are_low s last items faults tests part of = elim (cases_Bool (part == 0))
   ])
 ]
 
-pub empty_are_none : (s : State) (last : ℕ)
+pub empty_are_none : (s : PartsState) (last : ℕ)
     → AllZip (IsItemRow last) s.parts.table.items.items s.parts.roles.items
     → AllZip (IsModelRow last) s.parts.table.models.items s.parts.faults.items
     → AreTestRows last s.parts.table.tests.items s.tests s.parts.locations.items → (part of : ℕ)

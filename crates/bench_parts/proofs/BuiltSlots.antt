@@ -19,13 +19,13 @@ use Rattle.bench_nodes.specs.declared.table.SlotKey.{SlotKey}
 use Rattle.bench_nodes.specs.declared.table.SlotKey.TheVariants as slots
 use Rattle.bench_nodes.specs.Nodes.{is_slot, has_slot, slot_keys}
 use Rattle.bench_items.specs.Items.{RoleContent, held_history, body_content, role_content}
-use Rattle.bench_items.specs.Naming.{SeenName, seen_name, item_outputs, names_in, body_names, number_of}
+use Rattle.bench_items.specs.Naming.{SeenName, seen_name, item_outputs, seen_names_in, body_names, number_of}
 use Rattle.bench_items.specs.declared.items.SharedItem.{SharedItem}
 use Rattle.bench_slots.proofs.Lists.{each_append, has_map}
 use Rattle.bench_slots.specs.Slots.{PlainSlot, plain, number_at, item_history, no_name, name_of, input_name, function_key, name_key, space_key, item_keys, slots_of, item_slots, used_slots, flag_key, answer_key, key_by, keys_by, verdict_keys, sound_slots}
 use Rattle.bench_slots.specs.Tables.{ModelReading, Sound, Faulty, name_count, IsNameOf, UsesNames, AreOrderedItems, space_slots, slots_in, all_slots}
-use Rattle.bench_parts.specs.Contents.{OfRole, OfFault, role_part, part_history, item_content, State, histories, content}
-use Rattle.bench_parts.specs.Built.{IsHeld, AreHeld, IsModelIn}
+use Rattle.bench_parts.specs.Contents.{OfRole, OfFault, role_part, part_history, item_content, PartsState, histories, content}
+use Rattle.bench_parts.specs.Built.{IsRoleKnown, AreRolesKnown, IsModelIn}
 
 -- ---- the inputs of a slot
 
@@ -69,7 +69,7 @@ has_at (x ∷ xs) (suc p) d lt = inr (has_at xs p d (omega (arith, lt)))
 -- the number of each of its names is that of one of its outputs
 role_has_name : (role : Role) (p : ℕ) (history : List SeenName) → p < name_count role
     → Has (item_outputs (role_content role) history) (number_of history
-    (get_or (names_in (role_content role)) p no_name))
+    (get_or (seen_names_in (role_content role)) p no_name))
 role_has_name (roles.Group recursive bodies) p history lt =
     let names = body_names bodies.items in
     let many : length names ≡ length bodies.items = length-map (map body_content bodies.items) seen_name ∙ length-map bodies.items body_content in
@@ -97,14 +97,14 @@ history_beside (i ∷ is) (r ∷ rs) n = by_test (i.number == n) (history_beside
     by_test true later = own r
     by_test false later = later
 
-pub held_history_is : (s : State) (number : ℕ) (role : RoleContent) (history : List SeenName)
+pub held_history_is : (s : PartsState) (number : ℕ) (role : RoleContent) (history : List SeenName)
     → content s 0 number ≡ Some (OfRole role history) → histories s number ≡ history
 held_history_is s number role history e =
     history_beside s.parts.table.items.items s.parts.roles.items number ∙ ap part_history e
 
 -- ---- good slots
 
-module _ (s : State) where
+module _ (s : PartsState) where
   -- the item of that number does something that gives an output of that number
   abbrev pub HasRole : ℕ → ℕ → Type 0
   HasRole of name =
@@ -151,7 +151,7 @@ module _ (s : State) where
 
   -- ---- of one model
 
-  module _ (numbers : List ℕ) (items : List ResolvedItem) (held : AreHeld s numbers items) where
+  module _ (numbers : List ℕ) (items : List ResolvedItem) (held : AreRolesKnown s numbers items) where
     functions_good : (fs : List ℕ) → Each IsGoodKey (map (function_key numbers) fs)
     functions_good [] = tt
     functions_good (f ∷ fs) = (tt, functions_good fs)
@@ -190,7 +190,7 @@ module _ (s : State) where
         (space_key ∷ map (name_key (histories s) numbers items) r.inputs.items)
         (tt, functions_good r.functions.items) (inl refl, names_good before r.inputs.items h)
 
-    begins_item : (own : ℕ) (r : ResolvedItem) → IsHeld s own (role_content r.role)
+    begins_item : (own : ℕ) (r : ResolvedItem) → IsRoleKnown s own (role_content r.role)
         → BeginsAsItem own (item_keys (histories s) numbers items own r)
     begins_item own r h = (_, refl, role_content r.role, h.0, h.1)
 
@@ -240,7 +240,7 @@ module _ (s : State) where
         (keys_by flag_key numbers items is)
         (flag_at_good (number_at numbers i) (slice_get items i)) (flags_good is)
 
-    answer_good : (own : ℕ) (role : Role) → IsHeld s own (role_content role)
+    answer_good : (own : ℕ) (role : Role) → IsRoleKnown s own (role_content role)
         → Each IsGoodKey (answer_key role own)
     answer_good own (roles.Group recursive bodies) h = tt
     answer_good own (roles.Check check) h =

@@ -6,12 +6,12 @@ use Rattle.std.proofs.lemmas.Option.{none-some}
 use Rattle.memo_core.specs.declared.keys.Kind.{Kind}
 use Rattle.bench_items.specs.declared.items.SharedItem.{SharedItem}
 use Rattle.bench_items.specs.Items.{RoleContent, shared_role, shared_history, held_history}
-use Rattle.bench_items.specs.Naming.{SeenName, AreNamed, with_role_names}
+use Rattle.bench_items.specs.Naming.{SeenName, AreInHistory, with_role_names}
 use Rattle.bench_items.proofs.Naming.{all_named, grown_begins, grown_stays}
 use Rattle.bench_nodes.specs.declared.table.ItemRow.{ItemRow}
 use Rattle.bench_parts.specs.Contents.{PartContent, OfRole, role_part, item_content, part_history}
 use Rattle.bench_parts.specs.Stamps.{next_number}
-use Rattle.bench_parts.specs.Items.{ItemFact, held_after, AreItemsOf, raised_item}
+use Rattle.bench_parts.specs.Items.{ItemFact, part_after, AreItemsMade, raised_item}
 use Rattle.bench_parts.specs.ItemLaws.{AreItemsAfter, GoesOn}
 
 -- ---- what items do
@@ -26,16 +26,16 @@ same_history e = cc
 
 -- the names of what an item does are in its history
 part_named : (item : Option SharedItem) (role : RoleContent) (history : List SeenName)
-    → role_part item ≡ Some (OfRole role history) → AreNamed history role
+    → role_part item ≡ Some (OfRole role history) → AreInHistory history role
 part_named None role history e = absurd (none-some (OfRole role history) e)
 part_named (Some s) role history e =
     let named = all_named (shared_history s) (shared_history s) (shared_role s) (sym s.named) in
-    subst (λ (h : List SeenName). AreNamed h role) (same_history e) (subst
-    (λ (r : RoleContent). AreNamed (shared_history s) r) (same_role e) named)
+    subst (λ (h : List SeenName). AreInHistory h role) (same_history e) (subst
+    (λ (r : RoleContent). AreInHistory (shared_history s) r) (same_role e) named)
 
 pub content_named : (rows : List ItemRow) (items : List (Option SharedItem)) (of : ℕ)
     (role : RoleContent) (history : List SeenName)
-    → item_content rows items of ≡ Some (OfRole role history) → AreNamed history role
+    → item_content rows items of ≡ Some (OfRole role history) → AreInHistory history role
 content_named [] items of role history e = absurd (none-some (OfRole role history) e)
 content_named (i ∷ is) [] of role history e = absurd (none-some (OfRole role history) e)
 content_named (i ∷ is) (s ∷ ss) of role history e = elim (eqb_tells i.number of) [
@@ -51,19 +51,19 @@ history_held (Some b) = refl
 pub new_held : (s : SharedItem) (before : Option SharedItem) (role : RoleContent)
     (read : Option RoleContent) → shared_role s ≡ role
     → shared_history s ≡ with_role_names (held_history before) role → read ≡ Some role
-    → role_part (Some s) ≡ held_after read (role_part before)
+    → role_part (Some s) ≡ part_after read (role_part before)
 new_held s before role read does named is =
     ap (λ (r : RoleContent). Some (OfRole r (shared_history s))) does
     ∙ ap (λ (h : List SeenName). Some (OfRole role h)) (named
     ∙ ap (λ (h : List SeenName). with_role_names h role) (history_held before))
-    ∙ sym (ap (λ (o : Option RoleContent). held_after o (role_part before)) is)
+    ∙ sym (ap (λ (o : Option RoleContent). part_after o (role_part before)) is)
 
 -- ---- what they do after an edit
 
 abbrev AllNamed : Option PartContent → Type 0
 AllNamed before =
     (role : RoleContent) (history : List SeenName) → before ≡ Some (OfRole role history)
-    → AreNamed history role
+    → AreInHistory history role
 
 none_goes_on : (before now : Option PartContent) → now ≡ None → GoesOn before now
 none_goes_on before now e = record {
@@ -98,7 +98,7 @@ read_goes_on read before now named e = record {
 }
 
 goes_on : (read : Option RoleContent) (before now : Option PartContent) → AllNamed before
-    → now ≡ held_after read before → GoesOn before now
+    → now ≡ part_after read before → GoesOn before now
 goes_on None before now named e = held_goes_on before now e
 goes_on (Some read) before now named e = read_goes_on read before now named e
 
@@ -107,7 +107,7 @@ goes_on (Some read) before now named e = read_goes_on read before now named e
 items_go_on : (last number fresh : ℕ) (rows : List ItemRow) (items : List (Option SharedItem))
     (texts : ℕ → Option PartContent) (facts : List ItemFact) (before : List ItemRow)
     (does : List (Option SharedItem)) (kinds : List (Option Kind))
-    → AreItemsOf fresh rows items texts facts before does kinds
+    → AreItemsMade fresh rows items texts facts before does kinds
     → (of : ℕ)
     → GoesOn (item_content rows items of) (item_content (map (raised_item last number) before)
     does of)

@@ -24,8 +24,8 @@ use Rattle.bench_parts.specs.Contents.{PartContent}
 use Rattle.bench_parts.specs.States.{is_kind}
 use Rattle.bench_parts.specs.Stamps.{next_number}
 use Rattle.bench_slots.specs.Kinds.{node_kind}
-use Rattle.bench_parts.specs.Items.{ItemFact, kind_at, AreItemsOf, raised_item}
-use Rattle.bench_parts.specs.ItemLaws.{AreItemsAfter, AreApart, IsOfItsKind, role_kind}
+use Rattle.bench_parts.specs.Items.{ItemFact, kind_at, AreItemsMade, raised_item}
+use Rattle.bench_parts.specs.ItemLaws.{AreItemsAfter, AreFactsApart, IsOfItsKind, role_kind}
 
 -- ---- by their texts
 
@@ -46,8 +46,8 @@ apart_by m n fs e h = subst (λ (k : ℕ). Each (λ (g : ItemFact). k ≢ g.numb
 all_kinds : (last number fresh : ℕ) (rows : List ItemRow) (does_before : List (Option SharedItem))
     (texts : ℕ → Option PartContent) (facts : List ItemFact) (before : List ItemRow)
     (does : List (Option SharedItem)) (ks : List (Option Kind))
-    → AreItemsOf fresh rows does_before texts facts before does ks
-    → AreApart facts → Each (IsOfItsKind (map (raised_item last number) before) ks) facts
+    → AreItemsMade fresh rows does_before texts facts before does ks
+    → AreFactsApart facts → Each (IsOfItsKind (map (raised_item last number) before) ks) facts
 all_kinds last number fresh rows does_before texts [] before does ks h apart = tt
 all_kinds last number fresh rows does_before texts (f ∷ fs) [] rs ks h apart = absurd h
 all_kinds last number fresh rows does_before texts (f ∷ fs) (i ∷ is) [] ks h apart = absurd h
@@ -64,7 +64,7 @@ pub have_kinds : (last number : ℕ) (rows new : List ItemRow)
     (does_before does : List (Option SharedItem)) (texts : ℕ → Option PartContent)
     (ks : List (Option Kind)) (facts : List ItemFact)
     → AreItemsAfter last number rows does_before texts facts new does ks
-    → AreApart facts → Each (IsOfItsKind new ks) facts
+    → AreFactsApart facts → Each (IsOfItsKind new ks) facts
 have_kinds last number rows new does_before does texts ks facts a apart =
     subst (λ (n : List ItemRow). Each (IsOfItsKind n ks) facts) (sym a.raised) (all_kinds last
     number (next_number last) rows does_before texts facts a.before does ks a.made apart)

@@ -15,8 +15,8 @@ use Rattle.bench_parts.specs.Built.{IsStamp, IsItemRow}
 use Rattle.bench_parts.specs.Contents.{PartContent, role_part, item_content, part_history}
 use Rattle.bench_parts.specs.Stamps.{IsLaterNumber, IsPartNow, next_number, raised, IsStampOf}
 use Rattle.bench_parts.proofs.Stamping.{raised_low, part_now, stamp_now}
-use Rattle.bench_parts.specs.Items.{ItemFact, fact_at, item_facts, fact_text, held_after, IsItemOf, AreItemsOf, raised_item}
-use Rattle.bench_parts.specs.ItemLaws.{HasText, AreItemsAfter, AreApart, HoldsRole, DoesWhatIsRead, AreItemsHeld}
+use Rattle.bench_parts.specs.Items.{ItemFact, fact_at, item_facts, fact_text, part_after, IsItemMade, AreItemsMade, raised_item}
+use Rattle.bench_parts.specs.ItemLaws.{HasFactText, AreItemsAfter, AreFactsApart, HoldsRole, DoesWhatIsRead, AreItemsHeld}
 
 -- ---- the rows before
 
@@ -36,7 +36,7 @@ module _ (last number : ℕ) (rows : List ItemRow) (roles : List (Option SharedI
     (later : IsLaterNumber last number) (texts : ℕ → Option PartContent)
     (was : AllZip (IsItemRow last) rows roles) where
   one_now : (f : ItemFact) (row : ItemRow) (role : Option SharedItem)
-      → IsItemOf (next_number last) rows roles texts f row role
+      → IsItemMade (next_number last) rows roles texts f row role
       → IsPartNow (texts f.number) (item_stamp rows f.number) number f.text
       (raised last number row.stamp)
   one_now f row role h =
@@ -45,7 +45,7 @@ module _ (last number : ℕ) (rows : List ItemRow) (roles : List (Option SharedI
 
   pub items_now : (facts : List ItemFact) (before : List ItemRow) (does : List (Option SharedItem))
       (kinds : List (Option Kind))
-      → AreItemsOf (next_number last) rows roles texts facts before does kinds
+      → AreItemsMade (next_number last) rows roles texts facts before does kinds
       → (of : ℕ)
       → IsPartNow (texts of) (item_stamp rows of) number (fact_text facts of)
       (item_stamp (map (raised_item last number) before) of)
@@ -78,7 +78,7 @@ module _ (last number : ℕ) (rows : List ItemRow) (roles : List (Option SharedI
 
   pub items_kept : (facts : List ItemFact) (before : List ItemRow) (does : List (Option SharedItem))
       (kinds : List (Option Kind))
-      → AreItemsOf (next_number last) rows roles texts facts before does kinds
+      → AreItemsMade (next_number last) rows roles texts facts before does kinds
       → (of : ℕ) (c : PartContent) → texts of ≡ Some c → fact_text facts of ≡ Some c
       → item_stamp (map (raised_item last number) before) of ≡ item_stamp rows of
   items_kept [] [] [] [] h of c e f = absurd (let g : None ≡ Some c = f in cc)
@@ -116,8 +116,8 @@ module _ (last number : ℕ) (rows : List ItemRow) (roles : List (Option SharedI
   ]
 
   row_now : ((of : ℕ) → item_stamp rows of ≡ 0 → texts of ≡ None)
-      → (f : ItemFact) (row : ItemRow) (role : Option SharedItem) → HasText f
-      → IsItemOf (next_number last) rows roles texts f row role
+      → (f : ItemFact) (row : ItemRow) (role : Option SharedItem) → HasFactText f
+      → IsItemMade (next_number last) rows roles texts f row role
       → IsItemRow number (raised_item last number row) role
   row_now gone f row role has h =
       stamp_now last number (item_stamp rows f.number) row.stamp (texts f.number) has.0 later
@@ -129,8 +129,8 @@ module _ (last number : ℕ) (rows : List ItemRow) (roles : List (Option SharedI
 
   pub rows_now : ((of : ℕ) → item_stamp rows of ≡ 0 → texts of ≡ None)
       → (facts : List ItemFact) (before : List ItemRow) (does : List (Option SharedItem))
-      (kinds : List (Option Kind)) → Each HasText facts
-      → AreItemsOf (next_number last) rows roles texts facts before does kinds
+      (kinds : List (Option Kind)) → Each HasFactText facts
+      → AreItemsMade (next_number last) rows roles texts facts before does kinds
       → AllZip (IsItemRow number) (map (raised_item last number) before) does
   rows_now gone [] [] [] [] all h = tt
   rows_now gone [] [] [] (k ∷ ks) all h = absurd h
@@ -146,7 +146,7 @@ module _ (last number : ℕ) (rows : List ItemRow) (roles : List (Option SharedI
 none_of : (last number fresh : ℕ) (rows : List ItemRow) (roles : List (Option SharedItem))
     (texts : ℕ → Option PartContent) (facts : List ItemFact) (before : List ItemRow)
     (does : List (Option SharedItem)) (kinds : List (Option Kind))
-    → AreItemsOf fresh rows roles texts facts before does kinds
+    → AreItemsMade fresh rows roles texts facts before does kinds
     → AllZip (IsItemRow number) (map (raised_item last number) before) does → (of : ℕ)
     → item_stamp (map (raised_item last number) before) of ≡ 0 → fact_text facts of ≡ None
 none_of last number fresh rows roles texts [] before does kinds h now of e = refl
@@ -209,12 +209,12 @@ items_gone last number rows new roles does texts kinds facts a of e =
 
 does_read : (fresh : ℕ) (rows : List ItemRow) (roles : List (Option SharedItem))
     (texts : ℕ → Option PartContent) (f : ItemFact) (row : ItemRow) (role : Option SharedItem)
-    (c : RoleContent) → IsItemOf fresh rows roles texts f row role → f.role ≡ Some c
+    (c : RoleContent) → IsItemMade fresh rows roles texts f row role → f.role ≡ Some c
     → HoldsRole (role_part role) c
 does_read fresh rows roles texts f row role c h e = (
   with_role_names (part_history (item_content rows roles f.number)) c,
   h.role_is
-      ∙ ap (λ (o : Option RoleContent). held_after o (item_content rows roles f.number))
+      ∙ ap (λ (o : Option RoleContent). part_after o (item_content rows roles f.number))
       e,
 )
 
@@ -236,8 +236,8 @@ apart_by m n fs e h = subst (λ (k : ℕ). Each (λ (g : ItemFact). k ≢ g.numb
 all_read : (last number fresh : ℕ) (rows : List ItemRow) (roles : List (Option SharedItem))
     (texts : ℕ → Option PartContent) (facts : List ItemFact) (before : List ItemRow)
     (does : List (Option SharedItem)) (kinds : List (Option Kind))
-    → AreItemsOf fresh rows roles texts facts before does kinds
-    → AreApart facts → Each (DoesWhatIsRead (map (raised_item last number) before) does) facts
+    → AreItemsMade fresh rows roles texts facts before does kinds
+    → AreFactsApart facts → Each (DoesWhatIsRead (map (raised_item last number) before) does) facts
 all_read last number fresh rows roles texts [] before does kinds h apart = tt
 all_read last number fresh rows roles texts (f ∷ fs) [] rs ks h apart = absurd h
 all_read last number fresh rows roles texts (f ∷ fs) (i ∷ is) [] ks h apart = absurd h
@@ -253,7 +253,7 @@ all_read last number fresh rows roles texts (f ∷ fs) (i ∷ is) (r ∷ rs) (k 
 pub items_do : (last number : ℕ) (rows new : List ItemRow) (roles does : List (Option SharedItem))
     (texts : ℕ → Option PartContent) (kinds : List (Option Kind)) (facts : List ItemFact)
     → AreItemsAfter last number rows roles texts facts new does kinds
-    → AreApart facts → Each (DoesWhatIsRead new does) facts
+    → AreFactsApart facts → Each (DoesWhatIsRead new does) facts
 items_do last number rows new roles does texts kinds facts a apart =
     subst (λ (n : List ItemRow). Each (DoesWhatIsRead n does) facts) (sym a.raised)
     (all_read last number (next_number last) rows roles texts facts a.before does kinds a.made
@@ -264,7 +264,7 @@ items_do last number rows new roles does texts kinds facts a apart =
 in_order : (last number fresh : ℕ) (rows : List ItemRow) (roles : List (Option SharedItem))
     (texts : ℕ → Option PartContent) (facts : List ItemFact) (before : List ItemRow)
     (does : List (Option SharedItem)) (kinds : List (Option Kind))
-    → AreItemsOf fresh rows roles texts facts before does kinds
+    → AreItemsMade fresh rows roles texts facts before does kinds
     → (map (λ r. r.number) (map (raised_item last number) before) ≡ map (λ f. f.number) facts)
     × (kinds ≡ map (λ f. f.kind) facts)
 in_order last number fresh rows roles texts [] [] [] [] h = (refl, refl)

@@ -25,14 +25,14 @@ use Rattle.bench_nodes.specs.declared.table.SlotKey.TheVariants as slots
 use Rattle.bench_nodes.specs.Nodes.{part_stamp, has_slot, slot_keys, keys_at}
 use Rattle.bench_values.specs.Givens.{ForItem}
 use Rattle.bench_items.specs.Items.{RoleContent, role_content}
-use Rattle.bench_items.specs.Naming.{SeenName, AreNamed, item_outputs}
+use Rattle.bench_items.specs.Naming.{SeenName, AreInHistory, item_outputs}
 use Rattle.bench_slots.specs.Slots.{PlainSlot, number_at, item_keys, slots_of, item_slots, used_slots, verdict_keys, sound_slots}
 use Rattle.bench_slots.specs.Tables.{ModelReading, Sound, Faulty, space_slots, slots_in, all_slots}
 use Rattle.bench_slots.proofs.Lists.{each_append, each_has}
-use Rattle.bench_parts.specs.Built.{AreHeld, IsModelIn}
+use Rattle.bench_parts.specs.Built.{AreRolesKnown, IsModelIn}
 use Rattle.bench_parts.specs.Contents.{PartContent, OfText, OfRole, histories, content}
 use Rattle.bench_parts.specs.States.{contents, given_item, net_in}
-use Rattle.bench_parts.specs.Written.{WrittenModel, WrittenState, read_model, IsReadAs, IsWhole, IsSince, item_text}
+use Rattle.bench_parts.specs.Written.{WrittenModel, WrittenState, read_model, IsReadAs, IsWholeState, IsStateSince, item_text}
 use Rattle.bench_parts.proofs.BuiltSlots.{slot_inputs, held_history_is}
 use Rattle.bench_parts.proofs.Histories.{content_named}
 use Rattle.bench_parts.proofs.Saying.{say_same, text_known}
@@ -49,7 +49,7 @@ pub record IsOfItem (w : WrittenState) (of : ℕ) (keys : List SlotKey) : Type 0
   pub there : Has w.models model
   pub items : List ResolvedItem
   pub sound : reread.IsReadModel (outer_namings PREDEFINED) (read_model model items)
-  pub held : AreHeld w.state model.numbers items
+  pub held : AreRolesKnown w.state model.numbers items
   pub index : ℕ
   pub item : ResolvedItem
   pub item_at : slice_get items index ≡ Some item
@@ -62,7 +62,7 @@ pub record IsOfSound (w : WrittenState) (keys : List SlotKey) : Type 0 where
   pub there : Has w.models model
   pub items : List ResolvedItem
   pub sound : reread.IsReadModel (outer_namings PREDEFINED) (read_model model items)
-  pub held : AreHeld w.state model.numbers items
+  pub held : AreRolesKnown w.state model.numbers items
   pub used : List ℕ
   pub keys_are : keys ≡ verdict_keys model.numbers items used
 
@@ -76,13 +76,13 @@ IsOfModel w kinds.Group of keys = IsOfItem w of keys
 IsOfModel w kinds.Check of keys = IsOfItem w of keys
 IsOfModel w kinds.Verdict of keys = IsOfSound w keys ⊎ IsOfFaulty keys
 
-module _ (w : WrittenState) (whole : IsWhole w) where
+module _ (w : WrittenState) (whole : IsWholeState w) where
   abbrev All : List PlainSlot → Type 0
   All ss = Each (λ p. IsOfModel w p.kind p.of p.inputs) ss
 
   module _ (m : WrittenModel) (there : Has w.models m) (items : List ResolvedItem)
       (sound : reread.IsReadModel (outer_namings PREDEFINED) (read_model m items))
-      (held : AreHeld w.state m.numbers items) where
+      (held : AreRolesKnown w.state m.numbers items) where
     role_slots : (role : Role) (own : ℕ) (keys : List SlotKey) → IsOfItem w own keys
         → All (slots_of role own keys)
     role_slots (roles.Group recursive bodies) own keys is = (is, tt)
@@ -140,7 +140,7 @@ module _ (w : WrittenState) (whole : IsWhole w) where
   model_slots m (Sound id numbers items used) there read h =
       subst (λ (ns : List ℕ). All (sound_slots (histories w.state) id ns items used)) (sym read.0)
       (whole_slots m there items read.1
-      (subst (λ (ns : List ℕ). AreHeld w.state ns items) read.0 h.1) id used)
+      (subst (λ (ns : List ℕ). AreRolesKnown w.state ns items) read.0 h.1) id used)
   model_slots m (Faulty id fault) there read h = (inr (id, refl), tt)
 
   models_slots : (ms : List WrittenModel) → ((m : WrittenModel) → Has ms m → Has w.models m)
@@ -203,18 +203,18 @@ module _ (w : WrittenState) (whole : IsWhole w) where
     text_in_model = beside a.items a.model.items a.index a.item (sym (a.sound).whole) a.item_at
 
     pub items_named : (i : ℕ) (r : ResolvedItem) → slice_get a.items i ≡ Some r
-        → AreNamed (histories w.state (number_at a.model.numbers i)) (role_content r.role)
+        → AreInHistory (histories w.state (number_at a.model.numbers i)) (role_content r.role)
     items_named i r at =
         let number = number_at a.model.numbers i in
         let h = a.held i r at in
-        subst (λ (l : List SeenName). AreNamed l (role_content r.role))
+        subst (λ (l : List SeenName). AreInHistory l (role_content r.role))
         (sym (held_history_is w.state number (role_content r.role) h.0 h.1))
         (content_named w.state.parts.table.items.items w.state.parts.roles.items number
         (role_content r.role) h.0 h.1)
 
 -- ---- what was given stays
 
-module _ (w v : WrittenState) (since : IsSince w v) (of : ℕ) (old new : List SlotKey)
+module _ (w v : WrittenState) (since : IsStateSince w v) (of : ℕ) (old new : List SlotKey)
     (a : IsOfItem w of old) (b : IsOfItem v of new) (test : ℕ)
     (same : keys_at test new ≡ keys_at test old)
     (parts : Each (IsSamePart (net_in w.state) (net_in v.state)) (keys_at test new)) where

@@ -10,7 +10,7 @@ use Rattle.bench_nodes.specs.declared.table.ItemRow.{ItemRow}
 use Rattle.bench_nodes.specs.Nodes.{item_stamp}
 use Rattle.bench_parts.specs.Contents.{PartContent, role_part, item_content}
 use Rattle.bench_parts.specs.Stamps.{IsStampOf}
-use Rattle.bench_parts.specs.Items.{ItemFact, IsItemOf, AreItemsOf, read_role}
+use Rattle.bench_parts.specs.Items.{ItemFact, IsItemMade, AreItemsMade, read_role}
 
 -- ---- the first row of a number
 
@@ -100,9 +100,9 @@ role_past (r ∷ rs) (suc i) past = role_past rs i (omega arith)
 pub items_more : (fresh : ℕ) (rows : List ItemRow) (roles : List (Option SharedItem))
     (texts : ℕ → Option PartContent) (fs : List ItemFact) (is : List ItemRow)
     (rs : List (Option SharedItem)) (ks : List (Option Kind)) (f : ItemFact) (i : ItemRow)
-    (r : Option SharedItem) (k : Option Kind) → AreItemsOf fresh rows roles texts fs is rs ks
-    → IsItemOf fresh rows roles texts f i r → k ≡ f.kind
-    → AreItemsOf fresh rows roles texts (fs ++ f ∷ []) (is ++ i ∷ []) (rs ++ r ∷ []) (ks ++ k ∷ [])
+    (r : Option SharedItem) (k : Option Kind) → AreItemsMade fresh rows roles texts fs is rs ks
+    → IsItemMade fresh rows roles texts f i r → k ≡ f.kind
+    → AreItemsMade fresh rows roles texts (fs ++ f ∷ []) (is ++ i ∷ []) (rs ++ r ∷ []) (ks ++ k ∷ [])
 items_more fresh rows roles texts [] [] [] [] f i r k before item kind = (item, kind, tt)
 items_more fresh rows roles texts [] [] [] (l ∷ ks) f i r k before item kind = absurd before
 items_more fresh rows roles texts [] [] (s ∷ rs) ks f i r k before item kind = absurd before

@@ -5,7 +5,7 @@ use Rattle.memo_core.specs.declared.keys.Key.{Key}
 use Rattle.memo_core.specs.declared.keys.Key.TheVariants.{Part, Output}
 use Rattle.memo_core.specs.declared.keys.Node.{Node}
 use Rattle.memo_core.specs.Graph.{lookup, input_nodes}
-use Rattle.memo_core.specs.Right.{HasValue, IsSound}
+use Rattle.memo_core.specs.Right.{HasOutputValue, IsSoundNet}
 use Rattle.memo_core.specs.Step.{Has}
 use Rattle.bench_values.specs.Givens.{GivenContent}
 use Rattle.bench_values.specs.Makes.{Makes, output_names}
@@ -13,8 +13,8 @@ use Rattle.bench_values.specs.Values.{NodeContent}
 use Rattle.bench_values.proofs.Counting.{makes_many}
 use Rattle.bench_nodes.specs.Nodes.{used, inputs}
 use Rattle.bench_nodes.proofs.Laws.{used_is_closed}
-use Rattle.bench_parts.specs.Contents.{State}
-use Rattle.bench_parts.specs.States.{given, is_given, net_in, makes, HasOutput, IsValid, IsThere}
+use Rattle.bench_parts.specs.Contents.{PartsState}
+use Rattle.bench_parts.specs.States.{given_to_node, is_given, net_in, makes, HasOutput, IsValidState, IsUsedNode}
 use Rattle.bench_parts.proofs.Numbering.{value_there}
 use Rattle.bench_parts.proofs.Equality.{given_is}
 
@@ -28,26 +28,26 @@ values_there x g vs os there h =
     let found = value_there (output_names g) h.0 x (makes_many g vs h.0 h.1) there in
     (found.0, ap (λ (l : List (ℕ × NodeContent)). lookup x l) h.2 ∙ found.1)
 
-each_has_value : (s : State) (ks : List Key) → Each (HasOutput s) ks
-    → Each (HasValue makes (net_in s)) ks
+each_has_value : (s : PartsState) (ks : List Key) → Each (HasOutput s) ks
+    → Each (HasOutputValue makes (net_in s)) ks
 each_has_value s [] h = tt
 each_has_value s (Part part of ∷ ks) h = (tt, each_has_value s ks h.1)
 each_has_value s (Output n x ∷ ks) h = (
-  (λ g vs os gives made. values_there x g vs os (h.0 g (given_is (given s n) g gives)) made),
+  (λ g vs os gives made. values_there x g vs os (h.0 g (given_is (given_to_node s n) g gives)) made),
   each_has_value s ks h.1,
 )
 
-each_there : (s : State) (ns : List Node) → IsValid s → Each (Has (used s.parts.table)) ns
-    → Each (IsThere s) ns
+each_there : (s : PartsState) (ns : List Node) → IsValidState s → Each (Has (used s.parts.table)) ns
+    → Each (IsUsedNode s) ns
 each_there s [] valid h = tt
 each_there s (n ∷ ns) valid h = (record { valid = valid; is_used = h.0 }, each_there s ns valid h.1)
 
-pub states_are_sound : (s : State) → IsValid s → IsSound makes (net_in s) (IsThere s)
+pub states_are_sound : (s : PartsState) → IsValidState s → IsSoundNet makes (net_in s) (IsUsedNode s)
 states_are_sound s valid = record {
   has_values = λ n there. each_has_value s (inputs s.parts.table n) (valid.outputs n there.is_used);
   inputs_there =
       λ n there. each_there s (input_nodes (inputs s.parts.table n)) valid
-      (used_is_closed s.parts.table (λ m g. is_given (given s m) g) valid.ordered n there.is_used);
+      (used_is_closed s.parts.table (λ m g. is_given (given_to_node s m) g) valid.ordered n there.is_used);
 }
 
 -- ---- used nodes are there
@@ -56,7 +56,7 @@ all_used : (all ns : List Node) → ((n : Node) → Has ns n → Has all n) → 
 all_used all [] h = tt
 all_used all (n ∷ ns) h = (h n (inl refl), all_used all ns (λ m i. h m (inr i)))
 
-pub used_are_there : (s : State) → IsValid s → Each (IsThere s) (used s.parts.table)
+pub used_are_there : (s : PartsState) → IsValidState s → Each (IsUsedNode s) (used s.parts.table)
 used_are_there s valid =
     each_there s (used s.parts.table) valid (all_used (used s.parts.table) (used s.parts.table)
     (λ n h. h))

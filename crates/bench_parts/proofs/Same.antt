@@ -16,11 +16,11 @@ use Rattle.bench_nodes.specs.declared.table.ItemRow.{ItemRow}
 use Rattle.bench_nodes.specs.Nodes.{part_stamp, used, inputs_of, inputs}
 use Rattle.bench_slots.specs.Slots.{plain, number_at, item_history}
 use Rattle.bench_slots.specs.Tables.{ModelReading, Sound, Faulty, all_slots}
-use Rattle.bench_parts.specs.Built.{AreHeld, IsModelIn, IsItemRow, IsModelRow, AreTestRows, IsBuilt}
-use Rattle.bench_parts.specs.Contents.{PartContent, State, histories, content}
-use Rattle.bench_parts.specs.States.{contents, is_read, flag_name, flag_read, is_answer, flags_read, given_space, given_item, given_verdict, given_by, given, is_given, net_in, IsSameState}
+use Rattle.bench_parts.specs.Built.{AreRolesKnown, IsModelIn, IsItemRow, IsModelRow, AreTestRows, IsBuilt}
+use Rattle.bench_parts.specs.Contents.{PartContent, PartsState, histories, content}
+use Rattle.bench_parts.specs.States.{contents, is_read, flag_name, flag_read, is_answer, flags_read, given_space, given_item, given_verdict, given_by, given_to_node, is_given, net_in, IsSameState}
 
-module _ (s t : State) (same : IsSameState s t) where
+module _ (s t : PartsState) (same : IsSameState s t) where
   pub content_is : (part of : ℕ) → content t part of ≡ content s part of
   content_is part of = cc
 
@@ -73,15 +73,15 @@ module _ (s t : State) (same : IsSameState s t) where
       ap (λ (cs : List (Option PartContent)). given_verdict cs (flags_read t ks ks))
       (contents_are ks) ∙ ap (given_verdict (contents s ks)) (flags_are ks ks)
 
-  given_is : (n : Node) → given t n ≡ given s n
+  given_is : (n : Node) → given_to_node t n ≡ given_to_node s n
   given_is n = given_from n.kind (inputs t.parts.table n) ∙ ap (given_by s n.kind) (inputs_are n)
 
   pub net_is : net_in t ≡ net_in s
   net_is =
       let stamps : part_stamp t.parts.table ≡ part_stamp s.parts.table = fun_ext (λ part. fun_ext (λ of. stamp_is part of)) in
       let keys : inputs t.parts.table ≡ inputs s.parts.table = fun_ext inputs_are in
-      let gives_t : Node → GivenContent → Bool = λ n g. is_given (given t n) g in
-      let gives_s : Node → GivenContent → Bool = λ n g. is_given (given s n) g in
+      let gives_t : Node → GivenContent → Bool = λ n g. is_given (given_to_node t n) g in
+      let gives_s : Node → GivenContent → Bool = λ n g. is_given (given_to_node s n) g in
       let gives : gives_t ≡ gives_s = fun_ext (λ n. fun_ext (λ g. ap (λ (o : Option GivenContent). is_given o g) (given_is n))) in
       ap
       (λ (p : ℕ → ℕ → ℕ).
@@ -126,8 +126,8 @@ module _ (s t : State) (same : IsSameState s t) where
 
   -- ---- the same holds of both
 
-  held_is : (numbers : List ℕ) (items : List ResolvedItem) → AreHeld s numbers items
-      → AreHeld t numbers items
+  held_is : (numbers : List ℕ) (items : List ResolvedItem) → AreRolesKnown s numbers items
+      → AreRolesKnown t numbers items
   held_is numbers items h =
       λ index r e. ((h index r e).0, content_is 0 (number_at numbers index) ∙ (h index r e).1)
 

@@ -5,7 +5,7 @@ use Rattle.memo_core.specs.Step.{Has}
 use Rattle.bench_items.specs.Naming.{SeenName}
 use Rattle.bench_parts.specs.Built.{IsBuilt}
 use Rattle.bench_parts.specs.Contents.{PartContent, content}
-use Rattle.bench_parts.specs.Written.{WrittenModel, WrittenState, IsHere, Precedes, IsReadAs, IsPaired, IsWhole, ItemsGoOn, IsSince, IsSameWritten, part_content, item_text}
+use Rattle.bench_parts.specs.Written.{WrittenModel, WrittenState, IsHere, Precedes, IsReadAs, IsPaired, IsWholeState, WrittenItemsGoOn, IsStateSince, IsSameWritten, part_content, item_text}
 use Rattle.bench_parts.proofs.Same.{content_is, stamp_is, built_is, histories_are}
 
 module _ (w v : WrittenState) (same : IsSameWritten w v) where
@@ -36,7 +36,7 @@ module _ (w v : WrittenState) (same : IsSameWritten w v) where
     before = p.before;
   }
 
-  whole_is : IsWhole w → IsWhole v
+  whole_is : IsWholeState w → IsWholeState v
   whole_is whole = record {
     built =
         subst (λ (ms : List WrittenModel). IsBuilt v.state (map (λ m. m.reading) ms))
@@ -58,7 +58,7 @@ module _ (w v : WrittenState) (same : IsSameWritten w v) where
         ∙ whole.gone part of (sym (stamp_is w.state v.state same.state part of) ∙ e);
   }
 
-  items_are : (r : WrittenState) → ItemsGoOn r w → ItemsGoOn r v
+  items_are : (r : WrittenState) → WrittenItemsGoOn r w → WrittenItemsGoOn r v
   items_are r items = record {
     order =
         λ a b before x y. precedes_is a b (items.order a b before (here_was a x) (here_was b y));
@@ -72,7 +72,7 @@ module _ (w v : WrittenState) (same : IsSameWritten w v) where
         ));
   }
 
-  pub since_is : (r : WrittenState) → IsSince r w → IsSince r v
+  pub since_is : (r : WrittenState) → IsStateSince r w → IsStateSince r v
   since_is r since = record {
     whole = since.whole;
     still_whole = whole_is since.still_whole;

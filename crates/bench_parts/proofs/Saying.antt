@@ -14,7 +14,7 @@ use Rattle.binding_kinds.specs.Value.{Bound, Group, Check, Mute, Defined, bound_
 use Rattle.memo_core.specs.Step.{Has}
 use Rattle.binding_laws.specs.ItemLaws.{label_of, SayTheSame}
 use Rattle.bench_parts.specs.Contents.{PartContent, OfText}
-use Rattle.bench_parts.specs.Written.{WrittenModel, WrittenState, StandsAt, IsWhole, text_in, item_text}
+use Rattle.bench_parts.specs.Written.{WrittenModel, WrittenState, StandsAt, IsWholeState, text_in, item_text}
 
 -- ---- what a clause tells
 
@@ -143,7 +143,7 @@ item_there (n ∷ ms) m number p h e =
     by_text None is (inr later) more = more later
 
 -- the part of an item that is there holds its text
-pub text_known : (w : WrittenState) (whole : IsWhole w) (m : WrittenModel) (index number : ℕ)
+pub text_known : (w : WrittenState) (whole : IsWholeState w) (m : WrittenModel) (index number : ℕ)
     (x : Item) → Has w.models m → StandsAt m index number → slice_get m.items index ≡ Some x
     → item_text w.models number ≡ Some (OfText (clause_of x))
 text_known w whole m index number x there at text =

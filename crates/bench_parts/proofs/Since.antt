@@ -14,14 +14,14 @@ use Rattle.bench_items.specs.Naming.{SeenName}
 use Rattle.bench_nodes.specs.declared.table.Slot.{Slot}
 use Rattle.bench_nodes.specs.declared.table.TestRow.{TestRow}
 use Rattle.bench_nodes.specs.Nodes.{part_stamp, inputs, inputs_of, has_slot, slot_keys, keys_at, thread_parts, row_of, row_parts}
-use Rattle.bench_parts.specs.Contents.{PartContent, State, content, histories}
-use Rattle.bench_parts.specs.States.{IsValid, contents, given_space, given_item, given_by, given, is_given, net_in, flags_read, given_verdict}
-use Rattle.bench_parts.specs.Written.{WrittenState, IsHere, Precedes, IsWhole, ItemsGoOn, IsSince, IsPartAfter, IsStamped, part_content}
+use Rattle.bench_parts.specs.Contents.{PartContent, PartsState, content, histories}
+use Rattle.bench_parts.specs.States.{IsValidState, contents, given_space, given_item, given_by, given_to_node, is_given, net_in, flags_read, given_verdict}
+use Rattle.bench_parts.specs.Written.{WrittenState, IsHere, Precedes, IsWholeState, WrittenItemsGoOn, IsStateSince, IsPartAfter, IsStamped, part_content}
 use Rattle.bench_parts.proofs.Built.{built_valid, no_inputs}
 use Rattle.bench_parts.proofs.ItemSlots.{IsOfItem, slot_of, item_given_stays}
 use Rattle.bench_parts.proofs.VerdictSlots.{verdict_stays}
 
-pub whole_valid : (w : WrittenState) → IsWhole w → IsValid w.state
+pub whole_valid : (w : WrittenState) → IsWholeState w → IsValidState w.state
 whole_valid w whole = built_valid w.state _ whole.built
 
 -- ---- what a space is given
@@ -41,7 +41,7 @@ row_no_items None = tt
 row_no_items (Some r) =
     ((λ e. absurd (omega (arith, e))), threads_no_items r.id 6 r.threads.items (omega arith))
 
-module _ (w v : WrittenState) (since : IsSince w v) where
+module _ (w v : WrittenState) (since : IsStateSince w v) where
   part_stays : (part of : ℕ) → (part ≡ 0 → ⊥)
       → part_stamp v.state.parts.table part of ≡ part_stamp w.state.parts.table part of
       → content v.state part of ≡ content w.state part of
@@ -60,10 +60,10 @@ module _ (w v : WrittenState) (since : IsSince w v) where
 
   -- ---- by the kind of the node
 
-  no_item : (s : State) (ks : List Key) → ks ≡ [] → given_item (contents s ks) ≡ None
+  no_item : (s : PartsState) (ks : List Key) → ks ≡ [] → given_item (contents s ks) ≡ None
   no_item s ks e = ap (λ (l : List Key). given_item (contents s l)) e
 
-  no_verdict : (s : State) (ks : List Key) → ks ≡ []
+  no_verdict : (s : PartsState) (ks : List Key) → ks ≡ []
       → given_verdict (contents s ks) (flags_read s ks ks) ≡ None
   no_verdict s ks e = ap (λ (l : List Key). given_verdict (contents s l) (flags_read s l l)) e
 
@@ -131,17 +131,17 @@ module _ (w v : WrittenState) (since : IsSince w v) where
             no_verdict v.state _ (same ∙ none) ∙ sym (no_verdict w.state _ none))
       ]
 
-pub given_is_kept : (w v : WrittenState) (n : Node) (g : GivenContent) → IsSince w v
+pub given_is_kept : (w v : WrittenState) (n : Node) (g : GivenContent) → IsStateSince w v
     → inputs v.state.parts.table n ≡ inputs w.state.parts.table n
     → Each (IsSamePart (net_in w.state) (net_in v.state)) (inputs v.state.parts.table n)
-    → is_given (given w.state n) g ≡ true → is_given (given v.state n) g ≡ true
+    → is_given (given_to_node w.state n) g ≡ true → is_given (given_to_node v.state n) g ≡ true
 given_is_kept w v n g since same parts gives =
     ap (λ (o : Option GivenContent). is_given o g)
     (given_stays w v since n.kind n.test n.of same parts) ∙ gives
 
 -- ---- items go on
 
-items_same : (w : WrittenState) → ItemsGoOn w w
+items_same : (w : WrittenState) → WrittenItemsGoOn w w
 items_same w = record {
   order = λ first second before a b. before;
   numbers = λ number here. inl here;
@@ -149,7 +149,7 @@ items_same w = record {
   grown = λ number a b. ([], sym (append-nil (histories w.state number)));
 }
 
-module _ (w v u : WrittenState) (whole : IsWhole w) (first : ItemsGoOn w v) (next : ItemsGoOn v u)
+module _ (w v u : WrittenState) (whole : IsWholeState w) (first : WrittenItemsGoOn w v) (next : WrittenItemsGoOn v u)
   where
     -- an item that was there before and is there later was there between
     between : (number : ℕ) → IsHere w number → IsHere u number → IsHere v number
@@ -174,7 +174,7 @@ module _ (w v u : WrittenState) (whole : IsWhole w) (first : ItemsGoOn w v) (nex
         by_number (inl there) = first.numbers number there
         by_number (inr fresh) = inr (omega (arith, fresh, first.next))
 
-    items_on : ItemsGoOn w u
+    items_on : WrittenItemsGoOn w u
     items_on = record {
       order =
           λ a b before here there. next.order a b
@@ -194,7 +194,7 @@ module _ (w v u : WrittenState) (whole : IsWhole w) (first : ItemsGoOn w v) (nex
 
 -- ---- states since others
 
-pub since_itself : (w : WrittenState) → IsWhole w → IsSince w w
+pub since_itself : (w : WrittenState) → IsWholeState w → IsStateSince w w
 since_itself w whole =
     record {
       whole = whole;
@@ -204,8 +204,8 @@ since_itself w whole =
       items = items_same w;
     }
 
-pub since_stamped : (w v u : WrittenState) (number : ℕ) → IsSince w v → IsStamped v number u
-    → IsSince w u
+pub since_stamped : (w v u : WrittenState) (number : ℕ) → IsStateSince w v → IsStamped v number u
+    → IsStateSince w u
 since_stamped w v u number since after = record {
   whole = since.whole;
   still_whole = after.whole since.still_whole;

@@ -13,7 +13,7 @@ use Rattle.bench_nodes.specs.declared.table.TestRow.{TestRow}
 use Rattle.bench_nodes.specs.Nodes.{row_of, row_parts, thread_parts, space_keys}
 use Rattle.bench_values.specs.Givens.{GivenContent, ForSpace}
 use Rattle.bench_values.specs.Parts.{parts_of}
-use Rattle.bench_parts.specs.Contents.{PartContent, OfLocations, OfThread, State, test_part, test_content, content}
+use Rattle.bench_parts.specs.Contents.{PartContent, OfLocations, OfThread, PartsState, test_part, test_content, content}
 use Rattle.bench_parts.specs.States.{contents, space_given, given_space}
 use Rattle.bench_parts.specs.Views.{FoundTest, view_of}
 use Rattle.bench_parts.proofs.Rows.{part_in, test_in, row_in, row_number}
@@ -21,7 +21,7 @@ use Rattle.bench_parts.proofs.Rows.{part_in, test_in, row_in, row_number}
 -- ---- the parts of a test
 
 -- from the condition on they are parts of tests
-content_of_test : (s : State) (part id : ℕ) → 2 ≤ part
+content_of_test : (s : PartsState) (part id : ℕ) → 2 ≤ part
     → content s part id
     ≡ test_content s.parts.table.tests.items s.tests s.parts.locations.items part id
 content_of_test s part id h =
@@ -43,7 +43,7 @@ thread_of_test t locations k =
 
 -- ---- threads, and locations at the end
 
-module _ (s : State) (id : ℕ) (init : List InitEntry) (locations : List (List ℕ))
+module _ (s : PartsState) (id : ℕ) (init : List InitEntry) (locations : List (List ℕ))
     (xs : List (List Step))
     (threads : (k : ℕ) → content s (6 + k) id ≡ option_map OfThread (slice_get xs k))
     (ends : content s 4 id ≡ Some (OfLocations locations)) where
@@ -97,7 +97,7 @@ module _ (s : State) (id : ℕ) (init : List InitEntry) (locations : List (List 
 
 -- ---- the space of a test
 
-pub no_space : (s : State) (id : ℕ)
+pub no_space : (s : PartsState) (id : ℕ)
     → view_of s.parts.table.tests.items s.tests s.parts.locations.items id ≡ None
     → given_space (contents s (space_keys s.parts.table.tests.items id)) ≡ None
 no_space s id none = by_row (row_of s.parts.table.tests.items id) refl
@@ -112,7 +112,7 @@ no_space s id none = by_row (row_of s.parts.table.tests.items id) refl
         (λ (c : Option PartContent). given_space (c
         ∷ contents s (thread_parts r.id 6 r.threads.items ++ Part 4 r.id ∷ []))) lost
 
-module _ (s : State) (id : ℕ) (v : FoundTest)
+module _ (s : PartsState) (id : ℕ) (v : FoundTest)
     (found : view_of s.parts.table.tests.items s.tests s.parts.locations.items id ≡ Some v) where
   pub part_is : (part : ℕ) → 2 ≤ part → content s part id ≡ test_part v.test v.locations part
   part_is part h =

@@ -31,11 +31,11 @@ use Rattle.bench_items.specs.Naming.{SeenName}
 use Rattle.bench_slots.specs.Kinds.{node_kind}
 use Rattle.bench_slots.specs.Slots.{number_at, space_key, flag_key, answer_key, key_by, keys_by, verdict_keys}
 use Rattle.bench_slots.proofs.Lists.{each_append, each_has}
-use Rattle.bench_parts.specs.Built.{AreHeld}
+use Rattle.bench_parts.specs.Built.{AreRolesKnown}
 use Rattle.bench_parts.specs.Contents.{PartContent, OfText, OfRole, OfFault, OfCondition, OfObserved, OfLocations, OfInit, OfThread, content}
 use Rattle.bench_parts.specs.ItemLaws.{role_kind}
 use Rattle.bench_parts.specs.States.{contents, is_read, flag_name, flag_read, is_answer, flags_read, verdict_given, given_verdict, net_in}
-use Rattle.bench_parts.specs.Written.{WrittenModel, WrittenState, read_model, IsWhole, IsSince, item_text}
+use Rattle.bench_parts.specs.Written.{WrittenModel, WrittenState, read_model, IsWholeState, IsStateSince, item_text}
 use Rattle.bench_parts.proofs.Equality.{first_of, second_of}
 use Rattle.bench_parts.proofs.ItemKinds.{kinds_of_roles}
 use Rattle.bench_parts.proofs.ItemSlots.{IsOfSound, IsOfFaulty}
@@ -87,7 +87,7 @@ record IsAnswer (w : WrittenState) (of : ℕ) : Type 0 where
   pub there : Has w.models model
   pub items : List ResolvedItem
   pub sound : reread.IsReadModel (outer_namings PREDEFINED) (read_model model items)
-  pub held : AreHeld w.state model.numbers items
+  pub held : AreRolesKnown w.state model.numbers items
   pub index : ℕ
   pub item : ResolvedItem
   pub item_at : slice_get items index ≡ Some item
@@ -100,7 +100,7 @@ record IsFlagKnown (w : WrittenState) (of : ℕ) : Type 0 where
   pub text : item_text w.models of ≡ Some (OfText clause)
   pub flag : flag_name (content w.state 0 of) ≡ flag_by clause
 
-flag_known : (w : WrittenState) → IsWhole w → (of : ℕ) → IsAnswer w of → IsFlagKnown w of
+flag_known : (w : WrittenState) → IsWholeState w → (of : ℕ) → IsAnswer w of → IsFlagKnown w of
 flag_known w whole of a =
     let text = beside a.items a.model.items a.index a.item (sym (a.sound).whole) a.item_at in
     let number = beside a.items a.model.numbers a.index a.item ((a.sound).numbered ∙ sym (a.sound).whole) a.item_at in
@@ -165,7 +165,7 @@ each_key w test (slots.Value kind of name ∷ ks) h = (h.0, each_key w test ks h
 
 module _ (w : WrittenState) (m : WrittenModel) (there : Has w.models m) (items : List ResolvedItem)
     (sound : reread.IsReadModel (outer_namings PREDEFINED) (read_model m items))
-    (held : AreHeld w.state m.numbers items) where
+    (held : AreRolesKnown w.state m.numbers items) where
   flag_answers : (own : ℕ) (role : Role) → Each (SlotAnswers w) (flag_key role own)
   flag_answers own (roles.Group recursive bodies) = tt
   flag_answers own (roles.Check check) = by_flag check.flag refl
@@ -269,7 +269,7 @@ second_part (k ∷ Output n x ∷ ks) = 0
 
 -- ---- what was given stays
 
-module _ (w v : WrittenState) (since : IsSince w v) (test : ℕ) (keys : List Key)
+module _ (w v : WrittenState) (since : IsStateSince w v) (test : ℕ) (keys : List Key)
     (parts : Each (IsSamePart (net_in w.state) (net_in v.state)) keys) where
   flag_stays : (of : ℕ) → IsAnswer w of → IsAnswer v of
       → flag_read v.state keys of ≡ flag_read w.state keys of

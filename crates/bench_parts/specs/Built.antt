@@ -14,23 +14,25 @@ use Rattle.bench_nodes.specs.declared.table.ModelRow.{ModelRow}
 use Rattle.bench_nodes.specs.declared.table.TestRow.{TestRow}
 use Rattle.bench_slots.specs.Slots.{plain, number_at}
 use Rattle.bench_slots.specs.Tables.{ModelReading, Sound, Faulty, AreOrderedItems, all_slots}
-use Rattle.bench_parts.specs.Contents.{OfRole, OfFault, State, histories, content}
+use Rattle.bench_parts.specs.Contents.{OfRole, OfFault, PartsState, histories, content}
 
 -- ---- models
 
 -- it is known what the item of that number does, with some history
-abbrev pub IsHeld : State → ℕ → RoleContent → Type 0
-IsHeld s number role = (history : List SeenName) × (content s 0 number ≡ Some (OfRole role history))
+abbrev pub IsRoleKnown : PartsState → ℕ → RoleContent → Type 0
+IsRoleKnown s number role =
+    (history : List SeenName) × (content s 0 number ≡ Some (OfRole role history))
 
 -- and so of each item
-abbrev pub AreHeld : State → List ℕ → List ResolvedItem → Type 0
-AreHeld s numbers items =
+abbrev pub AreRolesKnown : PartsState → List ℕ → List ResolvedItem → Type 0
+AreRolesKnown s numbers items =
     (index : ℕ) (r : ResolvedItem) → slice_get items index ≡ Some r
-    → IsHeld s (number_at numbers index) (role_content r.role)
+    → IsRoleKnown s (number_at numbers index) (role_content r.role)
 
 -- the model is there as it is read
-abbrev pub IsModelIn : State → ModelReading → Type 0
-IsModelIn s (Sound id numbers items used) = AreOrderedItems items [] used × AreHeld s numbers items
+abbrev pub IsModelIn : PartsState → ModelReading → Type 0
+IsModelIn s (Sound id numbers items used) =
+    AreOrderedItems items [] used × AreRolesKnown s numbers items
 IsModelIn s (Faulty id fault) = content s 1 id ≡ Some (OfFault fault)
 
 -- ---- rows
@@ -66,7 +68,7 @@ AreTestRows last _ _ _ = ⊥
 -- ---- the whole
 
 -- the state is that of its tests and of these models
-pub record IsBuilt (s : State) (models : List ModelReading) : Type 0 where
+pub record IsBuilt (s : PartsState) (models : List ModelReading) : Type 0 where
   pub slots : map plain s.parts.table.slots.items ≡ all_slots (histories s) models
   pub models_in : Each (IsModelIn s) models
   pub items : AllZip (IsItemRow s.parts.last) s.parts.table.items.items s.parts.roles.items

@@ -76,19 +76,19 @@ test_content (r ∷ rs) (t ∷ ts) (l ∷ ls) part id =
     if r.id == id then test_part t l.items part else test_content rs ts ls part id
 
 -- the parts of the bench beside its tests
-pub record State : Type 0 where
+pub record PartsState : Type 0 where
   pub parts : Parts
   pub tests : List Test
 
-abbrev pub state_of : Parts → List Test → State
-state_of parts tests = record { parts = parts; tests = tests }
+abbrev pub parts_state : Parts → List Test → PartsState
+parts_state parts tests = record { parts = parts; tests = tests }
 
 -- the histories of items, by their numbers
-abbrev pub histories : State → ℕ → List SeenName
+abbrev pub histories : PartsState → ℕ → List SeenName
 histories s = item_history s.parts.table.items.items s.parts.roles.items
 
 -- what jobs are given of a part: items have their part 0, models 1, tests the others
-abbrev pub content : State → ℕ → ℕ → Option PartContent
+abbrev pub content : PartsState → ℕ → ℕ → Option PartContent
 content s part of =
     if part == 0 then item_content s.parts.table.items.items s.parts.roles.items of
     else (if part == 1 then fault_content s.parts.table.models.items s.parts.faults.items of

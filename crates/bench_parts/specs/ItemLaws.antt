@@ -19,11 +19,11 @@ use Rattle.bench_parts.specs.Built.{IsItemRow}
 use Rattle.bench_parts.specs.States.{has_kind}
 use Rattle.bench_parts.specs.Written.{WrittenState, IsPartAfter, item_text}
 use Rattle.bench_parts.specs.Stamps.{IsLaterNumber, IsPartNow, next_number}
-use Rattle.bench_parts.specs.Items.{ItemFact, kind_at, item_facts, fact_text, AreItemsOf, raised_item}
+use Rattle.bench_parts.specs.Items.{ItemFact, kind_at, item_facts, fact_text, AreItemsMade, raised_item}
 
 -- the item says something
-abbrev pub HasText : ItemFact → Type 0
-HasText fact = (held : PartContent) × (fact.text ≡ Some held)
+abbrev pub HasFactText : ItemFact → Type 0
+HasFactText fact = (held : PartContent) × (fact.text ≡ Some held)
 
 -- the rows, roles and texts before the edit, and those that are made of the facts under its number
 pub record AreItemsAfter (last number : ℕ) (rows : List ItemRow) (roles : List (Option SharedItem))
@@ -33,8 +33,8 @@ pub record AreItemsAfter (last number : ℕ) (rows : List ItemRow) (roles : List
   pub was : AllZip (IsItemRow last) rows roles
   pub gone : (of : ℕ) → item_stamp rows of ≡ 0 → texts of ≡ None
   pub before : List ItemRow
-  pub written : Each HasText facts
-  pub made : AreItemsOf (next_number last) rows roles texts facts before does kinds
+  pub written : Each HasFactText facts
+  pub made : AreItemsMade (next_number last) rows roles texts facts before does kinds
   pub raised : new ≡ map (raised_item last number) before
 
 -- what an item says is as it was, under the stamp that it had, or has the number of the edit, or
@@ -91,9 +91,9 @@ HistoriesGoOn =
     → (of : ℕ) → GoesOn (item_content rows roles of) (item_content new does of)
 
 -- no two of the items have one number
-abbrev pub AreApart : List ItemFact → Type 0
-AreApart [] = ⊤
-AreApart (f ∷ fs) = Each (λ g. f.number ≢ g.number) fs × AreApart fs
+abbrev pub AreFactsApart : List ItemFact → Type 0
+AreFactsApart [] = ⊤
+AreFactsApart (f ∷ fs) = Each (λ g. f.number ≢ g.number) fs × AreFactsApart fs
 
 -- it is known that the item does this, with some history
 abbrev pub HoldsRole : Option PartContent → RoleContent → Type 0
@@ -110,7 +110,7 @@ ItemsDoWhatIsRead =
     (last number : ℕ) (rows new : List ItemRow) (roles does : List (Option SharedItem))
     (texts : ℕ → Option PartContent) (kinds : List (Option Kind)) (facts : List ItemFact)
     → AreItemsAfter last number rows roles texts facts new does kinds
-    → AreApart facts → Each (DoesWhatIsRead new does) facts
+    → AreFactsApart facts → Each (DoesWhatIsRead new does) facts
 
 abbrev pub ItemRowsAreStamped : Type 0
 ItemRowsAreStamped =
@@ -153,7 +153,7 @@ ItemsHaveTheirKinds =
     (last number : ℕ) (rows new : List ItemRow) (roles does : List (Option SharedItem))
     (texts : ℕ → Option PartContent) (kinds : List (Option Kind)) (facts : List ItemFact)
     → AreItemsAfter last number rows roles texts facts new does kinds
-    → AreApart facts → Each (IsOfItsKind new kinds) facts
+    → AreFactsApart facts → Each (IsOfItsKind new kinds) facts
 
 -- the kind of node that an item is by what it does
 abbrev pub role_kind : Role → Option Kind

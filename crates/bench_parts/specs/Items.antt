@@ -75,34 +75,34 @@ fact_text (f ∷ fs) number = if f.number == number then f.text else fact_text f
 
 -- what the item does, with the names that it has now behind those that it has had; under a fault
 -- what it did before
-abbrev pub held_after : Option RoleContent → Option PartContent → Option PartContent
-held_after None before = before
-held_after (Some role) before = Some (OfRole role (with_role_names (part_history before) role))
+abbrev pub part_after : Option RoleContent → Option PartContent → Option PartContent
+part_after None before = before
+part_after (Some role) before = Some (OfRole role (with_role_names (part_history before) role))
 
 -- the row of an item, over the rows, roles and texts before the edit: it goes by the text, the role
 -- by what is read
-pub record IsItemOf (fresh : ℕ) (rows : List ItemRow) (roles : List (Option SharedItem))
+pub record IsItemMade (fresh : ℕ) (rows : List ItemRow) (roles : List (Option SharedItem))
     (texts : ℕ → Option PartContent) (fact : ItemFact) (row : ItemRow) (role : Option SharedItem)
     : Type 0 where
   pub number_is : row.number ≡ fact.number
-  pub role_is : role_part role ≡ held_after fact.role (item_content rows roles fact.number)
+  pub role_is : role_part role ≡ part_after fact.role (item_content rows roles fact.number)
   pub stamp : IsStampOf fresh (texts fact.number) (item_stamp rows fact.number) fact.text row.stamp
 
 -- a row, a role and a kind for each item
-abbrev pub AreItemsOf : (fresh : ℕ) → List ItemRow → List (Option SharedItem)
+abbrev pub AreItemsMade : (fresh : ℕ) → List ItemRow → List (Option SharedItem)
     → (ℕ → Option PartContent) → List ItemFact → List ItemRow → List (Option SharedItem)
     → List (Option Kind) → Type 0
-AreItemsOf fresh rows roles texts [] [] [] [] = ⊤
-AreItemsOf fresh rows roles texts (f ∷ fs) (i ∷ is) (r ∷ rs) (k ∷ ks) =
-    IsItemOf fresh rows roles texts f i r × (k ≡ f.kind)
-    × AreItemsOf fresh rows roles texts fs is rs ks
-AreItemsOf fresh rows roles texts _ _ _ _ = ⊥
+AreItemsMade fresh rows roles texts [] [] [] [] = ⊤
+AreItemsMade fresh rows roles texts (f ∷ fs) (i ∷ is) (r ∷ rs) (k ∷ ks) =
+    IsItemMade fresh rows roles texts f i r × (k ≡ f.kind)
+    × AreItemsMade fresh rows roles texts fs is rs ks
+AreItemsMade fresh rows roles texts _ _ _ _ = ⊥
 
 -- the lists that hold them, over the parts and texts before the edit
 abbrev pub AreListsOf : (fresh : ℕ) → Parts → (ℕ → Option PartContent) → List ItemFact → ItemLists
     → Type 0
 AreListsOf fresh p texts facts lists =
-    AreItemsOf fresh p.table.items.items p.roles.items texts facts lists.rows.items
+    AreItemsMade fresh p.table.items.items p.roles.items texts facts lists.rows.items
     lists.roles.items lists.kinds.items
 
 -- the row under the number of the edit

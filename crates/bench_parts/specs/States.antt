@@ -23,15 +23,15 @@ use Rattle.bench_values.specs.Values.{NodeContent}
 use Rattle.bench_nodes.specs.declared.table.ItemRow.{ItemRow}
 use Rattle.bench_nodes.specs.declared.table.ModelRow.{ModelRow}
 use Rattle.bench_nodes.specs.Nodes.{part_stamp, used, inputs, has_test, net_of}
-use Rattle.bench_nodes.specs.Order.{IsOrdered}
+use Rattle.bench_nodes.specs.Order.{IsTableOrdered}
 use Rattle.bench_parts.specs.declared.parts.Parts.{Parts}
-use Rattle.bench_parts.specs.Contents.{PartContent, OfRole, OfFault, OfCondition, OfObserved, OfLocations, OfInit, OfThread, State, content}
+use Rattle.bench_parts.specs.Contents.{PartContent, OfRole, OfFault, OfCondition, OfObserved, OfLocations, OfInit, OfThread, PartsState, content}
 use Rattle.bench_parts.specs.Equal.{same_given}
 
 -- ---- what a job is given of the parts among its node's inputs
 
 -- what jobs are given of the parts among some inputs, in order
-abbrev pub contents : State → List Key → List (Option PartContent)
+abbrev pub contents : PartsState → List Key → List (Option PartContent)
 contents s [] = []
 contents s (Part part of ∷ ks) = content s part of ∷ contents s ks
 contents s (Output n x ∷ ks) = contents s ks
@@ -56,7 +56,7 @@ flag_name (Some (OfRole (Check negated word code flag) history)) = flag
 flag_name _ = None
 
 -- that of the item of that number, whose text is among some inputs where it is a flag
-abbrev pub flag_read : State → List Key → ℕ → Option (List ℕ)
+abbrev pub flag_read : PartsState → List Key → ℕ → Option (List ℕ)
 flag_read s keys item = if is_read keys item then flag_name (content s 0 item) else None
 
 -- the node is that of a check or a flag
@@ -67,7 +67,7 @@ is_answer kinds.Check = true
 is_answer kinds.Verdict = false
 
 -- for each check and flag among some inputs, in order, the name of the flag
-abbrev pub flags_read : State → List Key → List Key → List (Option (List ℕ))
+abbrev pub flags_read : PartsState → List Key → List Key → List (Option (List ℕ))
 flags_read s keys [] = []
 flags_read s keys (Part part of ∷ ks) = flags_read s keys ks
 flags_read s keys (Output n x ∷ ks) =
@@ -107,22 +107,22 @@ given_verdict (Some (OfCondition kind proposition) ∷ cs) flags =
 given_verdict _ flags = None
 
 -- by the kind of the node, of its inputs
-abbrev pub given_by : State → Kind → List Key → Option GivenContent
+abbrev pub given_by : PartsState → Kind → List Key → Option GivenContent
 given_by s kinds.Space ks = given_space (contents s ks)
 given_by s kinds.Group ks = given_item (contents s ks)
 given_by s kinds.Check ks = given_item (contents s ks)
 given_by s kinds.Verdict ks = given_verdict (contents s ks) (flags_read s ks ks)
 
 -- what a job of the node is given, if the node is there
-abbrev pub given : State → Node → Option GivenContent
-given s n = given_by s n.kind (inputs s.parts.table n)
+abbrev pub given_to_node : PartsState → Node → Option GivenContent
+given_to_node s n = given_by s n.kind (inputs s.parts.table n)
 
 abbrev pub is_given : Option GivenContent → GivenContent → Bool
 is_given None g = false
 is_given (Some h) g = same_given h g
 
-abbrev pub net_in : State → Net GivenContent
-net_in s = net_of s.parts.table (λ n g. is_given (given s n) g)
+abbrev pub net_in : PartsState → Net GivenContent
+net_in s = net_of s.parts.table (λ n g. is_given (given_to_node s n) g)
 
 -- ---- what a job makes
 
@@ -134,21 +134,21 @@ makes n g keys values outputs =
 -- ---- what a state owes
 
 -- an output among inputs is one that its node gives
-abbrev pub HasOutput : State → Key → Type 0
+abbrev pub HasOutput : PartsState → Key → Type 0
 HasOutput s (Part part of) = ⊤
-HasOutput s (Output n x) = (g : GivenContent) → given s n ≡ Some g → Has (output_names g) x
+HasOutput s (Output n x) = (g : GivenContent) → given_to_node s n ≡ Some g → Has (output_names g) x
 
-pub record IsValid (s : State) : Type 0 where
-  pub ordered : IsOrdered s.parts.table
+pub record IsValidState (s : PartsState) : Type 0 where
+  pub ordered : IsTableOrdered s.parts.table
   pub outputs : (n : Node) → Has (used s.parts.table) n
       → Each (HasOutput s) (inputs s.parts.table n)
-  pub gives : (n : Node) → Has (used s.parts.table) n → is_some (given s n) ≡ true
+  pub gives : (n : Node) → Has (used s.parts.table) n → is_some (given_to_node s n) ≡ true
   pub empty : (part of : ℕ) → part_stamp s.parts.table part of ≡ 0 → content s part of ≡ None
   pub low : (part of : ℕ) → part_stamp s.parts.table part of ≤ s.parts.last
 
 -- the node is used, in a valid state
-pub record IsThere (s : State) (n : Node) : Type 0 where
-  pub valid : IsValid s
+pub record IsUsedNode (s : PartsState) (n : Node) : Type 0 where
+  pub valid : IsValidState s
   pub is_used : Has (used s.parts.table) n
 
 -- ---- which nodes may keep what they hold
@@ -182,7 +182,7 @@ keeps p n = has_test p.table.tests.items n.test && has_own p n.kind n.of
 
 -- ---- the same state, wherever it lies in memory
 
-pub record IsSameState (s t : State) : Type 0 where
+pub record IsSameState (s t : PartsState) : Type 0 where
   pub tests : t.tests ≡ s.tests
   pub test_rows : t.parts.table.tests.items ≡ s.parts.table.tests.items
   pub locations : t.parts.locations.items ≡ s.parts.locations.items

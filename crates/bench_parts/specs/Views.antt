@@ -20,18 +20,18 @@ use Rattle.bench_parts.specs.declared.content.Content.{Content}
 use Rattle.bench_parts.specs.declared.content.Content.TheVariants as held
 use Rattle.bench_parts.specs.declared.find.TestView.{TestView}
 use Rattle.bench_parts.specs.declared.flags.FirstFlag.{FirstFlag}
-use Rattle.bench_parts.specs.Contents.{PartContent, OfRole, OfFault, OfCondition, OfObserved, OfLocations, OfInit, OfThread, State}
+use Rattle.bench_parts.specs.Contents.{PartContent, OfRole, OfFault, OfCondition, OfObserved, OfLocations, OfInit, OfThread, PartsState}
 use Rattle.bench_parts.specs.States.{contents, flags_read}
 
-abbrev pub content_of : Content → PartContent
-content_of (held.Role item) = OfRole (shared_role item.now) (shared_history item.now)
-content_of (held.Fault fault) = OfFault fault
-content_of (held.Condition condition) =
+abbrev pub viewed_content : Content → PartContent
+viewed_content (held.Role item) = OfRole (shared_role item.now) (shared_history item.now)
+viewed_content (held.Fault fault) = OfFault fault
+viewed_content (held.Condition condition) =
     OfCondition condition.now.quantifier (formula_of condition.now.proposition)
-content_of (held.Observed observed) = OfObserved observed.now
-content_of (held.Locations locations) = OfLocations locations.now
-content_of (held.Init init) = OfInit init.now
-content_of (held.Thread thread) = OfThread (thread_steps thread.now)
+viewed_content (held.Observed observed) = OfObserved observed.now
+viewed_content (held.Locations locations) = OfLocations locations.now
+viewed_content (held.Init init) = OfInit init.now
+viewed_content (held.Thread thread) = OfThread (thread_steps thread.now)
 
 -- ---- a test with its row and its locations
 
@@ -75,25 +75,26 @@ first_part test [] = None
 first_part test (k ∷ ks) = option_or (part_before test k ks) (first_part test ks)
 
 -- what the parts hold, the first part before the others
-abbrev pub contents_from : State → ℕ → Option FirstContent → List (Option PartContent)
+abbrev pub contents_from : PartsState → ℕ → Option FirstContent → List (Option PartContent)
 contents_from s test None = []
-contents_from s test (Some f) = option_map content_of f.held ∷ contents s (keys_at test f.rest.now)
+contents_from s test (Some f) =
+    option_map viewed_content f.held ∷ contents s (keys_at test f.rest.now)
 
 -- ---- flags among inputs
 
 -- of one input, where it is the answers of a check or a flag
-abbrev pub flag_at : State → List Key → Key → List (Option (List ℕ))
+abbrev pub flag_at : PartsState → List Key → Key → List (Option (List ℕ))
 flag_at s keys key = flags_read s keys (key ∷ [])
 
 -- the first check or flag, and those behind it
-abbrev pub flags_from : State → ℕ → List Key → Option FirstFlag → List (Option (List ℕ))
+abbrev pub flags_from : PartsState → ℕ → List Key → Option FirstFlag → List (Option (List ℕ))
 flags_from s test keys None = []
 flags_from s test keys (Some f) =
     option_map (λ n. n.now) f.name ∷ flags_read s keys (keys_at test f.rest.now)
 
 -- ---- what a job is given
 
-abbrev pub given_of : State → ℕ → NodeParts → GivenContent
+abbrev pub given_of : PartsState → ℕ → NodeParts → GivenContent
 given_of s test (parts.Space init threads locations) =
     ForSpace (parts_of init.now threads.now locations.now)
 given_of s test (parts.Item item) = ForItem (shared_role item.now) (shared_outputs item.now)

@@ -1,6 +1,6 @@
 -- States with their models as these are written: what the stamps of parts go by (`part_content`),
--- what such a state owes (`IsWhole`), when one came of another (`IsSince`), and what an edit does
--- (`IsStamped`). Read it after States and Built.
+-- what such a state owes (`IsWholeState`), when one came of another (`IsStateSince`), and what an
+-- edit does (`IsStamped`). Read it after States and Built.
 use Rattle.std.specs.Prelude.{◌≡◌, ⊤, ℕ, ◌<◌, ◌≤◌, ◌⊎◌, ◌==◌, List, [], ◌∷◌, ◌++◌, length, map, Option, Some, None, slice_get, if◌then◌else◌}
 use Rattle.std.specs.Option.{option_or}
 use Rattle.std.specs.List.{AllByRecursion as Each}
@@ -16,7 +16,7 @@ use Rattle.bench_nodes.specs.Nodes.{part_stamp}
 use Rattle.bench_slots.specs.Tables.{ModelReading, Sound, Faulty}
 use Rattle.bench_parts.specs.Built.{IsBuilt}
 use Rattle.bench_parts.specs.States as states
-use Rattle.bench_parts.specs.Contents.{PartContent, OfText, State, content, histories}
+use Rattle.bench_parts.specs.Contents.{PartContent, OfText, PartsState, content, histories}
 
 -- ---- states
 
@@ -28,7 +28,7 @@ pub record WrittenModel : Type 0 where
 
 -- a state, the models that it is of, and the number that the next new item is given
 pub record WrittenState : Type 0 where
-  pub state : State
+  pub state : PartsState
   pub models : List WrittenModel
   pub next : ℕ
 
@@ -90,7 +90,7 @@ IsPaired m = length m.items ≡ length m.numbers
 
 -- the state is that of its models, which are read as they are written; items have numbers of their
 -- own, below the next; what has no stamp is not there
-pub record IsWhole (w : WrittenState) : Type 0 where
+pub record IsWholeState (w : WrittenState) : Type 0 where
   pub built : IsBuilt w.state (map (λ m. m.reading) w.models)
   pub read : Each (λ m. IsReadAs m m.reading) w.models
   pub paired : Each IsPaired w.models
@@ -104,7 +104,7 @@ pub record IsWhole (w : WrittenState) : Type 0 where
 
 -- Items of one model that are still there are so of one model, in one order. A new item has a
 -- number that none had before. A history grows at its end alone.
-pub record ItemsGoOn (w v : WrittenState) : Type 0 where
+pub record WrittenItemsGoOn (w v : WrittenState) : Type 0 where
   pub order : (first second : ℕ) → Precedes w first second → IsHere v first → IsHere v second
       → Precedes v first second
   pub numbers : (number : ℕ) → IsHere v number → IsHere w number ⊎ (w.next ≤ number)
@@ -113,14 +113,14 @@ pub record ItemsGoOn (w v : WrittenState) : Type 0 where
       → (more : List SeenName) × (histories v.state number ≡ histories w.state number ++ more)
 
 -- the later state came of the earlier one: a part that has one stamp in both holds the same
-pub record IsSince (w v : WrittenState) : Type 0 where
-  pub whole : IsWhole w
-  pub still_whole : IsWhole v
+pub record IsStateSince (w v : WrittenState) : Type 0 where
+  pub whole : IsWholeState w
+  pub still_whole : IsWholeState v
   pub later : w.state.parts.last ≤ v.state.parts.last
   pub same : (part of : ℕ)
       → part_stamp v.state.parts.table part of ≡ part_stamp w.state.parts.table part of
       → part_content v part of ≡ part_content w part of
-  pub items : ItemsGoOn w v
+  pub items : WrittenItemsGoOn w v
 
 -- a part is as it was, has the edit's number, or is gone
 abbrev pub IsPartAfter : WrittenState → ℕ → WrittenState → ℕ → ℕ → Type 0
@@ -131,7 +131,7 @@ IsPartAfter w number v part of =
     ⊎ (part_stamp v.state.parts.table part of ≡ 0)
 
 -- a part has its stamp of before
-abbrev pub KeepsStamp : State → State → ℕ → ℕ → Type 0
+abbrev pub KeepsStamp : PartsState → PartsState → ℕ → ℕ → Type 0
 KeepsStamp s t part of = part_stamp t.parts.table part of ≡ part_stamp s.parts.table part of
 
 -- a part that holds what it held has its stamp of before
@@ -144,9 +144,9 @@ EqualPartsKeepStamps w v part =
 pub record IsStamped (w : WrittenState) (number : ℕ) (v : WrittenState) : Type 0 where
   pub above : w.state.parts.last < number
   pub last : v.state.parts.last ≡ number
-  pub whole : IsWhole w → IsWhole v
+  pub whole : IsWholeState w → IsWholeState v
   pub parts : (part of : ℕ) → IsPartAfter w number v part of
-  pub items : ItemsGoOn w v
+  pub items : WrittenItemsGoOn w v
 
 -- ---- the same state, wherever it lies in memory
 

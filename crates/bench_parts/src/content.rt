@@ -2,8 +2,8 @@
 
 ghost use Rattle.std.specs.Prelude.{◌≡◌, map, option_map, slice_get};
 ghost use Rattle.text_values.specs.TestValue.{thread_steps};
-ghost use Rattle.bench_parts.specs.Contents.{OfThread, item_content, fault_content, test_part, test_content, content, state_of};
-ghost use Rattle.bench_parts.specs.Views.{content_of};
+ghost use Rattle.bench_parts.specs.Contents.{OfThread, item_content, fault_content, test_part, test_content, content, parts_state};
+ghost use Rattle.bench_parts.specs.Views.{viewed_content};
 
 use crate::find::{item_index, model_index, test_at};
 use crate::parts::Parts;
@@ -29,7 +29,7 @@ fn item_content<'p>(
     roles: &'p [Option<SharedItem>],
     number: u64,
 ) -> Option<Content<'p>>
-    ensures { option_map content_of result ≡ item_content items.now roles.now number }
+    ensures { option_map viewed_content result ≡ item_content items.now roles.now number }
 {
     let index = item_index(items, number);
     if index < items.len() && index < roles.len() {
@@ -47,7 +47,7 @@ fn fault_content<'p>(
     faults: &'p [Option<ModelFault>],
     id: u64,
 ) -> Option<Content<'p>>
-    ensures { option_map content_of result ≡ fault_content models.now faults.now id }
+    ensures { option_map viewed_content result ≡ fault_content models.now faults.now id }
 {
     let index = model_index(models, id);
     if index < models.len() && index < faults.len() {
@@ -61,7 +61,7 @@ fn fault_content<'p>(
 }
 
 fn thread_part(threads: &[Thread], index: u64) -> Option<Content<'_>>
-    ensures { option_map content_of result
+    ensures { option_map viewed_content result
         ≡ option_map OfThread (slice_get (map thread_steps threads.now) index) }
 {
     if index < threads.len() as u64 {
@@ -73,7 +73,7 @@ fn thread_part(threads: &[Thread], index: u64) -> Option<Content<'_>>
 
 // A part of a test with those locations.
 fn test_part<'p>(test: &'p Test, locations: &'p [Name], part: u64) -> Option<Content<'p>>
-    ensures { option_map content_of result ≡ test_part test.now locations.now part }
+    ensures { option_map viewed_content result ≡ test_part test.now locations.now part }
 {
     if part == CONDITION {
         Some(Content::Condition(&test.condition))
@@ -89,7 +89,7 @@ fn test_part<'p>(test: &'p Test, locations: &'p [Name], part: u64) -> Option<Con
 }
 
 fn test_content<'p>(parts: &'p Parts, tests: &'p [Test], part: u64, id: u64) -> Option<Content<'p>>
-    ensures { option_map content_of result
+    ensures { option_map viewed_content result
         ≡ test_content parts.now.table.tests.items tests.now parts.now.locations.items part id }
 {
     let index = parts.test_index(id);
@@ -106,7 +106,7 @@ pub(crate) fn content_at<'p>(
     part: u64,
     of: u64,
 ) -> Option<Content<'p>>
-    ensures { option_map content_of result ≡ content (state_of parts.now tests.now) part of }
+    ensures { option_map viewed_content result ≡ content (parts_state parts.now tests.now) part of }
 {
     if part == ITEM {
         item_content(&parts.table.items, &parts.roles, of)

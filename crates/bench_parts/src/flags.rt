@@ -5,7 +5,7 @@ ghost use Rattle.std.specs.Option.{option_to_list};
 ghost use Rattle.bench_nodes.specs.Nodes.{key_at, keys_at};
 ghost use Rattle.bench_items.specs.Items.{role_content};
 ghost use Rattle.bench_items.specs.Naming.{SeenName};
-ghost use Rattle.bench_parts.specs.Contents.{OfRole, content, state_of};
+ghost use Rattle.bench_parts.specs.Contents.{OfRole, content, parts_state};
 ghost use Rattle.bench_parts.specs.States.{is_read, flag_name, flag_read, flags_read};
 ghost use Rattle.bench_parts.specs.Views.{flag_at, flags_from};
 
@@ -66,7 +66,7 @@ fn role_flag(role: &Role) -> Option<&Name>
 // The name of the item of that number, where it is a flag.
 fn item_flag<'p>(parts: &'p Parts, tests: &'p [Test], item: u64) -> Option<&'p Name>
     ensures { option_map (λ n. n.now) result
-        ≡ flag_name (content (state_of parts.now tests.now) 0 item) }
+        ≡ flag_name (content (parts_state parts.now tests.now) 0 item) }
 {
     match content_at(parts, tests, ITEM, item) {
         Some(Content::Role(held)) => role_flag(&held.item().role),
@@ -89,7 +89,7 @@ fn flag_read<'p>(
     item: u64,
 ) -> Option<&'p Name>
     ensures { option_map (λ n. n.now) result
-        ≡ flag_read (state_of parts.now tests.now) (keys_at test keys.now) item }
+        ≡ flag_read (parts_state parts.now tests.now) (keys_at test keys.now) item }
 {
     if is_read(test, keys, item) {
         item_flag(parts, tests, item)
@@ -107,7 +107,7 @@ fn flag_at<'p>(
     key: SlotKey,
 ) -> Option<Option<&'p Name>>
     ensures { option_to_list (option_map (option_map (λ n. n.now)) result)
-        ≡ flag_at (state_of parts.now tests.now) (keys_at test keys.now) (key_at test key) }
+        ≡ flag_at (parts_state parts.now tests.now) (keys_at test keys.now) (key_at test key) }
 {
     match key {
         SlotKey::Test(_) => None,
@@ -139,7 +139,7 @@ pub(crate) fn copied_flags(
     keys: &[SlotKey],
 ) -> Result<Vec<Option<Name>>, AllocError>
     ensures { let all = keys_at test keys.now in
-        IfOk result (λ v. v.items ≡ flags_read (state_of parts.now tests.now) all all) }
+        IfOk result (λ v. v.items ≡ flags_read (parts_state parts.now tests.now) all all) }
 {
     let mut flags = Vec::new(alloc);
     for key in keys {
@@ -159,7 +159,7 @@ fn first_flag<'p>(
     keys: &[SlotKey],
     rest: &'p [SlotKey],
 ) -> Option<FirstFlag<'p>>
-    ensures { let s = state_of parts.now tests.now in
+    ensures { let s = parts_state parts.now tests.now in
         let all = keys_at test keys.now in
         flags_from s test all result ≡ flags_read s all (keys_at test rest.now) }
 {
@@ -201,7 +201,7 @@ pub(crate) fn has_flags(
     flags: &[Option<Name>],
 ) -> bool
     ensures { let all = keys_at test keys.now in
-        IsTrue result ↔ (flags_read (state_of parts.now tests.now) all all ≡ flags.now) }
+        IsTrue result ↔ (flags_read (parts_state parts.now tests.now) all all ≡ flags.now) }
 {
     let mut rest = keys;
     for flag in flags {

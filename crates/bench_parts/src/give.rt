@@ -1,8 +1,8 @@
 //! What jobs are given, and which nodes may keep what they hold.
 
 ghost use Rattle.std.specs.Prelude.{◌≡◌, ◌↔◌, IsTrue, IfOk, Some, true};
-ghost use Rattle.bench_parts.specs.Contents.{state_of};
-ghost use Rattle.bench_parts.specs.States.{given as given_in, is_given, has_own, keeps, IsThere};
+ghost use Rattle.bench_parts.specs.Contents.{parts_state};
+ghost use Rattle.bench_parts.specs.States.{given_to_node as given_in, is_given, has_own, keeps, IsUsedNode};
 ghost use Rattle.bench_parts.specs.Views.{given_of};
 
 use crate::find::{has_kind, has_model};
@@ -21,7 +21,7 @@ fn given_from(
     test: u64,
     found: NodeParts<'_>,
 ) -> Result<Given, AllocError>
-    ensures { IfOk result (λ g. g ≡ given_of (state_of parts.now tests.now) test found.entry) }
+    ensures { IfOk result (λ g. g ≡ given_of (parts_state parts.now tests.now) test found.entry) }
 {
     match found {
         NodeParts::Space {
@@ -50,7 +50,7 @@ fn is_given_from(
     given: &Given,
 ) -> bool
     ensures { IsTrue result
-        ↔ (given_of (state_of parts.now tests.now) test found.entry ≡ given.now) }
+        ↔ (given_of (parts_state parts.now tests.now) test found.entry ≡ given.now) }
 {
     match found {
         NodeParts::Space {
@@ -87,9 +87,10 @@ fn has_own(parts: &Parts, kind: Kind, of: u64) -> bool
 impl Parts {
     /// What a job of the node is given of these tests. Errors: out of memory.
     pub fn give(&self, alloc: Global, tests: &[Test], node: Node) -> Result<Given, AllocError>
-        requires { IsThere (state_of self.now tests.now) node }
-        ensures given { IfOk result (λ g. given_in (state_of self.now tests.now) node ≡ Some g) }
-        ensures gives { IfOk result (λ g. is_given (given_in (state_of self.now tests.now) node) g
+        requires { IsUsedNode (parts_state self.now tests.now) node }
+        ensures given { IfOk result (λ g. given_in (parts_state self.now tests.now) node ≡ Some g) }
+        ensures gives { IfOk result
+            (λ g. is_given (given_in (parts_state self.now tests.now) node) g
             ≡ true) }
     {
         match node_parts(self, tests, node) {
@@ -100,7 +101,7 @@ impl Parts {
 
     /// Whether a job of the node would be given this now, exactly. It takes no memory.
     pub fn is_given(&self, tests: &[Test], node: Node, given: &Given) -> bool
-        ensures { result ≡ is_given (given_in (state_of self.now tests.now) node) given.now }
+        ensures { result ≡ is_given (given_in (parts_state self.now tests.now) node) given.now }
     {
         match node_parts(self, tests, node) {
             Some(found) => is_given_from(self, tests, node.test, found, given),

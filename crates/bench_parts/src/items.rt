@@ -6,7 +6,7 @@ ghost use Rattle.bench_items.specs.Items.{RoleContent};
 ghost use Rattle.bench_parts.specs.Contents.{role_part};
 ghost use Rattle.bench_parts.specs.Stamps.{IsStampOf};
 ghost use Rattle.bench_parts.specs.Held.{held_part};
-ghost use Rattle.bench_parts.specs.Items.{text_part, read_role, held_after};
+ghost use Rattle.bench_parts.specs.Items.{text_part, read_role, part_after};
 
 use crate::held::{HeldItem, held_item};
 use crate::parts::Parts;
@@ -65,7 +65,7 @@ fn shared_item(
     held: &HeldItem,
 ) -> Result<Option<SharedItem>, AllocError>
     ensures { IfOk result (λ r. role_part r
-        ≡ held_after (read_role (Some (arc_value resolved.now).items.items) index)
+        ≡ part_after (read_role (Some (arc_value resolved.now).items.items) index)
         (held_part held.now)) }
 {
     if index < resolved.items.len() {
@@ -117,7 +117,7 @@ impl ModelItems<'_> {
         held: &HeldItem,
     ) -> Result<Option<SharedItem>, AllocError>
         ensures { IfOk result (λ r. role_part r
-            ≡ held_after (read_role (resolved_items self.now) index) (held_part held.now)) }
+            ≡ part_after (read_role (resolved_items self.now) index) (held_part held.now)) }
     {
         match self.resolved {
             Some(resolved) => shared_item(alloc, resolved, index, held),

@@ -3,8 +3,8 @@
 ghost use Rattle.std.specs.Prelude.{◌≡◌, option_map};
 ghost use Rattle.text_values.specs.TestValue.{formula_of};
 ghost use Rattle.bench_nodes.specs.Nodes.{keys_at, space_keys};
-ghost use Rattle.bench_parts.specs.Contents.{state_of};
-ghost use Rattle.bench_parts.specs.States.{contents, flags_read, given_space, given_item, given_verdict, verdict_given, given};
+ghost use Rattle.bench_parts.specs.Contents.{parts_state};
+ghost use Rattle.bench_parts.specs.States.{contents, flags_read, given_space, given_item, given_verdict, verdict_given, given_to_node};
 ghost use Rattle.bench_parts.specs.Views.{first_view, part_before, first_part, contents_from, given_of};
 
 use crate::content::{Content, content_at};
@@ -94,7 +94,7 @@ fn first_content<'p>(
     test: u64,
     keys: &'p [SlotKey],
 ) -> Option<FirstContent<'p>>
-    ensures { let s = state_of parts.now tests.now in
+    ensures { let s = parts_state parts.now tests.now in
         contents_from s test result ≡ contents s (keys_at test keys.now) }
 {
     match first_part(test, keys) {
@@ -107,7 +107,7 @@ fn first_content<'p>(
 }
 
 fn space_parts<'p>(parts: &'p Parts, tests: &'p [Test], test: u64) -> Option<NodeParts<'p>>
-    ensures { let s = state_of parts.now tests.now in
+    ensures { let s = parts_state parts.now tests.now in
         option_map (given_of s test) result
         ≡ given_space (contents s (space_keys parts.now.table.tests.items test)) }
 {
@@ -135,7 +135,7 @@ fn item_parts<'p>(
     test: u64,
     keys: &'p [SlotKey],
 ) -> Option<NodeParts<'p>>
-    ensures { let s = state_of parts.now tests.now in
+    ensures { let s = parts_state parts.now tests.now in
         option_map (given_of s test) result ≡ given_item (contents s (keys_at test keys.now)) }
 {
     match first_content(parts, tests, test, keys) {
@@ -163,7 +163,7 @@ fn parts_behind<'p>(
     rest: &'p [SlotKey],
     keys: &'p [SlotKey],
 ) -> Option<NodeParts<'p>>
-    ensures { let s = state_of parts.now tests.now in
+    ensures { let s = parts_state parts.now tests.now in
         let all = keys_at test keys.now in
         option_map (given_of s test) result
         ≡ verdict_given condition.now.quantifier (formula_of condition.now.proposition)
@@ -194,7 +194,7 @@ fn verdict_parts<'p>(
     test: u64,
     keys: &'p [SlotKey],
 ) -> Option<NodeParts<'p>>
-    ensures { let s = state_of parts.now tests.now in
+    ensures { let s = parts_state parts.now tests.now in
         let all = keys_at test keys.now in
         option_map (given_of s test) result
         ≡ given_verdict (contents s all) (flags_read s all all) }
@@ -222,8 +222,8 @@ pub(crate) fn node_parts<'p>(
     tests: &'p [Test],
     node: Node,
 ) -> Option<NodeParts<'p>>
-    ensures { let s = state_of parts.now tests.now in
-        option_map (given_of s node.test) result ≡ given s node }
+    ensures { let s = parts_state parts.now tests.now in
+        option_map (given_of s node.test) result ≡ given_to_node s node }
 {
     let table = &parts.table;
     match node.kind {

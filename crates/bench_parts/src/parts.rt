@@ -43,11 +43,11 @@ impl Parts {
     ghost use Rattle.std.specs.Prelude.{◌≡◌, ◌==◌, ◌≤◌, [], length};
     ghost use Rattle.std.specs.List.{position_or_len};
     ghost use Rattle.bench_parts.specs.Built.{IsBuilt};
-    ghost use Rattle.bench_parts.specs.Contents.{state_of};
+    ghost use Rattle.bench_parts.specs.Contents.{parts_state};
 
     /// The parts of a bench without tests and models, before its first edit.
     pub fn new(alloc: Global) -> Parts
-        ensures built { IsBuilt (state_of result []) [] }
+        ensures built { IsBuilt (parts_state result []) [] }
         ensures items { result.table.items.items ≡ [] }
         ensures models { result.table.models.items ≡ [] }
         ensures last { result.last ≡ 0 }

@@ -45,7 +45,7 @@ is_of (made.DropModel at) i j = j == at
 
 -- The edit puts or drops the test or the model as a whole, or the slice of the cell before it and
 -- after it differs.
-abbrev pub Reaches : Texts → Prepared → (i j : ℕ) → Type 0
-Reaches t p i j =
+abbrev pub ReachesCellAt : Texts → Prepared → (i j : ℕ) → Type 0
+ReachesCellAt t p i j =
     IsTrue (p.whole && is_of p.replacement i j)
     ⊎ ¬ (slice_before t i j ≡ slice_after t p.replacement i j)

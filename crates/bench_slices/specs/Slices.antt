@@ -51,15 +51,15 @@ uses_at numbers resolved k = option_map (uses_of numbers) (slice_get resolved k)
 
 -- the slice of a test under items with these numbers, resolved so, of which checks and flags reach
 -- those at these indexes
-abbrev pub slice_of : Content → List ℕ → List Item → List ResolvedItem → List ℕ → Slice
-slice_of c numbers items resolved used =
+abbrev pub slice_of_items : Content → List ℕ → List Item → List ResolvedItem → List ℕ → Slice
+slice_of_items c numbers items resolved used =
     OfItems c (map (slice_get numbers) used) (map (clause_at items) used)
     (map (uses_at numbers resolved) used)
 
 abbrev pub slice_by : Content → NamedModel → Reading → Slice
 slice_by c m (readings.Faulty fault) = OfFault fault c.quantifier c.condition
 slice_by c m (readings.Sound resolved used) =
-    slice_of c m.numbers.items m.text.items.items (arc_value resolved).items.items used.items
+    slice_of_items c m.numbers.items m.text.items.items (arc_value resolved).items.items used.items
 
 -- the slice of a test under a model
 abbrev pub slice : Content → NamedModel → Slice

@@ -2,7 +2,7 @@
 
 ghost use Rattle.std.specs.Prelude.{◌≡◌, ◌↔◌, IsTrue, map};
 ghost use Rattle.text_values.specs.TestValue.{content_of, thread_steps};
-ghost use Rattle.bench_slices.specs.Slices.{slice, slice_of};
+ghost use Rattle.bench_slices.specs.Slices.{slice, slice_of_items};
 
 use crate::lists::{are_same_items, are_same_numbers};
 use crate::uses::{Reached, are_same_uses};
@@ -38,9 +38,9 @@ pub fn is_same_test(first: &Test, second: &Test) -> bool
 // Whether two tests have one slice under models without fault.
 fn is_same_reached(test: &Test, first: &Reached, other: &Test, second: &Reached) -> bool
     ensures { IsTrue result
-        ↔ (slice_of (content_of test.now) first.now.numbers.now first.now.items.now
+        ↔ (slice_of_items (content_of test.now) first.now.numbers.now first.now.items.now
         first.now.resolved.now first.now.used.now
-        ≡ slice_of (content_of other.now) second.now.numbers.now second.now.items.now
+        ≡ slice_of_items (content_of other.now) second.now.numbers.now second.now.items.now
         second.now.resolved.now second.now.used.now) }
 {
     is_same_test(test, other)

@@ -1,7 +1,7 @@
 //! Which cells an edit reaches.
 
 ghost use Rattle.std.specs.Prelude.{◌≡◌, ◌↔◌, IsTrue, false, option_map};
-ghost use Rattle.bench_slices.specs.Reach.{cell_slice, test_after, model_after, is_of, slice_before, slice_after, Reaches};
+ghost use Rattle.bench_slices.specs.Reach.{cell_slice, test_after, model_after, is_of, slice_before, slice_after, ReachesCellAt};
 
 use crate::cells::is_same_slice;
 use bench_texts::{NamedModel, Prepared, Replacement, Texts};
@@ -109,7 +109,7 @@ fn keeps_slice(texts: &Texts, replacement: &Replacement, test: usize, model: usi
 /// Whether an edit that was prepared on these texts reaches the cell of a test and a model, by
 /// their indexes before the edit: one that the edit adds has the index behind the last.
 pub fn reaches(texts: &Texts, prepared: &Prepared, test: usize, model: usize) -> bool
-    ensures reached { IsTrue result ↔ Reaches texts.now prepared.now test model }
+    ensures reached { IsTrue result ↔ ReachesCellAt texts.now prepared.now test model }
     ensures kept { result ≡ false
         → slice_before texts.now test model
         ≡ slice_after texts.now prepared.now.replacement test model }

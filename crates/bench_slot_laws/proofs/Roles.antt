@@ -20,7 +20,7 @@ use Rattle.binding_laws.specs.Reread.{ReadModel, HasNumber, IsItemOf, seen_body,
 use Rattle.binding_laws.proofs.Again.{items_again}
 use Rattle.binding_laws.proofs.Visible.{uses_seen}
 use Rattle.bench_items.specs.Items.{RoleContent, Group, Check, Silent, role_content}
-use Rattle.bench_items.specs.Naming.{SeenName, names_in, body_names, number_of, IsNamed, AreNamed, item_outputs}
+use Rattle.bench_items.specs.Naming.{SeenName, seen_names_in, body_names, number_of, IsInHistory, AreInHistory, item_outputs}
 use Rattle.bench_items.proofs.Naming.{number_stays, still_named, number_tells}
 use Rattle.bench_nodes.specs.declared.table.SlotKey.{SlotKey}
 use Rattle.bench_nodes.specs.declared.table.SlotKey.TheVariants as slots
@@ -97,7 +97,7 @@ body_seen (b ∷ bs) (suc p) s e = body_seen bs p s e
 
 role_seen : (role : Role) (p : ℕ) (s : reread.SeenName)
     → option_map seen_body (slice_get (bodies_of role) p) ≡ Some s
-    → get_or (names_in (role_content role)) p no_name ≡ seen_of s
+    → get_or (seen_names_in (role_content role)) p no_name ≡ seen_of s
 role_seen (roles.Group recursive bodies) p s e = body_seen bodies.items p s e
 role_seen (roles.Check c) p s e = absurd (none-some s e)
 role_seen roles.Silent p s e = absurd (none-some s e)
@@ -108,22 +108,22 @@ name_seen None p s e = absurd (none-some s e)
 name_seen (Some r) p s e = role_seen r.role p s e
 
 body_named : (h : List SeenName) (bs : List Body) (p : ℕ) (s : reread.SeenName)
-    → Each (IsNamed h) (body_names bs) → option_map seen_body (slice_get bs p) ≡ Some s
-    → IsNamed h (get_or (body_names bs) p no_name)
+    → Each (IsInHistory h) (body_names bs) → option_map seen_body (slice_get bs p) ≡ Some s
+    → IsInHistory h (get_or (body_names bs) p no_name)
 body_named h [] p s all e = absurd (none-some s e)
 body_named h (b ∷ bs) zero s all e = all.0
 body_named h (b ∷ bs) (suc p) s all e = body_named h bs p s all.1 e
 
 role_named : (h : List SeenName) (role : Role) (p : ℕ) (s : reread.SeenName)
-    → AreNamed h (role_content role) → option_map seen_body (slice_get (bodies_of role) p) ≡ Some s
-    → IsNamed h (get_or (names_in (role_content role)) p no_name)
+    → AreInHistory h (role_content role) → option_map seen_body (slice_get (bodies_of role) p) ≡ Some s
+    → IsInHistory h (get_or (seen_names_in (role_content role)) p no_name)
 role_named h (roles.Group recursive bodies) p s all e = body_named h bodies.items p s all e
 role_named h (roles.Check c) p s all e = absurd (none-some s e)
 role_named h roles.Silent p s all e = absurd (none-some s e)
 
 -- ---- histories
 
-numbers_stay : (h more names : List SeenName) → Each (IsNamed h) names
+numbers_stay : (h more names : List SeenName) → Each (IsInHistory h) names
     → map (number_of (h ++ more)) names ≡ map (number_of h) names
 numbers_stay h more [] all = refl
 numbers_stay h more (n ∷ ns) all =
@@ -131,10 +131,10 @@ numbers_stay h more (n ∷ ns) all =
     let rest : map (number_of (h ++ more)) ns ≡ map (number_of h) ns = numbers_stay h more ns all.1 in
     λ i. here i ∷ rest i
 
-outputs_stay : (role : RoleContent) (h more : List SeenName) → AreNamed h role
+outputs_stay : (role : RoleContent) (h more : List SeenName) → AreInHistory h role
     → item_outputs role (h ++ more) ≡ item_outputs role h
 outputs_stay (Group recursive bodies) h more all =
-    numbers_stay h more (names_in (Group recursive bodies)) all
+    numbers_stay h more (seen_names_in (Group recursive bodies)) all
 outputs_stay (Check negated word code flag) h more all = refl
 outputs_stay Silent h more all = refl
 
@@ -178,14 +178,14 @@ module _ (ps : List Predefined) (m w : ReadModel) (histories later : ℕ → Lis
 
   -- the name is in the history of its item
   input_named : (i : Input) → IsSeenInput m i
-      → IsNamed (histories (number_at m.numbers i.item)) (input_name m.resolved i)
+      → IsInHistory (histories (number_at m.numbers i.item)) (input_name m.resolved i)
   input_named i a =
       by_item (slice_get m.resolved i.item) refl
       (ap (λ (p : Option ℕ × Option reread.SeenName). p.1) a.seen)
     where
       by_item : (o : Option ResolvedItem) → slice_get m.resolved i.item ≡ o
           → seen_at o i.position ≡ Some a.name
-          → IsNamed (histories (number_at m.numbers i.item)) (name_of o i.position)
+          → IsInHistory (histories (number_at m.numbers i.item)) (name_of o i.position)
       by_item None at e = absurd (none-some a.name e)
       by_item (Some r) at e =
           role_named (histories (number_at m.numbers i.item)) r.role i.position a.name
@@ -204,8 +204,8 @@ module _ (ps : List Predefined) (m w : ReadModel) (histories later : ℕ → Lis
       let here : HasNumber m i.item n = at_i ∙ ap (λ (k : ℕ). Some k) (sym (number_is m i.item a.number at_i)) in
       let there : HasNumber w j.item n = at_j ∙ ap (λ (k : ℕ). Some k) (sym (number_is w j.item b.number at_j) ∙ sym own) in
       let more = beside.grown n i.item j.item here there in
-      let named : IsNamed (histories n) old = input_named i a in
-      let still : IsNamed (later n) old = subst (λ (h : List SeenName). IsNamed h old) (sym more.1) (still_named (histories n) more.0 old named) in
+      let named : IsInHistory (histories n) old = input_named i a in
+      let still : IsInHistory (later n) old = subst (λ (h : List SeenName). IsInHistory h old) (sym more.1) (still_named (histories n) more.0 old named) in
       let stays : number_of (later n) old ≡ number_of (histories n) old = ap (λ (h : List SeenName). number_of h old) more.1 ∙ number_stays (histories n) more.0 old named in
       let same : number_of (later n) old ≡ number_of (later n) new = stays ∙ ap (λ (p : ℕ × ℕ). p.1) e ∙ ap (λ (k : ℕ). number_of (later k) new) (sym own) in
       let one : old ≡ new = number_tells (later n) old new still same in
@@ -289,7 +289,7 @@ module _ (ps : List Predefined) (m w : ReadModel) (histories later : ℕ → Lis
         ≡ item_outputs (role_content r.role) (histories number)
     outputs_again =
         let more = beside.grown number k l at.has_number also.has_number in
-        let named : AreNamed (histories number) (role_content r.role) = subst (λ (n : ℕ). AreNamed (histories n) (role_content r.role)) (number_is m k number at.has_number) (beside.named k r at.item) in
+        let named : AreInHistory (histories number) (role_content r.role) = subst (λ (n : ℕ). AreInHistory (histories n) (role_content r.role)) (number_is m k number at.has_number) (beside.named k r at.item) in
         ap (item_outputs (role_content r.role)) more.1
         ∙ outputs_stay (role_content r.role) (histories number) more.0 named
 

@@ -10,7 +10,7 @@ use Rattle.binding_graph.specs.declared.resolved.ResolvedItem.{ResolvedItem}
 use Rattle.binding_laws.specs.ItemLaws.{SayTheSame}
 use Rattle.binding_laws.specs.Reread.{ReadModel, HasNumber, outer_namings, IsReadModel, AreInOneOrder, IsItemOf}
 use Rattle.bench_items.specs.Items.{role_content}
-use Rattle.bench_items.specs.Naming.{SeenName, AreNamed, item_outputs}
+use Rattle.bench_items.specs.Naming.{SeenName, AreInHistory, item_outputs}
 use Rattle.bench_nodes.specs.Nodes.{keys_at}
 use Rattle.bench_slots.specs.Slots.{number_at, item_keys}
 
@@ -20,7 +20,7 @@ use Rattle.bench_slots.specs.Slots.{number_at, item_keys}
 abbrev pub HoldNames : (ℕ → List SeenName) → ReadModel → Type 0
 HoldNames histories m =
     (index : ℕ) (r : ResolvedItem) → slice_get m.resolved index ≡ Some r
-    → AreNamed (histories (number_at m.numbers index)) (role_content r.role)
+    → AreInHistory (histories (number_at m.numbers index)) (role_content r.role)
 
 -- the history of an item that both models have grew at its end alone
 abbrev pub GrewAtEnd : ReadModel → ReadModel → (histories later : ℕ → List SeenName) → Type 0

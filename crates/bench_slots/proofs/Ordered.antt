@@ -16,7 +16,7 @@ use Rattle.bench_nodes.specs.declared.table.Slot.{Slot}
 use Rattle.bench_nodes.specs.declared.table.SlotKey.{SlotKey}
 use Rattle.bench_nodes.specs.declared.table.SlotKey.TheVariants as slots
 use Rattle.bench_nodes.specs.Nodes.{is_slot, has_slot}
-use Rattle.bench_nodes.specs.Order.{IsBehind, AreOrderedAfter, IsOrdered}
+use Rattle.bench_nodes.specs.Order.{IsOfEarlierSlot, AreOrderedAfter, IsTableOrdered}
 use Rattle.bench_slots.proofs.Lists.{each_append}
 use Rattle.bench_items.specs.Naming.{SeenName}
 use Rattle.bench_slots.specs.Slots.{PlainSlot, plain, number_at, function_key, name_key, space_key, item_keys, slots_of, item_slots, used_slots, flag_key, answer_key, key_by, keys_by, verdict_keys, sound_slots}
@@ -49,7 +49,7 @@ has_slot_plain (s ∷ ss) kind of =
     ap (λ (b : Bool). is_slot kind of s || b) (has_slot_plain ss kind of)
 
 keys_behind : (before : List Slot) (ks : List SlotKey) → Each (IsPlainBehind (map plain before)) ks
-    → Each (IsBehind before) ks
+    → Each (IsOfEarlierSlot before) ks
 keys_behind before [] h = tt
 keys_behind before (slots.Test part ∷ ks) h = (tt, keys_behind before ks h.1)
 keys_behind before (slots.Item number ∷ ks) h = (tt, keys_behind before ks h.1)
@@ -333,6 +333,6 @@ all_ordered histories ms h =
     (models_ordered histories (onto (space_slots ms) []) ms (space_enough ms) h)
 
 pub table_ordered : (t : NodeTable) (histories : ℕ → List SeenName) (ms : List ModelReading)
-    → map plain t.slots.items ≡ all_slots histories ms → Each IsOrderedModel ms → IsOrdered t
+    → map plain t.slots.items ≡ all_slots histories ms → Each IsOrderedModel ms → IsTableOrdered t
 table_ordered t histories ms e h =
     ordered_slots [] t.slots.items (subst (ArePlainOrdered []) (sym e) (all_ordered histories ms h))

@@ -10,7 +10,7 @@ use Rattle.binding_graph.specs.declared.resolved.ResolvedItem.{ResolvedItem}
 use Rattle.binding_graph.specs.declared.resolved.Role.{Role}
 use Rattle.binding_graph.specs.declared.resolved.Role.TheVariants as roles
 use Rattle.bench_items.specs.Items.{held_history, role_content}
-use Rattle.bench_items.specs.Naming.{SeenName, names_in, number_of}
+use Rattle.bench_items.specs.Naming.{SeenName, seen_names_in, number_of}
 use Rattle.bench_items.specs.declared.items.SharedItem.{SharedItem}
 use Rattle.bench_nodes.specs.declared.table.ItemRow.{ItemRow}
 use Rattle.bench_nodes.specs.declared.table.Slot.{Slot}
@@ -53,7 +53,7 @@ no_name = record { name = []; kind = OfAny }
 -- the name at a position of an item, with its kind
 abbrev pub name_of : Option ResolvedItem → ℕ → SeenName
 name_of None position = no_name
-name_of (Some r) position = get_or (names_in (role_content r.role)) position no_name
+name_of (Some r) position = get_or (seen_names_in (role_content r.role)) position no_name
 
 -- the name that an input is
 abbrev pub input_name : List ResolvedItem → Input → SeenName

@@ -2,7 +2,7 @@
 
 ghost use Rattle.std.specs.Prelude.{◌≡◌, ◌∷◌, ◌++◌, [], IfOk, map, get_or};
 ghost use Rattle.bench_items.specs.Items.{role_content};
-ghost use Rattle.bench_items.specs.Naming.{names_in};
+ghost use Rattle.bench_items.specs.Naming.{seen_names_in};
 ghost use Rattle.bench_nodes.specs.declared.table.SlotKey.TheVariants as slots;
 ghost use Rattle.bench_slots.specs.Slots.{plain, number_at, histories_in, no_name, input_name, function_key, name_key, space_key, item_keys, slots_of, used_slots};
 
@@ -53,7 +53,7 @@ fn function_keys(
 // The name at a position of an item with its kind, an empty one where there is none.
 fn bound_name(role: &Role, position: usize) -> (&[u8], ValueKind)
     ensures { record { name = result.0.now; kind = result.1 }
-        ≡ get_or (names_in (role_content role.now)) position no_name }
+        ≡ get_or (seen_names_in (role_content role.now)) position no_name }
 {
     match role {
         Role::Group { bodies, .. } => {

@@ -6,11 +6,11 @@ use Rattle.std.proofs.lemmas.Bool.{cases_lt}
 use Rattle.text_values.specs.ModelValue.{Clause}
 use Rattle.memo_core.specs.Step.{Has}
 use Rattle.bench_texts.specs.BenchTexts.{BenchTexts, NumberedItem, PlainModel, test_index, model_index, put_at, changed_at, with_init, with_thread, with_condition, with_observed, with_items, with_tests, with_models, numbered_items}
-use Rattle.bench_texts.specs.Edits.{Edit, PutTest, DropTest, SetInit, SetThread, SetCond, SetLocations, PutModel, DropModel, SetItem, InsertItem, RemoveItem, has_model, has_item, index_in, index_before, missing, Makes, Applies}
+use Rattle.bench_texts.specs.Edits.{Edit, PutTest, DropTest, SetInit, SetThread, SetCond, SetLocations, PutModel, DropModel, SetItem, InsertItem, RemoveItem, has_model, has_item, index_in, index_before, missing_fault, EditMakes, Applies}
 use Rattle.bench_texts.proofs.Lists.{map-remove}
 use Rattle.text_values.specs.TestValue.{Content}
 use Rattle.bench_text_laws.specs.Orderly.{AreApart, numbers_of, all_numbers, IsOrderly}
-use Rattle.bench_text_laws.specs.Order.{IsBefore, ItemsGoOn, AreInOneOrder}
+use Rattle.bench_text_laws.specs.Order.{StandsBefore, PlainItemsGoOn, AreNumbersInOneOrder}
 use Rattle.bench_text_laws.proofs.Lists.{map-inserted, StandsAt}
 use Rattle.bench_text_laws.proofs.Orderly.{is_there, then_there, numbers_set, numbers_from}
 use Rattle.bench_text_laws.proofs.Splices.{Precedes, has_at, precedes, is_before, one_way, precedes_among, has_among, IsSpliced, spliced_order, spliced_fresh, spliced_none, spliced_inserted, spliced_removed, all_spliced_changed, all_spliced_put, all_spliced_removed}
@@ -19,7 +19,7 @@ use Rattle.bench_text_laws.proofs.Splices.{Precedes, has_at, precedes, is_before
 
 spliced : (t u : BenchTexts) → IsOrderly t
     → IsSpliced t.next (all_numbers t.models) (all_numbers u.models) → t.next ≤ u.next
-    → ItemsGoOn t u
+    → PlainItemsGoOn t u
 spliced t u o s le = record {
   order = spliced_order t.next (all_numbers t.models) (all_numbers u.models) s o.items o.next;
   fresh = spliced_fresh t.next (all_numbers t.models) (all_numbers u.models) s;
@@ -28,7 +28,7 @@ spliced t u o s le = record {
 
 -- an edit of tests
 tests_changed : (t : BenchTexts) (f : List Content → List Content) → IsOrderly t
-    → ItemsGoOn t (with_tests f t)
+    → PlainItemsGoOn t (with_tests f t)
 tests_changed t f o =
     spliced t (with_tests f t) o (spliced_none t.next (all_numbers t.models)) (omega arith)
 
@@ -36,14 +36,14 @@ tests_changed t f o =
 items_changed : (t : BenchTexts) (i next : ℕ) (g : List NumberedItem → List NumberedItem)
     → ((m : PlainModel) → StandsAt i t.models m
     → IsSpliced t.next (numbers_of m) (numbers_of (with_items g m))) → t.next ≤ next
-    → IsOrderly t → ItemsGoOn t (with_models (changed_at i (with_items g)) next t)
+    → IsOrderly t → PlainItemsGoOn t (with_models (changed_at i (with_items g)) next t)
 items_changed t i next g s le o =
     spliced t (with_models (changed_at i (with_items g)) next t) o
     (all_spliced_changed numbers_of t.next (with_items g) i t.models s) le
 
 item_set : (t : BenchTexts) (name : List ℕ) (item : ℕ) (c : Clause) → has_item t name item ≡ true
     → IsOrderly t
-    → ItemsGoOn t (with_models
+    → PlainItemsGoOn t (with_models
     (changed_at (model_index name t.models) (with_items (put_at (index_in t name item)
     (record { number = item; clause = c })))) t.next t)
 item_set t name item c there o =
@@ -54,7 +54,7 @@ item_set t name item c there o =
     (omega arith) o
 
 item_removed : (t : BenchTexts) (at index : ℕ) → IsOrderly t
-    → ItemsGoOn t (with_models (changed_at at (with_items (λ is. remove is index))) t.next t)
+    → PlainItemsGoOn t (with_models (changed_at at (with_items (λ is. remove is index))) t.next t)
 item_removed t at index o = items_changed t at t.next (λ is. remove is index)
     (λ m s. subst (λ (ns : List ℕ). IsSpliced t.next (numbers_of m) ns)
     (sym (map-remove (λ i. i.number) m.items index))
@@ -62,7 +62,7 @@ item_removed t at index o = items_changed t at t.next (λ is. remove is index)
     (omega arith) o
 
 item_inserted : (t : BenchTexts) (at index : ℕ) (c : Clause) → IsOrderly t
-    → ItemsGoOn t (with_models
+    → PlainItemsGoOn t (with_models
     (changed_at at (with_items (λ is.
     insert is index (record { number = t.next; clause = c }))))
     (t.next + 1) t)
@@ -73,7 +73,7 @@ item_inserted t at index c o =
     (spliced_inserted t.next (numbers_of m) index t.next (omega arith))) (omega arith) o
 
 model_put : (t : BenchTexts) (name : List ℕ) (cs : List Clause) → IsOrderly t
-    → ItemsGoOn t (with_models
+    → PlainItemsGoOn t (with_models
     (put_at (model_index name t.models)
     (record { name = name; items = numbered_items t.next cs }))
     (t.next + length cs) t)
@@ -87,62 +87,62 @@ model_put t name cs o =
     new = record { name = name; items = numbered_items t.next cs }
 
 model_dropped : (t : BenchTexts) (i : ℕ) → IsOrderly t
-    → ItemsGoOn t (with_models (λ ms. remove ms i) t.next t)
+    → PlainItemsGoOn t (with_models (λ ms. remove ms i) t.next t)
 model_dropped t i o =
     spliced t (with_models (λ ms. remove ms i) t.next t) o
     (all_spliced_removed numbers_of t.next t.models i) (omega arith)
 
-made_go_on : (t u : BenchTexts) (e : Edit) → IsOrderly t → missing t e ≡ None → Makes t e u
-    → ItemsGoOn t u
+made_go_on : (t u : BenchTexts) (e : Edit) → IsOrderly t → missing_fault t e ≡ None → EditMakes t e u
+    → PlainItemsGoOn t u
 made_go_on t u (PutTest text) o there m =
-    subst (ItemsGoOn t) (sym m.2) (tests_changed t (put_at (test_index m.0.name t.tests) m.0) o)
+    subst (PlainItemsGoOn t) (sym m.2) (tests_changed t (put_at (test_index m.0.name t.tests) m.0) o)
 made_go_on t u (DropTest test) o there m =
-    subst (ItemsGoOn t) (sym m) (tests_changed t (λ ts. remove ts (test_index test t.tests)) o)
+    subst (PlainItemsGoOn t) (sym m) (tests_changed t (λ ts. remove ts (test_index test t.tests)) o)
 made_go_on t u (SetInit test text) o there m =
-    subst (ItemsGoOn t) (sym m.2) (tests_changed t
+    subst (PlainItemsGoOn t) (sym m.2) (tests_changed t
     (changed_at (test_index test t.tests) (with_init m.0)) o)
 made_go_on t u (SetThread test thread text) o there m =
-    subst (ItemsGoOn t) (sym m.2) (tests_changed t
+    subst (PlainItemsGoOn t) (sym m.2) (tests_changed t
     (changed_at (test_index test t.tests) (with_thread thread m.0)) o)
 made_go_on t u (SetCond test text) o there m =
-    subst (ItemsGoOn t) (sym m.2) (tests_changed t
+    subst (PlainItemsGoOn t) (sym m.2) (tests_changed t
     (changed_at (test_index test t.tests) (with_condition m.0)) o)
 made_go_on t u (SetLocations test text) o there m =
-    subst (ItemsGoOn t) (sym m.2) (tests_changed t
+    subst (PlainItemsGoOn t) (sym m.2) (tests_changed t
     (changed_at (test_index test t.tests) (with_observed m.0)) o)
 made_go_on t u (PutModel model text) o there m =
-    subst (ItemsGoOn t) (sym m.2) (model_put t model m.0 o)
+    subst (PlainItemsGoOn t) (sym m.2) (model_put t model m.0 o)
 made_go_on t u (DropModel model) o there m =
-    subst (ItemsGoOn t) (sym m) (model_dropped t (model_index model t.models) o)
+    subst (PlainItemsGoOn t) (sym m) (model_dropped t (model_index model t.models) o)
 made_go_on t u (SetItem model item text) o there m =
-    subst (ItemsGoOn t) (sym m.2) (item_set t model item m.0
+    subst (PlainItemsGoOn t) (sym m.2) (item_set t model item m.0
     (is_there (has_item t model item) _ None (then_there (has_model t model) _ _ there)) o)
 made_go_on t u (InsertItem model before text) o there m =
-    subst (ItemsGoOn t) (sym m.3) (item_inserted t (model_index model t.models)
+    subst (PlainItemsGoOn t) (sym m.3) (item_inserted t (model_index model t.models)
     (index_before t model before) m.0 o)
 made_go_on t u (RemoveItem model item) o there m =
-    subst (ItemsGoOn t) (sym m) (item_removed t (model_index model t.models) (index_in t model item)
+    subst (PlainItemsGoOn t) (sym m) (item_removed t (model_index model t.models) (index_in t model item)
     o)
 
 pub applied_go_on : (t u : BenchTexts) (spent : Bool) (e : Edit) → IsOrderly t → Applies t spent e u
-    → ItemsGoOn t u
+    → PlainItemsGoOn t u
 applied_go_on t u spent e o a = made_go_on t u e o a.all_there a.makes
 
 -- ---- several edits
 
-pub go_on_same : (t : BenchTexts) → ItemsGoOn t t
+pub go_on_same : (t : BenchTexts) → PlainItemsGoOn t t
 go_on_same t = record { order = λ a b h i p. p; fresh = λ n h. inl h; next = omega arith }
 
 -- a number that earlier texts have and later ones too is in those between them
-has_between : (t u v : BenchTexts) → IsOrderly t → ItemsGoOn t u → ItemsGoOn u v → (n : ℕ)
+has_between : (t u v : BenchTexts) → IsOrderly t → PlainItemsGoOn t u → PlainItemsGoOn u v → (n : ℕ)
     → Has (all_numbers t.models) n → Has (all_numbers v.models) n → Has (all_numbers u.models) n
 has_between t u v o g h n was is = elim (h.fresh n is) [
   | inl m ↦ m
   | inr le ↦ (let l = o.next n was in let k = g.next in absurd (omega (arith, l, k, le)))
 ]
 
-pub go_on_further : (t u v : BenchTexts) → IsOrderly t → ItemsGoOn t u → ItemsGoOn u v
-    → ItemsGoOn t v
+pub go_on_further : (t u v : BenchTexts) → IsOrderly t → PlainItemsGoOn t u → PlainItemsGoOn u v
+    → PlainItemsGoOn t v
 go_on_further t u v o g h = record {
   order = λ a b x y p. h.order a b x y (g.order a b
       (has_between t u v o g h a (has_at (all_numbers t.models) p.0 a p.2) x)
@@ -179,13 +179,13 @@ module _ (all : List ℕ) (apart : AreApart all) (numbers : List ℕ)
           subst (λ (n : ℕ). Precedes all n first) one
           (subst (λ (n : ℕ). Precedes all first n) (sym one) p)
 
-pub models_in_order : (t u : BenchTexts) (m w : PlainModel) → IsOrderly u → ItemsGoOn t u
-    → Has t.models m → Has u.models w → AreInOneOrder (numbers_of m) (numbers_of w)
+pub models_in_order : (t u : BenchTexts) (m w : PlainModel) → IsOrderly u → PlainItemsGoOn t u
+    → Has t.models m → Has u.models w → AreNumbersInOneOrder (numbers_of m) (numbers_of w)
 models_in_order t u m w o g hm hw a b c d first second ea eb ec ed lt =
     order_in (all_numbers u.models) o.items (numbers_of w)
     (λ x y p. precedes_among numbers_of u.models w x y hw p) c d first second ec ed later
   where
-    before : IsBefore (all_numbers t.models) first second
+    before : StandsBefore (all_numbers t.models) first second
     before =
         is_before (all_numbers t.models) first second (precedes_among numbers_of t.models m first
         second hm (precedes (numbers_of m) a b first second ea eb lt))

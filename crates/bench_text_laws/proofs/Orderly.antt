@@ -9,7 +9,7 @@ use Rattle.text_values.specs.ModelValue.{Clause}
 use Rattle.memo_core.specs.Step.{Has}
 use Rattle.bench_texts.specs.declared.fault.EditFault.{EditFault}
 use Rattle.bench_texts.specs.BenchTexts.{BenchTexts, NumberedItem, PlainModel, test_index, model_index, item_index, put_at, changed_at, with_init, with_thread, with_condition, with_observed, with_items, with_tests, with_models, numbered_items}
-use Rattle.bench_texts.specs.Edits.{Edit, PutTest, DropTest, SetInit, SetThread, SetCond, SetLocations, PutModel, DropModel, SetItem, InsertItem, RemoveItem, has_model, has_item, model_items, index_in, index_before, unless, missing, Makes, Applies}
+use Rattle.bench_texts.specs.Edits.{Edit, PutTest, DropTest, SetInit, SetThread, SetCond, SetLocations, PutModel, DropModel, SetItem, InsertItem, RemoveItem, has_model, has_item, model_items, index_in, index_before, unless, missing_fault, EditMakes, Applies}
 use Rattle.bench_texts.proofs.Lists.{map-remove}
 use Rattle.bench_text_laws.specs.Orderly.{AreApart, numbers_of, all_numbers, IsOrderly}
 use Rattle.bench_text_laws.proofs.Lists.{apart_put, keys_put, keys_changed, has_removed, apart_removed, has_inserted, apart_inserted, map-inserted, StandsAt, stands_get, Grows, has_all_changed, all_apart_changed, has_all_put, all_apart_put, has_all_removed, all_apart_removed}
@@ -245,7 +245,7 @@ model_dropped t i o = record {
 
 -- ---- all edits
 
-made_orderly : (t u : BenchTexts) (e : Edit) → IsOrderly t → missing t e ≡ None → Makes t e u
+made_orderly : (t u : BenchTexts) (e : Edit) → IsOrderly t → missing_fault t e ≡ None → EditMakes t e u
     → IsOrderly u
 made_orderly t u (PutTest text) o there m = subst IsOrderly (sym m.2) (test_put t m.0 o)
 made_orderly t u (DropTest test) o there m =

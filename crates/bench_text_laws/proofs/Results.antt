@@ -13,8 +13,8 @@ use Rattle.cat_grammar.specs.declared.form.Form.TheVariants as forms
 use Rattle.bench_texts.specs.BenchTexts.{BenchTexts, test_index, model_index, put_at, changed_at, with_init, with_thread, with_condition, with_observed, with_items, with_tests, with_models, numbered_items}
 use Rattle.bench_texts.specs.declared.texts.Texts.{Texts}
 use Rattle.bench_texts.specs.Held.{texts_of}
-use Rattle.bench_texts.specs.Edits.{Edit, PutTest, DropTest, SetInit, SetThread, SetCond, SetLocations, PutModel, DropModel, SetItem, InsertItem, RemoveItem, Makes, thread_count, index_in, index_before}
-use Rattle.bench_text_laws.specs.Laws.{HasOneResult}
+use Rattle.bench_texts.specs.Edits.{Edit, PutTest, DropTest, SetInit, SetThread, SetCond, SetLocations, PutModel, DropModel, SetItem, InsertItem, RemoveItem, EditMakes, thread_count, index_in, index_before}
+use Rattle.bench_text_laws.specs.Laws.{HasOneEditResult}
 use Rattle.bench_text_laws.proofs.Readings.{clauses_one, item_one, test_one, thread_one, init_one, locations_one, condition_one}
 
 -- ---- no test has 2^64 threads
@@ -38,7 +38,7 @@ few_threads own test = few_at own.tests.items (test_index test (texts_of own).te
 -- ---- what each edit makes
 
 module _ (t : BenchTexts) (few : (test : List ℕ) → thread_count t test < 18446744073709551616) where
-  makes_one : (e : Edit) (new other : BenchTexts) → Makes t e new → Makes t e other → new ≡ other
+  makes_one : (e : Edit) (new other : BenchTexts) → EditMakes t e new → EditMakes t e other → new ≡ other
   makes_one (PutTest text) new other a b =
       a.2
       ∙ ap (λ (c : Content). with_tests (put_at (test_index c.name t.tests) c) t)
@@ -96,6 +96,6 @@ module _ (t : BenchTexts) (few : (test : List ℕ) → thread_count t test < 184
       (item_one text a.0 b.0 a.1 b.1) ∙ sym b.3
   makes_one (RemoveItem model item) new other a b = a ∙ sym b
 
-pub result_one : (own : Texts) (e : Edit) → HasOneResult (texts_of own) e
+pub result_one : (own : Texts) (e : Edit) → HasOneEditResult (texts_of own) e
 result_one own e new other a b =
     makes_one (texts_of own) (few_threads own) e new other a.makes b.makes

@@ -5,7 +5,7 @@ use Rattle.std.proofs.lemmas.Option.{none-some, same_Some}
 use Rattle.memo_core.specs.Step.{Has}
 use Rattle.bench_texts.specs.BenchTexts.{put_at, changed_at}
 use Rattle.bench_text_laws.specs.Orderly.{AreApart}
-use Rattle.bench_text_laws.specs.Order.{IsBefore}
+use Rattle.bench_text_laws.specs.Order.{StandsBefore}
 use Rattle.bench_text_laws.proofs.Lists.{StandsAt, has_append, has_left, has_right}
 
 -- ---- one number before another
@@ -33,7 +33,7 @@ precedes (x ∷ xs) (suc i) zero a b e f l = absurd (omega (arith, l))
 precedes (x ∷ xs) zero (suc j) a b e f l = inl (same_Some x a e, has_at xs j b f)
 precedes (x ∷ xs) (suc i) (suc j) a b e f l = inr (precedes xs i j a b e f (omega (arith, l)))
 
-pub is_before : (xs : List ℕ) (a b : ℕ) → Precedes xs a b → IsBefore xs a b
+pub is_before : (xs : List ℕ) (a b : ℕ) → Precedes xs a b → StandsBefore xs a b
 is_before [] a b h = absurd h
 is_before (x ∷ xs) a b h = elim h [
   | inl p ↦ (let r = at_has xs b p.1 in (zero, suc r.0, ap Some p.0, r.1, omega arith))
@@ -144,7 +144,7 @@ pub record IsSpliced (next : ℕ) (before after : List ℕ) : Type 0 where
 
 pub spliced_order : (next : ℕ) (before after : List ℕ) → IsSpliced next before after
     → AreApart before → ((n : ℕ) → Has before n → n < next)
-    → (a b : ℕ) → Has after a → Has after b → IsBefore before a b → IsBefore after a b
+    → (a b : ℕ) → Has after a → Has after b → StandsBefore before a b → StandsBefore after a b
 spliced_order next before after s apart low a b h i p =
     is_before after a b (subst (λ (xs : List ℕ). Precedes xs a b) (sym s.after_is) (order_all next
     s.new s.rest s.fresh s.front s.old a b

@@ -3,7 +3,7 @@ use Rattle.std.proofs.Common.{ℕ, zero, suc, ◌+◌, ◌≡◌, inl, inr, Bool
 use Rattle.std.specs.List.{flat_map, insert, remove}
 use Rattle.memo_core.specs.Step.{Has}
 use Rattle.bench_texts.specs.BenchTexts.{BenchTexts, PlainModel, test_index, model_index, put_at, changed_at, with_init, with_thread, with_condition, with_observed, with_items, with_tests, with_models, numbered_items}
-use Rattle.bench_texts.specs.Edits.{Edit, PutTest, DropTest, SetInit, SetThread, SetCond, SetLocations, PutModel, DropModel, SetItem, InsertItem, RemoveItem, index_in, index_before, Makes, Applies}
+use Rattle.bench_texts.specs.Edits.{Edit, PutTest, DropTest, SetInit, SetThread, SetCond, SetLocations, PutModel, DropModel, SetItem, InsertItem, RemoveItem, index_in, index_before, EditMakes, Applies}
 use Rattle.bench_text_laws.specs.Orderly.{AreApart, numbers_of, IsOrderly}
 use Rattle.bench_text_laws.specs.Order.{AreTogether}
 use Rattle.bench_text_laws.proofs.Lists.{has_append, apart_right, apart_cross}
@@ -111,7 +111,7 @@ changed_model : (t : BenchTexts) (i next : ℕ) (g : PlainModel → PlainModel) 
     → AreTogether t (with_models (changed_at i g) next t)
 changed_model t i next g o = together_changed numbers_of g i t.models o.items
 
-made_together : (t u : BenchTexts) (e : Edit) → IsOrderly t → Makes t e u → AreTogether t u
+made_together : (t u : BenchTexts) (e : Edit) → IsOrderly t → EditMakes t e u → AreTogether t u
 made_together t u (PutTest text) o m =
     subst (AreTogether t) (sym m.2) (same_models t
     (with_tests (put_at (test_index m.0.name t.tests) m.0) t) refl)

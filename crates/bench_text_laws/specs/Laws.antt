@@ -4,6 +4,6 @@ use Rattle.bench_texts.specs.BenchTexts.{BenchTexts}
 use Rattle.bench_texts.specs.Edits.{Edit, Applies}
 
 -- the edit is accepted on these texts with one result at most
-abbrev pub HasOneResult : BenchTexts → Edit → Type 0
-HasOneResult t e =
+abbrev pub HasOneEditResult : BenchTexts → Edit → Type 0
+HasOneEditResult t e =
     (new other : BenchTexts) → Applies t false e new → Applies t false e other → new ≡ other

@@ -5,7 +5,7 @@ ghost use Rattle.memo_core.specs.Step.{Has};
 ghost use Rattle.bench_texts.specs.BenchTexts.{BenchTexts, PlainModel};
 ghost use Rattle.bench_texts.specs.Edits.{Edit, Applies};
 ghost use Rattle.bench_text_laws.specs.Orderly.{numbers_of, IsOrderly};
-ghost use Rattle.bench_text_laws.specs.Order.{ItemsGoOn, AreInOneOrder, AreTogether};
+ghost use Rattle.bench_text_laws.specs.Order.{PlainItemsGoOn, AreNumbersInOneOrder, AreTogether};
 
 /// After an edit each test and each model still has a name of its own, and each item a number of
 /// its own.
@@ -19,22 +19,23 @@ pub fn names_and_numbers_stay_apart()
 /// less.
 pub fn items_stay_in_order()
     ensures { (t u : BenchTexts) (spent : Bool) (e : Edit) → IsOrderly t → Applies t spent e u
-        → ItemsGoOn t u }
+        → PlainItemsGoOn t u }
 {}
 
 /// Without an edit the items go on from themselves, and where they go on twice they go on over
 /// both.
 pub fn order_lasts_over_edits()
-    ensures without_edits { (t : BenchTexts) → ItemsGoOn t t }
-    ensures over_both { (t u v : BenchTexts) → IsOrderly t → ItemsGoOn t u → ItemsGoOn u v
-        → ItemsGoOn t v }
+    ensures without_edits { (t : BenchTexts) → PlainItemsGoOn t t }
+    ensures over_both { (t u v : BenchTexts) → IsOrderly t → PlainItemsGoOn t u → PlainItemsGoOn u v
+        → PlainItemsGoOn t v }
 {}
 
 /// The items that stand in a model of earlier texts and in a model of later texts stand in one
 /// order in both.
 pub fn models_stay_in_order()
-    ensures { (t u : BenchTexts) (m w : PlainModel) → IsOrderly u → ItemsGoOn t u → Has t.models m
-        → Has u.models w → AreInOneOrder (numbers_of m) (numbers_of w) }
+    ensures { (t u : BenchTexts) (m w : PlainModel) → IsOrderly u → PlainItemsGoOn t u
+        → Has t.models m
+        → Has u.models w → AreNumbersInOneOrder (numbers_of m) (numbers_of w) }
 {}
 
 /// After an edit the items of one model that still stand are items of one model.

@@ -7,8 +7,8 @@ use Rattle.bench_texts.specs.BenchTexts.{BenchTexts}
 use Rattle.bench_texts.specs.Limits.{is_full, is_spent}
 use Rattle.bench_texts.specs.declared.change.Change.{Change}
 use Rattle.bench_texts.specs.declared.texts.Texts.{Texts}
-use Rattle.bench_texts.specs.Changes.{texts_after, IsReady}
-use Rattle.bench_texts.specs.Edits.{Edit, missing, Makes, limit_fault, Applies, Refuses}
+use Rattle.bench_texts.specs.Changes.{changed_texts, IsChangeReady}
+use Rattle.bench_texts.specs.Edits.{Edit, missing_fault, EditMakes, limit_fault, Applies, RefusesEdit}
 use Rattle.bench_texts.specs.Answers.{Answers, IsChangeBy, IsLimited}
 
 -- a fault of the limits is one of two
@@ -20,33 +20,33 @@ refused_so false true f e = inr cc
 refused_so false false f e = cc
 
 pub refused_by_limit : (t new : BenchTexts) (spent : Bool) (e : Edit) (f : EditFault)
-    → missing t e ≡ None → Makes t e new → limit_fault t spent new ≡ Some f → Refuses t spent e f
+    → missing_fault t e ≡ None → EditMakes t e new → limit_fault t spent new ≡ Some f → RefusesEdit t spent e f
 refused_by_limit t new spent e f there makes limit =
     elim (refused_so (is_full new) (spent || is_spent t) f limit) [
-      | inl h ↦ subst (λ g. Refuses t spent e g) (sym h) (
+      | inl h ↦ subst (λ g. RefusesEdit t spent e g) (sym h) (
         there,
         record { new = new; makes = makes; limit = limit ∙ ap Some h },
       )
-      | inr h ↦ subst (λ g. Refuses t spent e g) (sym h) (
+      | inr h ↦ subst (λ g. RefusesEdit t spent e g) (sym h) (
         there,
         record { new = new; makes = makes; limit = limit ∙ ap Some h },
       )
     ]
 
 pub limited_answers : (t : BenchTexts) (spent : Bool) (e : Edit) (change : Change)
-    (r : Result Change EditFault) → missing t e ≡ None → Makes t e (texts_after change t)
-    → IsChangeBy t e change → IsLimited t spent change (texts_after change t) r
+    (r : Result Change EditFault) → missing_fault t e ≡ None → EditMakes t e (changed_texts change t)
+    → IsChangeBy t e change → IsLimited t spent change (changed_texts change t) r
     → Answers t spent e r
 limited_answers t spent e change (Ok c) there makes by l =
-    subst (λ d. Applies t spent e (texts_after d t) × IsChangeBy t e d) (sym l.0)
+    subst (λ d. Applies t spent e (changed_texts d t) × IsChangeBy t e d) (sym l.0)
     (record { all_there = there; makes = makes; within = l.1 }, by)
 limited_answers t spent e change (Err f) there makes by l =
-    refused_by_limit t (texts_after change t) spent e f there makes l
+    refused_by_limit t (changed_texts change t) spent e f there makes l
 
 pub limited_ready : (t : BenchTexts) (texts : Texts) (spent : Bool) (change : Change)
-    (new : BenchTexts) (r : Result Change EditFault) → IsReady texts change
-    → IsLimited t spent change new r → IfOk r (IsReady texts)
-limited_ready t texts spent change new (Ok c) ready l = subst (IsReady texts) (sym l.0) ready
+    (new : BenchTexts) (r : Result Change EditFault) → IsChangeReady texts change
+    → IsLimited t spent change new r → IfOk r (IsChangeReady texts)
+limited_ready t texts spent change new (Ok c) ready l = subst (IsChangeReady texts) (sym l.0) ready
 limited_ready t texts spent change new (Err f) ready l = tt
 
 pub limited_is : (t : BenchTexts) (spent : Bool) (change : Change) (new : BenchTexts)
@@ -57,10 +57,10 @@ limited_is t spent change new (Err f) l = tt
 -- where what is asked holds of texts within the limits
 pub limited_ready_within : (t : BenchTexts) (texts : Texts) (spent : Bool) (change : Change)
     (new : BenchTexts) (r : Result Change EditFault)
-    → (limit_fault t spent new ≡ None → IsReady texts change) → IsLimited t spent change new r
-    → IfOk r (IsReady texts)
+    → (limit_fault t spent new ≡ None → IsChangeReady texts change) → IsLimited t spent change new r
+    → IfOk r (IsChangeReady texts)
 limited_ready_within t texts spent change new (Ok c) ready l =
-    subst (IsReady texts) (sym l.0) (ready l.1)
+    subst (IsChangeReady texts) (sym l.0) (ready l.1)
 limited_ready_within t texts spent change new (Err f) ready l = tt
 
 -- texts within the limits have item numbers left

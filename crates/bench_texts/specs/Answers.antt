@@ -9,8 +9,8 @@ use Rattle.litmus_ppc.specs.declared.fault.LitmusFault.TheVariants as litmus
 use Rattle.cat_syntax.specs.declared.fault.CatFault.{CatFault}
 use Rattle.cat_syntax.specs.declared.fault.CatFault.TheVariants as cat
 use Rattle.bench_texts.specs.BenchTexts.{BenchTexts}
-use Rattle.bench_texts.specs.Changes.{texts_after, IsPutFor}
-use Rattle.bench_texts.specs.Edits.{Edit, limit_fault, Applies, Refuses}
+use Rattle.bench_texts.specs.Changes.{changed_texts, IsPutFor}
+use Rattle.bench_texts.specs.Edits.{Edit, limit_fault, Applies, RefusesEdit}
 use Rattle.bench_texts.specs.Replacements.{IsPutBy}
 
 -- what is put or dropped for the change is what the edit puts or drops
@@ -18,8 +18,8 @@ abbrev pub IsChangeBy : BenchTexts → Edit → Change → Type 0
 IsChangeBy t e change = (r : Replacement) → IsPutFor change r → IsPutBy t e r
 
 abbrev pub Answers : BenchTexts → Bool → Edit → Result Change EditFault → Type 0
-Answers t spent e (Ok change) = Applies t spent e (texts_after change t) × IsChangeBy t e change
-Answers t spent e (Err fault) = Refuses t spent e fault
+Answers t spent e (Ok change) = Applies t spent e (changed_texts change t) × IsChangeBy t e change
+Answers t spent e (Err fault) = RefusesEdit t spent e fault
 
 -- the change, unless the texts that it makes are over a limit
 abbrev pub IsLimited : BenchTexts → Bool → Change → BenchTexts → Result Change EditFault → Type 0

@@ -116,7 +116,8 @@ numbered_items n [] = []
 numbered_items n (c ∷ cs) = record { number = n; clause = c } ∷ numbered_items (n + 1) cs
 
 -- each item with its number
-abbrev pub items_of : List ℕ → List Item → List NumberedItem
-items_of [] is = []
-items_of (n ∷ ns) [] = []
-items_of (n ∷ ns) (i ∷ is) = record { number = n; clause = clause_of i } ∷ items_of ns is
+abbrev pub items_with_numbers : List ℕ → List Item → List NumberedItem
+items_with_numbers [] is = []
+items_with_numbers (n ∷ ns) [] = []
+items_with_numbers (n ∷ ns) (i ∷ is) =
+    record { number = n; clause = clause_of i } ∷ items_with_numbers ns is

@@ -9,55 +9,56 @@ use Rattle.bench_texts.specs.declared.replacement.Replacement.{Replacement}
 use Rattle.bench_texts.specs.declared.replacement.Replacement.TheVariants as made
 use Rattle.bench_texts.specs.declared.texts.Texts.{Texts}
 use Rattle.bench_texts.specs.BenchTexts.{BenchTexts, put_at, changed_at, with_init, with_thread, with_condition, with_observed, with_items, with_tests, with_models}
-use Rattle.bench_texts.specs.Held.{model_of, texts_of, IsRead}
+use Rattle.bench_texts.specs.Held.{plain_model, texts_of, IsModelRead}
 use Rattle.bench_texts.specs.Replacements.{IsTestPut, IsModelPut}
 
 -- the texts after the change
-abbrev pub texts_after : Change → BenchTexts → BenchTexts
-texts_after (changes.PutTest at test) t = with_tests (put_at at (content_of test)) t
-texts_after (changes.DropTest at) t = with_tests (λ ts. remove ts at) t
-texts_after (changes.SetInit at init) t = with_tests (changed_at at (with_init init.items)) t
-texts_after (changes.SetThread at thread other) t =
+abbrev pub changed_texts : Change → BenchTexts → BenchTexts
+changed_texts (changes.PutTest at test) t = with_tests (put_at at (content_of test)) t
+changed_texts (changes.DropTest at) t = with_tests (λ ts. remove ts at) t
+changed_texts (changes.SetInit at init) t = with_tests (changed_at at (with_init init.items)) t
+changed_texts (changes.SetThread at thread other) t =
     with_tests (changed_at at (with_thread thread (thread_steps other))) t
-texts_after (changes.SetCond at c) t =
+changed_texts (changes.SetCond at c) t =
     with_tests (changed_at at (with_condition (c.quantifier, formula_of c.proposition))) t
-texts_after (changes.SetObserved at observed) t =
+changed_texts (changes.SetObserved at observed) t =
     with_tests (changed_at at (with_observed observed.items)) t
-texts_after (changes.PutModel at model next) t = with_models (put_at at (model_of model)) next t
-texts_after (changes.DropModel at) t = with_models (λ ms. remove ms at) t.next t
-texts_after (changes.SetItem at index number item) t =
+changed_texts (changes.PutModel at model next) t =
+    with_models (put_at at (plain_model model)) next t
+changed_texts (changes.DropModel at) t = with_models (λ ms. remove ms at) t.next t
+changed_texts (changes.SetItem at index number item) t =
     with_models
     (changed_at at (with_items (put_at index
     (record { number = number; clause = clause_of item })))) t.next t
-texts_after (changes.InsertItem at index item) t =
+changed_texts (changes.InsertItem at index item) t =
     with_models
     (changed_at at (with_items (λ is.
     insert is index (record { number = t.next; clause = clause_of item }))))
     (t.next + 1) t
-texts_after (changes.RemoveItem at index) t =
+changed_texts (changes.RemoveItem at index) t =
     with_models (changed_at at (with_items (λ is. remove is index))) t.next t
 
 -- What it changes is there, there is room for one more where it adds one, and a model that it puts
 -- is read.
-abbrev pub IsReady : Texts → Change → Type 0
-IsReady t (changes.PutTest at test) =
+abbrev pub IsChangeReady : Texts → Change → Type 0
+IsChangeReady t (changes.PutTest at test) =
     (at ≤ vec_len t.tests) × (at ≡ vec_len t.tests → vec_len t.tests < vec_capacity t.tests)
-IsReady t (changes.DropTest at) = at < vec_len t.tests
-IsReady t (changes.SetInit at init) = at < vec_len t.tests
-IsReady t (changes.SetThread at thread other) =
+IsChangeReady t (changes.DropTest at) = at < vec_len t.tests
+IsChangeReady t (changes.SetInit at init) = at < vec_len t.tests
+IsChangeReady t (changes.SetThread at thread other) =
     (at < vec_len t.tests) × HoldsAt (λ c. thread < length c.threads) (texts_of t).tests at
-IsReady t (changes.SetCond at c) = at < vec_len t.tests
-IsReady t (changes.SetObserved at observed) = at < vec_len t.tests
-IsReady t (changes.PutModel at model next) =
+IsChangeReady t (changes.SetCond at c) = at < vec_len t.tests
+IsChangeReady t (changes.SetObserved at observed) = at < vec_len t.tests
+IsChangeReady t (changes.PutModel at model next) =
     (at ≤ vec_len t.models) × (at ≡ vec_len t.models → vec_len t.models < vec_capacity t.models)
-    × IsRead model
-IsReady t (changes.DropModel at) = at < vec_len t.models
-IsReady t (changes.SetItem at index number item) =
+    × IsModelRead model
+IsChangeReady t (changes.DropModel at) = at < vec_len t.models
+IsChangeReady t (changes.SetItem at index number item) =
     (at < vec_len t.models) × HoldsAt (λ m. index < length m.items) (texts_of t).models at
-IsReady t (changes.InsertItem at index item) =
+IsChangeReady t (changes.InsertItem at index item) =
     (at < vec_len t.models) × HoldsAt (λ m. index ≤ length m.items) (texts_of t).models at
     × HoldsAt (λ m. length m.items < 256) (texts_of t).models at × (t.next + 1 < 2 ^ 64)
-IsReady t (changes.RemoveItem at index) =
+IsChangeReady t (changes.RemoveItem at index) =
     (at < vec_len t.models) × HoldsAt (λ m. index < length m.items) (texts_of t).models at
 
 -- the test or the model that it changes is put or dropped

@@ -99,60 +99,60 @@ unless true fault later = later
 unless false fault later = Some fault
 
 -- the first that is not there: test, model, thread, item
-abbrev pub missing : BenchTexts → Edit → Option EditFault
-missing t (PutTest text) = None
-missing t (DropTest test) = unless (has_test t test) faults.NoTest None
-missing t (SetInit test text) = unless (has_test t test) faults.NoTest None
-missing t (SetThread test thread text) =
+abbrev pub missing_fault : BenchTexts → Edit → Option EditFault
+missing_fault t (PutTest text) = None
+missing_fault t (DropTest test) = unless (has_test t test) faults.NoTest None
+missing_fault t (SetInit test text) = unless (has_test t test) faults.NoTest None
+missing_fault t (SetThread test thread text) =
     unless (has_test t test) faults.NoTest (unless (nat_lt thread (thread_count t test))
     faults.NoThread None)
-missing t (SetCond test text) = unless (has_test t test) faults.NoTest None
-missing t (SetLocations test text) = unless (has_test t test) faults.NoTest None
-missing t (PutModel model text) = unless (is_model_name model) faults.NoModel None
-missing t (DropModel model) = unless (has_model t model) faults.NoModel None
-missing t (SetItem model item text) =
+missing_fault t (SetCond test text) = unless (has_test t test) faults.NoTest None
+missing_fault t (SetLocations test text) = unless (has_test t test) faults.NoTest None
+missing_fault t (PutModel model text) = unless (is_model_name model) faults.NoModel None
+missing_fault t (DropModel model) = unless (has_model t model) faults.NoModel None
+missing_fault t (SetItem model item text) =
     unless (has_model t model) faults.NoModel (unless (has_item t model item) faults.NoItem None)
-missing t (InsertItem model before text) =
+missing_fault t (InsertItem model before text) =
     unless (has_model t model) faults.NoModel (unless (before == 0 || has_item t model before)
     faults.NoItem None)
-missing t (RemoveItem model item) =
+missing_fault t (RemoveItem model item) =
     unless (has_model t model) faults.NoModel (unless (has_item t model item) faults.NoItem None)
 
 -- ---- what an edit makes of the texts, where all that it names is there
 
-abbrev pub Makes : BenchTexts → Edit → BenchTexts → Type 0
-Makes t (PutTest text) new =
+abbrev pub EditMakes : BenchTexts → Edit → BenchTexts → Type 0
+EditMakes t (PutTest text) new =
     (c : Content) × ReadsTest text c × (new ≡ with_tests (put_at (test_index c.name t.tests) c) t)
-Makes t (DropTest test) new = new ≡ with_tests (λ ts. remove ts (test_index test t.tests)) t
-Makes t (SetInit test text) new =
+EditMakes t (DropTest test) new = new ≡ with_tests (λ ts. remove ts (test_index test t.tests)) t
+EditMakes t (SetInit test text) new =
     (v : List InitEntry) × ReadsInit (thread_count t test) text v
     × (new ≡ with_tests (changed_at (test_index test t.tests) (with_init v)) t)
-Makes t (SetThread test thread text) new =
+EditMakes t (SetThread test thread text) new =
     (v : List Step) × ReadsThread text v
     × (new ≡ with_tests (changed_at (test_index test t.tests) (with_thread thread v)) t)
-Makes t (SetCond test text) new =
+EditMakes t (SetCond test text) new =
     (v : Quantifier × Formula) × ReadsCondition (thread_count t test) text v
     × (new ≡ with_tests (changed_at (test_index test t.tests) (with_condition v)) t)
-Makes t (SetLocations test text) new =
+EditMakes t (SetLocations test text) new =
     (v : List Place) × ReadsLocations (thread_count t test) text v
     × (new ≡ with_tests (changed_at (test_index test t.tests) (with_observed v)) t)
-Makes t (PutModel model text) new =
+EditMakes t (PutModel model text) new =
     (cs : List Clause) × Reads forms.Model text cs
     × (new
     ≡ with_models
     (put_at (model_index model t.models)
     (record { name = model; items = numbered_items t.next cs }))
     (t.next + length cs) t)
-Makes t (DropModel model) new =
+EditMakes t (DropModel model) new =
     new ≡ with_models (λ ms. remove ms (model_index model t.models)) t.next t
-Makes t (SetItem model item text) new =
+EditMakes t (SetItem model item text) new =
     (c : Clause) × Reads forms.Item text (c ∷ [])
     × (new
     ≡ with_models
     (changed_at (model_index model t.models) (with_items (put_at
     (index_in t model item) (record { number = item; clause = c }))))
     t.next t)
-Makes t (InsertItem model before text) new =
+EditMakes t (InsertItem model before text) new =
     (c : Clause) × Reads forms.Item text (c ∷ []) × (length (model_items t model) + 1 ≤ 256)
     × (new
     ≡ with_models
@@ -160,7 +160,7 @@ Makes t (InsertItem model before text) new =
     (index_before t model before)
     (record { number = t.next; clause = c }))))
     (t.next + 1) t)
-Makes t (RemoveItem model item) new =
+EditMakes t (RemoveItem model item) new =
     new
     ≡ with_models
     (changed_at (model_index model t.models)
@@ -168,15 +168,16 @@ Makes t (RemoveItem model item) new =
 
 -- ---- why its text is refused
 
-abbrev pub IsTestRefused : BenchTexts → Edit → LitmusRule → ℕ → Type 0
-IsTestRefused t (PutTest text) rule offset = IsTestFault text rule offset
-IsTestRefused t (SetInit test text) rule offset = IsInitFault (thread_count t test) text rule offset
-IsTestRefused t (SetThread test thread text) rule offset = IsThreadFault text rule offset
-IsTestRefused t (SetCond test text) rule offset =
+abbrev pub IsTestEditRefused : BenchTexts → Edit → LitmusRule → ℕ → Type 0
+IsTestEditRefused t (PutTest text) rule offset = IsTestFault text rule offset
+IsTestEditRefused t (SetInit test text) rule offset =
+    IsInitFault (thread_count t test) text rule offset
+IsTestEditRefused t (SetThread test thread text) rule offset = IsThreadFault text rule offset
+IsTestEditRefused t (SetCond test text) rule offset =
     IsConditionFault (thread_count t test) text rule offset
-IsTestRefused t (SetLocations test text) rule offset =
+IsTestEditRefused t (SetLocations test text) rule offset =
     IsLocationsFault (thread_count t test) text rule offset
-IsTestRefused t _ rule offset = ⊥
+IsTestEditRefused t _ rule offset = ⊥
 
 -- the text reads as an item, of which the model has 256
 pub record IsOneTooMany (t : BenchTexts) (model text : List ℕ) (rule : CatRule) (offset : ℕ)
@@ -187,19 +188,19 @@ pub record IsOneTooMany (t : BenchTexts) (model text : List ℕ) (rule : CatRule
   pub rule_is : rule ≡ TooMany
   pub offset_is : offset ≡ 0
 
-abbrev pub IsModelRefused : BenchTexts → Edit → CatRule → ℕ → Type 0
-IsModelRefused t (PutModel model text) rule offset = FaultAt forms.Model text rule offset
-IsModelRefused t (SetItem model item text) rule offset = FaultAt forms.Item text rule offset
-IsModelRefused t (InsertItem model before text) rule offset =
+abbrev pub IsModelEditRefused : BenchTexts → Edit → CatRule → ℕ → Type 0
+IsModelEditRefused t (PutModel model text) rule offset = FaultAt forms.Model text rule offset
+IsModelEditRefused t (SetItem model item text) rule offset = FaultAt forms.Item text rule offset
+IsModelEditRefused t (InsertItem model before text) rule offset =
     FaultAt forms.Item text rule offset ⊎ IsOneTooMany t model text rule offset
-IsModelRefused t _ rule offset = ⊥
+IsModelEditRefused t _ rule offset = ⊥
 
 abbrev pub IsLitmusRefusal : BenchTexts → Edit → LitmusFault → Type 0
-IsLitmusRefusal t e (litmus.Refused rule offset) = IsTestRefused t e rule offset
+IsLitmusRefusal t e (litmus.Refused rule offset) = IsTestEditRefused t e rule offset
 IsLitmusRefusal t e (litmus.OutOfMemory f) = ⊥
 
 abbrev pub IsCatRefusal : BenchTexts → Edit → CatFault → Type 0
-IsCatRefusal t e (cat.Refused rule offset) = IsModelRefused t e rule offset
+IsCatRefusal t e (cat.Refused rule offset) = IsModelEditRefused t e rule offset
 IsCatRefusal t e (cat.OutOfMemory f) = ⊥
 
 -- ---- the limits, of what it makes
@@ -212,22 +213,22 @@ limit_fault t spent new =
 
 pub record IsOverLimit (t : BenchTexts) (spent : Bool) (e : Edit) (fault : EditFault) : Type 0 where
   pub new : BenchTexts
-  pub makes : Makes t e new
+  pub makes : EditMakes t e new
   pub limit : limit_fault t spent new ≡ Some fault
 
 -- ---- the whole: `spent` says whether the numbers of edits are spent
 
 -- the edit is accepted, and these are the texts after it
 pub record Applies (t : BenchTexts) (spent : Bool) (e : Edit) (new : BenchTexts) : Type 0 where
-  pub all_there : missing t e ≡ None
-  pub makes : Makes t e new
+  pub all_there : missing_fault t e ≡ None
+  pub makes : EditMakes t e new
   pub within : limit_fault t spent new ≡ None
 
 -- the edit is refused: the first that holds, unless memory ran out
-abbrev pub Refuses : BenchTexts → Bool → Edit → EditFault → Type 0
-Refuses t spent e (faults.Test f) = (missing t e ≡ None) × IsLitmusRefusal t e f
-Refuses t spent e (faults.Model f) = (missing t e ≡ None) × IsCatRefusal t e f
-Refuses t spent e faults.Full = (missing t e ≡ None) × IsOverLimit t spent e faults.Full
-Refuses t spent e faults.Spent = (missing t e ≡ None) × IsOverLimit t spent e faults.Spent
-Refuses t spent e (faults.OutOfMemory f) = Unit {0}
-Refuses t spent e fault = missing t e ≡ Some fault
+abbrev pub RefusesEdit : BenchTexts → Bool → Edit → EditFault → Type 0
+RefusesEdit t spent e (faults.Test f) = (missing_fault t e ≡ None) × IsLitmusRefusal t e f
+RefusesEdit t spent e (faults.Model f) = (missing_fault t e ≡ None) × IsCatRefusal t e f
+RefusesEdit t spent e faults.Full = (missing_fault t e ≡ None) × IsOverLimit t spent e faults.Full
+RefusesEdit t spent e faults.Spent = (missing_fault t e ≡ None) × IsOverLimit t spent e faults.Spent
+RefusesEdit t spent e (faults.OutOfMemory f) = Unit {0}
+RefusesEdit t spent e fault = missing_fault t e ≡ Some fault

@@ -3,23 +3,24 @@ use Rattle.std.specs.Prelude.{map, All}
 use Rattle.text_values.specs.TestValue.{content_of}
 use Rattle.bench_texts.specs.declared.model.NamedModel.{NamedModel}
 use Rattle.bench_texts.specs.declared.texts.Texts.{Texts}
-use Rattle.bench_texts.specs.BenchTexts.{PlainModel, BenchTexts, items_of}
-use Rattle.bench_texts.specs.Readings.{IsReading}
+use Rattle.bench_texts.specs.BenchTexts.{PlainModel, BenchTexts, items_with_numbers}
+use Rattle.bench_texts.specs.Readings.{IsModelReading}
 
-abbrev pub model_of : NamedModel → PlainModel
-model_of m = record { name = m.name; items = items_of m.numbers.items m.text.items.items }
+abbrev pub plain_model : NamedModel → PlainModel
+plain_model m =
+    record { name = m.name; items = items_with_numbers m.numbers.items m.text.items.items }
 
 abbrev pub texts_of : Texts → BenchTexts
 texts_of t =
     record {
       tests = map content_of t.tests.items;
-      models = map model_of t.models.items;
+      models = map plain_model t.models.items;
       next = t.next;
     }
 
 -- a model holds what its items are resolved to, or their first fault
-abbrev pub IsRead : NamedModel → Type 0
-IsRead m = IsReading m.text.items.items m.reading
+abbrev pub IsModelRead : NamedModel → Type 0
+IsModelRead m = IsModelReading m.text.items.items m.reading
 
-abbrev pub AreRead : Texts → Type 0
-AreRead t = All IsRead t.models.items
+abbrev pub AreModelsRead : Texts → Type 0
+AreModelsRead t = All IsModelRead t.models.items

@@ -17,16 +17,16 @@ abbrev pub predefined_names : List Naming
 predefined_names = reverse (map naming_of PREDEFINED)
 
 -- the items have no fault, and are resolved to these
-pub record AreSound (items : List Item) (resolved : List ResolvedItem) : Type 0 where
+pub record AreSoundItems (items : List Item) (resolved : List ResolvedItem) : Type 0 where
   pub whole : length resolved ≡ length items
   pub no_fault : HasNoFault [] predefined_names 0 (map bare_item items)
   pub as_resolved : AreResolved [] [] predefined_names 0 (map bare_item items) resolved
   pub labelled : AreLabelled items resolved
 
 -- the items resolved, with the indexes of those that checks and flags reach, or their first fault
-abbrev pub IsReading : List Item → Reading → Type 0
-IsReading items (readings.Sound resolved used) =
-    AreSound items (arc_value resolved).items.items
+abbrev pub IsModelReading : List Item → Reading → Type 0
+IsModelReading items (readings.Sound resolved used) =
+    AreSoundItems items (arc_value resolved).items.items
     × AreReached (arc_value resolved).items.items used.items
-IsReading items (readings.Faulty fault) =
+IsModelReading items (readings.Faulty fault) =
     FirstFault [] predefined_names 0 (map bare_item items) fault

@@ -9,14 +9,14 @@ use Rattle.bench_texts.specs.declared.replacement.Replacement.TheVariants as mad
 use Rattle.bench_texts.specs.declared.texts.Texts.{Texts}
 use Rattle.bench_texts.specs.BenchTexts.{BenchTexts, test_index, model_index, put_at, with_tests, with_models}
 use Rattle.bench_texts.specs.Edits.{Edit, PutTest, DropTest, SetInit, SetThread, SetCond, SetLocations, PutModel, DropModel, SetItem, InsertItem, RemoveItem}
-use Rattle.bench_texts.specs.Held.{model_of, IsRead}
+use Rattle.bench_texts.specs.Held.{plain_model, IsModelRead}
 use Rattle.bench_texts.specs.Printed.{printed_items}
 
 -- the texts with what is put
 abbrev pub texts_with : Replacement → BenchTexts → BenchTexts
 texts_with (made.PutTest at test) t = with_tests (put_at at (content_of test)) t
 texts_with (made.DropTest at) t = with_tests (λ ts. remove ts at) t
-texts_with (made.PutModel at model next) t = with_models (put_at at (model_of model)) next t
+texts_with (made.PutModel at model next) t = with_models (put_at at (plain_model model)) next t
 texts_with (made.DropModel at) t = with_models (λ ms. remove ms at) t.next t
 
 -- the tests with what is put, and the models: those that are not named stay what they are
@@ -40,7 +40,7 @@ IsReplaceable t (made.PutTest at test) =
 IsReplaceable t (made.DropTest at) = at < vec_len t.tests
 IsReplaceable t (made.PutModel at model next) =
     (at ≤ vec_len t.models) × (at ≡ vec_len t.models → vec_len t.models < vec_capacity t.models)
-    × IsRead model
+    × IsModelRead model
 IsReplaceable t (made.DropModel at) = at < vec_len t.models
 
 -- ---- what each edit puts or drops
@@ -80,7 +80,7 @@ IsPutBy t (RemoveItem model item) r = IsModelPut (model_index model t.models) r
 
 -- the printed items of a model that is put
 abbrev pub printed_by : Replacement → Option (List ℕ)
-printed_by (made.PutModel at model next) = Some (printed_items (model_of model).items)
+printed_by (made.PutModel at model next) = Some (printed_items (plain_model model).items)
 printed_by (made.PutTest at test) = None
 printed_by (made.DropTest at) = None
 printed_by (made.DropModel at) = None

@@ -14,7 +14,7 @@ use text_values::Test;
 impl Texts {
     ghost use Rattle.std.specs.Prelude.{◌≤◌, vec_capacity};
     ghost use Rattle.bench_texts.specs.BenchTexts.{put_at, with_tests, with_models};
-    ghost use Rattle.bench_texts.specs.Held.{model_of, texts_of, IsRead, AreRead};
+    ghost use Rattle.bench_texts.specs.Held.{plain_model, texts_of, IsModelRead, AreModelsRead};
     ghost use Rattle.bench_texts.specs.Replacements.{texts_with, tests_with, models_with, IsReplaceable};
 
     /// Makes the change of an edit that was prepared on these texts. It takes no memory.
@@ -27,7 +27,7 @@ impl Texts {
         ensures models { self.new.models.items
             ≡ models_with prepared.replacement self.old.models.items }
         // Each model holds what its items are resolved to.
-        ensures read { AreRead self.old → AreRead self.new }
+        ensures read { AreModelsRead self.old → AreModelsRead self.new }
     {
         match prepared.into_replacement() {
             Replacement::PutTest { at, test } => self.put_test(at, test),
@@ -57,12 +57,12 @@ impl Texts {
         requires index { at ≤ vec_len self.old.models }
         requires room { at ≡ vec_len self.old.models
             → vec_len self.old.models < vec_capacity self.old.models }
-        requires read { IsRead model }
+        requires read { IsModelRead model }
         ensures texts { texts_of self.new
-            ≡ with_models (put_at at (model_of model)) next (texts_of self.old) }
+            ≡ with_models (put_at at (plain_model model)) next (texts_of self.old) }
         ensures models { self.new.models.items ≡ put_at at model self.old.models.items }
         ensures tests { self.new.tests ≡ self.old.tests }
-        ensures read { AreRead self.old → AreRead self.new }
+        ensures read { AreModelsRead self.old → AreModelsRead self.new }
     {
         self.next = next;
         if at < self.models.len() {

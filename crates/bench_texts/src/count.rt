@@ -3,7 +3,7 @@
 ghost use Rattle.std.specs.Prelude.{◌≡◌, ◌-◌, ◌^◌, min, map};
 ghost use Rattle.std.specs.List.{sum_by};
 ghost use Rattle.text_values.specs.ModelValues.{clause_of};
-ghost use Rattle.bench_texts.specs.Held.{model_of};
+ghost use Rattle.bench_texts.specs.Held.{plain_model};
 ghost use Rattle.bench_texts.specs.Limits.{clause_outputs, models_outputs};
 
 use crate::model::NamedModel;
@@ -36,7 +36,7 @@ pub fn count_items(items: &[Item]) -> usize
 
 /// The outputs of these models for each test, or the greatest `usize` where these are more.
 pub fn count_models(models: &[NamedModel]) -> usize
-    ensures { result ≡ min (models_outputs (map model_of models.now)) (2 ^ 64 - 1) }
+    ensures { result ≡ min (models_outputs (map plain_model models.now)) (2 ^ 64 - 1) }
 {
     let mut total: usize = 0;
     for model in models {

@@ -1,7 +1,7 @@
 //! Why an edit is refused.
 
 ghost use Rattle.std.specs.Prelude.{◌≡◌};
-ghost use Rattle.bench_texts.specs.Numbers.{number_of};
+ghost use Rattle.bench_texts.specs.Numbers.{edit_fault_number};
 
 use cat_syntax::CatFault;
 use litmus_ppc::LitmusFault;
@@ -44,7 +44,7 @@ impl EditFault {
     /// The number that a refusal by the bench is printed with, from 1 to 6. The refusal of a text
     /// has its own, and want of memory has none.
     pub fn number(&self) -> Option<u8>
-        ensures { result ≡ number_of self.now }
+        ensures { result ≡ edit_fault_number self.now }
     {
         match self {
             EditFault::NoTest => Some(1),

@@ -37,9 +37,9 @@ impl Drop for NamedModel {
 
 impl NamedModel {
     ghost use Rattle.std.specs.Prelude.{◌-◌, min, length, take, drop};
-    ghost use Rattle.bench_texts.specs.Held.{model_of, IsRead};
-    ghost use Rattle.bench_texts.specs.Readings.{IsReading};
-    ghost use Rattle.bench_texts.specs.BenchTexts.{item_index, numbered_items, items_of, put_at, with_items};
+    ghost use Rattle.bench_texts.specs.Held.{plain_model, IsModelRead};
+    ghost use Rattle.bench_texts.specs.Readings.{IsModelReading};
+    ghost use Rattle.bench_texts.specs.BenchTexts.{item_index, numbered_items, items_with_numbers, put_at, with_items};
     ghost use Rattle.bench_texts.specs.Limits.{items_outputs};
 
     /// The model of a name and a text, whose items are numbered from `first` on.
@@ -50,11 +50,11 @@ impl NamedModel {
         first: u64,
     ) -> Result<NamedModel, AllocError>
         requires { first + vec_len text.items < 2 ^ 64 }
-        ensures value { IfOk result (λ m. model_of m ≡ record {
+        ensures value { IfOk result (λ m. plain_model m ≡ record {
           name = name.now;
           items = numbered_items first (clauses_of text.items.items);
         }) }
-        ensures read { IfOk result IsRead }
+        ensures read { IfOk result IsModelRead }
     {
         let name = Name::new(alloc, name)?;
         let numbers = numbers_from(alloc, first, text.items.len())?;
@@ -69,9 +69,9 @@ impl NamedModel {
         numbers: Vec<u64>,
     ) -> Result<NamedModel, AllocError>
         requires { vec_len numbers ≡ vec_len text.items }
-        ensures value { IfOk result (λ m. model_of m
-            ≡ record { name = name; items = items_of numbers.items text.items.items }) }
-        ensures read { IfOk result IsRead }
+        ensures value { IfOk result (λ m. plain_model m
+            ≡ record { name = name; items = items_with_numbers numbers.items text.items.items }) }
+        ensures read { IfOk result IsModelRead }
     {
         let reading = read_items(alloc, &text)?;
         Ok(NamedModel {
@@ -84,7 +84,7 @@ impl NamedModel {
 
     /// The bytes of its name.
     pub fn name(&self) -> &[u8]
-        ensures { result.now ≡ (model_of self.now).name }
+        ensures { result.now ≡ (plain_model self.now).name }
     {
         self.name.as_bytes()
     }
@@ -112,21 +112,21 @@ impl NamedModel {
 
     /// How many items it has.
     pub fn len(&self) -> usize
-        ensures { result ≡ length (model_of self.now).items }
+        ensures { result ≡ length (plain_model self.now).items }
     {
         self.text.items.len()
     }
 
     /// The index of the item of that number, or the number of items where there is none.
     pub fn item_index(&self, number: u64) -> usize
-        ensures { result ≡ item_index number (model_of self.now).items }
+        ensures { result ≡ item_index number (plain_model self.now).items }
     {
         index_of(&self.numbers, number)
     }
 
     /// The outputs of its items, or the greatest `usize` where these are more.
     pub fn outputs(&self) -> usize
-        ensures { result ≡ min (items_outputs (model_of self.now).items) (2 ^ 64 - 1) }
+        ensures { result ≡ min (items_outputs (plain_model self.now).items) (2 ^ 64 - 1) }
     {
         count_items(&self.text.items)
     }
@@ -134,11 +134,11 @@ impl NamedModel {
     /// The outputs of its items but the one of an index, or the greatest `usize` where these are
     /// more.
     pub fn outputs_without(&self, index: usize) -> usize
-        requires { index < length (model_of self.now).items }
+        requires { index < length (plain_model self.now).items }
         ensures { result
             ≡ min
-            (items_outputs (take index (model_of self.now).items)
-            + items_outputs (drop (index + 1) (model_of self.now).items))
+            (items_outputs (take index (plain_model self.now).items)
+            + items_outputs (drop (index + 1) (plain_model self.now).items))
             (2 ^ 64 - 1) }
     {
         let items = self.text.items.as_slice();
@@ -155,11 +155,11 @@ impl NamedModel {
         number: u64,
         item: Item,
     ) -> Result<NamedModel, AllocError>
-        requires { index < length (model_of self.now).items }
-        ensures value { IfOk result (λ m. model_of m
+        requires { index < length (plain_model self.now).items }
+        ensures value { IfOk result (λ m. plain_model m
             ≡ with_items (put_at index (record { number = number; clause = clause_of item }))
-            (model_of self.now)) }
-        ensures read { IfOk result IsRead }
+            (plain_model self.now)) }
+        ensures read { IfOk result IsModelRead }
     {
         let text = text_with(alloc, &self.text, index, item)?;
         let mut numbers = Vec::from_slice(alloc, &self.numbers)?;
@@ -175,12 +175,12 @@ impl NamedModel {
         number: u64,
         item: Item,
     ) -> Result<NamedModel, AllocError>
-        requires { index ≤ length (model_of self.now).items }
-        ensures value { IfOk result (λ m. model_of m
+        requires { index ≤ length (plain_model self.now).items }
+        ensures value { IfOk result (λ m. plain_model m
             ≡ with_items
             (λ is. insert is index (record { number = number; clause = clause_of item }))
-            (model_of self.now)) }
-        ensures read { IfOk result IsRead }
+            (plain_model self.now)) }
+        ensures read { IfOk result IsModelRead }
     {
         let text = text_with_one_more(alloc, &self.text, index, item)?;
         let mut numbers = Vec::from_slice(alloc, &self.numbers)?;
@@ -190,10 +190,10 @@ impl NamedModel {
 
     /// This model without one item. Errors: want of memory.
     pub(crate) fn with_removed(&self, alloc: Global, index: usize) -> Result<NamedModel, AllocError>
-        requires { index < length (model_of self.now).items }
-        ensures value { IfOk result (λ m. model_of m
-            ≡ with_items (λ is. remove is index) (model_of self.now)) }
-        ensures read { IfOk result IsRead }
+        requires { index < length (plain_model self.now).items }
+        ensures value { IfOk result (λ m. plain_model m
+            ≡ with_items (λ is. remove is index) (plain_model self.now)) }
+        ensures read { IfOk result IsModelRead }
     {
         let text = text_without(alloc, &self.text, index)?;
         let mut numbers = Vec::from_slice(alloc, &self.numbers)?;

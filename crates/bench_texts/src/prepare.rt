@@ -30,8 +30,8 @@ impl Texts {
     ghost use Rattle.bench_texts.specs.BenchTexts.{test_index};
     ghost use Rattle.text_values.specs.TestValue.{content_of};
     ghost use Rattle.litmus_grammar.specs.Texts.{ReadsTest};
-    ghost use Rattle.bench_texts.specs.Held.{texts_of, AreRead};
-    ghost use Rattle.bench_texts.specs.Changes.{IsReady};
+    ghost use Rattle.bench_texts.specs.Held.{texts_of, AreModelsRead};
+    ghost use Rattle.bench_texts.specs.Changes.{IsChangeReady};
     ghost use Rattle.bench_texts.specs.Edits.{PutTest, DropTest, SetInit, SetThread, SetCond, SetLocations, has_test, thread_count};
     ghost use Rattle.bench_texts.specs.Answers.{Answers};
 
@@ -61,7 +61,7 @@ impl Texts {
 
     pub(crate) fn prepare_drop_test(&self, test: &[u8], spent: bool) -> Result<Change, EditFault>
         ensures answer { Answers (texts_of self.now) spent (DropTest test.now) result }
-        ensures ready { IfOk result (IsReady self.now) }
+        ensures ready { IfOk result (IsChangeReady self.now) }
     {
         let at = self.find_test(test)?;
         let tests = self.tests.len() - 1;
@@ -82,7 +82,7 @@ impl Texts {
         spent: bool,
     ) -> Result<Change, EditFault>
         ensures answer { Answers (texts_of self.now) spent (SetInit test.now text.now) result }
-        ensures ready { IfOk result (IsReady self.now) }
+        ensures ready { IfOk result (IsChangeReady self.now) }
     {
         let at = self.find_test(test)?;
         match read_init(alloc, text, self.threads_at(test, at)) {
@@ -101,7 +101,7 @@ impl Texts {
     ) -> Result<Change, EditFault>
         ensures answer { Answers (texts_of self.now) spent (SetThread test.now thread text.now)
             result }
-        ensures ready { IfOk result (IsReady self.now) }
+        ensures ready { IfOk result (IsChangeReady self.now) }
     {
         let at = self.find_test(test)?;
         if thread >= self.threads_at(test, at) {
@@ -121,7 +121,7 @@ impl Texts {
         spent: bool,
     ) -> Result<Change, EditFault>
         ensures answer { Answers (texts_of self.now) spent (SetCond test.now text.now) result }
-        ensures ready { IfOk result (IsReady self.now) }
+        ensures ready { IfOk result (IsChangeReady self.now) }
     {
         let at = self.find_test(test)?;
         match read_cond(alloc, text, self.threads_at(test, at)) {
@@ -138,7 +138,7 @@ impl Texts {
         spent: bool,
     ) -> Result<Change, EditFault>
         ensures answer { Answers (texts_of self.now) spent (SetLocations test.now text.now) result }
-        ensures ready { IfOk result (IsReady self.now) }
+        ensures ready { IfOk result (IsChangeReady self.now) }
     {
         let at = self.find_test(test)?;
         match read_locations(alloc, text, self.threads_at(test, at)) {
@@ -154,11 +154,11 @@ impl Texts {
         spent: bool,
     ) -> Result<Change, EditFault>
         ensures answer { Answers (texts_of self.old) spent (PutTest text.now) result }
-        ensures ready { IfOk result (IsReady self.new) }
+        ensures ready { IfOk result (IsChangeReady self.new) }
         ensures kept { texts_of self.new ≡ texts_of self.old }
         ensures tests { self.new.tests.items ≡ self.old.tests.items }
         ensures models { self.new.models.items ≡ self.old.models.items }
-        ensures read { AreRead self.old → AreRead self.new }
+        ensures read { AreModelsRead self.old → AreModelsRead self.new }
     {
         let test = match read_test(alloc, text) {
             Ok(test) => test,

@@ -1,10 +1,10 @@
 //! Prepares any edit.
 
 ghost use Rattle.std.specs.Prelude.{◌≡◌, IfOk, MatchResult};
-ghost use Rattle.bench_texts.specs.Held.{texts_of, AreRead};
-ghost use Rattle.bench_texts.specs.Changes.{IsReady};
+ghost use Rattle.bench_texts.specs.Held.{texts_of, AreModelsRead};
+ghost use Rattle.bench_texts.specs.Changes.{IsChangeReady};
 ghost use Rattle.bench_texts.specs.Replacements.{texts_with, IsReplaceable, IsPutBy};
-ghost use Rattle.bench_texts.specs.Edits.{edit_of, is_whole, Applies, Refuses};
+ghost use Rattle.bench_texts.specs.Edits.{edit_of, is_whole, Applies, RefusesEdit};
 ghost use Rattle.bench_texts.specs.Answers.{Answers};
 
 use crate::change::Change;
@@ -28,7 +28,7 @@ impl Texts {
         ensures answer { MatchResult result
             (λ p. Applies (texts_of self.old) spent (edit_of edit.now)
             (texts_with p.replacement (texts_of self.old)))
-            (Refuses (texts_of self.old) spent (edit_of edit.now)) }
+            (RefusesEdit (texts_of self.old) spent (edit_of edit.now)) }
         // `commit` can be called.
         ensures ready { IfOk result (λ p. IsReplaceable self.new p.replacement) }
         // The edit puts or drops the test or the model that it names.
@@ -41,7 +41,7 @@ impl Texts {
         ensures tests { self.new.tests.items ≡ self.old.tests.items }
         ensures models { self.new.models.items ≡ self.old.models.items }
         // Each model holds what its items are resolved to.
-        ensures read { AreRead self.old → AreRead self.new }
+        ensures read { AreModelsRead self.old → AreModelsRead self.new }
     {
         match self.prepare_change(alloc, edit, spent) {
             Ok(change) => match self.replacement_of(alloc, change) {
@@ -63,11 +63,11 @@ impl Texts {
         spent: bool,
     ) -> Result<Change, EditFault>
         ensures answer { Answers (texts_of self.old) spent (edit_of edit.now) result }
-        ensures ready { IfOk result (IsReady self.new) }
+        ensures ready { IfOk result (IsChangeReady self.new) }
         ensures kept { texts_of self.new ≡ texts_of self.old }
         ensures tests { self.new.tests.items ≡ self.old.tests.items }
         ensures models { self.new.models.items ≡ self.old.models.items }
-        ensures read { AreRead self.old → AreRead self.new }
+        ensures read { AreModelsRead self.old → AreModelsRead self.new }
     {
         match edit {
             Edit::PutTest { text } => self.prepare_put_test(alloc, text, spent),

@@ -18,7 +18,7 @@ impl Texts {
     ghost use Rattle.bench_texts.specs.BenchTexts.{model_index};
     ghost use Rattle.bench_texts.specs.Held.{texts_of};
     ghost use Rattle.bench_texts.specs.Limits.{models_outputs};
-    ghost use Rattle.bench_texts.specs.Changes.{IsReady};
+    ghost use Rattle.bench_texts.specs.Changes.{IsChangeReady};
     ghost use Rattle.bench_texts.specs.Edits.{SetItem, InsertItem, RemoveItem, has_item, index_in, index_before};
     ghost use Rattle.bench_texts.specs.Answers.{Answers};
 
@@ -84,7 +84,7 @@ impl Texts {
     ) -> Result<Change, EditFault>
         ensures answer { Answers (texts_of self.now) spent (SetItem model.now number text.now)
             result }
-        ensures ready { IfOk result (IsReady self.now) }
+        ensures ready { IfOk result (IsChangeReady self.now) }
     {
         let at = self.find_model(model)?;
         let index = self.find_item(model, at, number)?;
@@ -119,7 +119,7 @@ impl Texts {
     ) -> Result<Change, EditFault>
         ensures answer { Answers (texts_of self.now) spent (InsertItem model.now before text.now)
             result }
-        ensures ready { IfOk result (IsReady self.now) }
+        ensures ready { IfOk result (IsChangeReady self.now) }
     {
         let at = self.find_model(model)?;
         let index = self.find_before(model, at, before)?;
@@ -151,7 +151,7 @@ impl Texts {
         spent: bool,
     ) -> Result<Change, EditFault>
         ensures answer { Answers (texts_of self.now) spent (RemoveItem model.now item) result }
-        ensures ready { IfOk result (IsReady self.now) }
+        ensures ready { IfOk result (IsChangeReady self.now) }
     {
         let at = self.find_model(model)?;
         let index = self.find_item(model, at, item)?;

@@ -48,9 +48,9 @@ impl Texts {
     ghost use Rattle.bench_texts.specs.declared.fault.EditFault.TheVariants.{NoModel};
     ghost use Rattle.bench_texts.specs.BenchTexts.{model_index, put_at, numbered_items, with_models};
     ghost use Rattle.text_values.specs.ModelValues.{clauses_of};
-    ghost use Rattle.bench_texts.specs.Held.{texts_of, AreRead};
+    ghost use Rattle.bench_texts.specs.Held.{texts_of, AreModelsRead};
     ghost use Rattle.bench_texts.specs.Limits.{models_outputs};
-    ghost use Rattle.bench_texts.specs.Changes.{IsReady, IsPutFor, texts_after};
+    ghost use Rattle.bench_texts.specs.Changes.{IsChangeReady, IsPutFor, changed_texts};
     ghost use Rattle.bench_texts.specs.Edits.{PutModel, DropModel, has_model, limit_fault};
     ghost use Rattle.bench_texts.specs.Answers.{Answers};
     ghost use Rattle.bench_texts.specs.declared.replacement.Replacement.{Replacement};
@@ -89,7 +89,7 @@ impl Texts {
 
     pub(crate) fn prepare_drop_model(&self, model: &[u8], spent: bool) -> Result<Change, EditFault>
         ensures answer { Answers (texts_of self.now) spent (DropModel model.now) result }
-        ensures ready { IfOk result (IsReady self.now) }
+        ensures ready { IfOk result (IsChangeReady self.now) }
     {
         let at = self.find_model(model)?;
         let models = self.models.len() - 1;
@@ -152,7 +152,7 @@ impl Texts {
     ) -> Result<Change, AllocError>
         requires index { at ≤ vec_len self.old.models }
         requires next { self.old.next ≤ 2 ^ 63 }
-        ensures change { IfOk result (λ c. texts_after c (texts_of self.old)
+        ensures change { IfOk result (λ c. changed_texts c (texts_of self.old)
             ≡ with_models
             (put_at at (record {
               name = name.now;
@@ -162,11 +162,11 @@ impl Texts {
             ((texts_of self.old).next + length (clauses_of text.items.items))
             (texts_of self.old)) }
         ensures target { IfOk result (λ c. (r : Replacement) → IsPutFor c r → IsModelPut at r) }
-        ensures ready { IfOk result (IsReady self.new) }
+        ensures ready { IfOk result (IsChangeReady self.new) }
         ensures kept { texts_of self.new ≡ texts_of self.old }
         ensures tests { self.new.tests.items ≡ self.old.tests.items }
         ensures models { self.new.models.items ≡ self.old.models.items }
-        ensures read { AreRead self.old → AreRead self.new }
+        ensures read { AreModelsRead self.old → AreModelsRead self.new }
     {
         let next = self.next + text.items.len() as u64;
         let model = NamedModel::new(alloc, name, text, self.next)?;
@@ -182,11 +182,11 @@ impl Texts {
         spent: bool,
     ) -> Result<Change, EditFault>
         ensures answer { Answers (texts_of self.old) spent (PutModel model.now text.now) result }
-        ensures ready { IfOk result (IsReady self.new) }
+        ensures ready { IfOk result (IsChangeReady self.new) }
         ensures kept { texts_of self.new ≡ texts_of self.old }
         ensures tests { self.new.tests.items ≡ self.old.tests.items }
         ensures models { self.new.models.items ≡ self.old.models.items }
-        ensures read { AreRead self.old → AreRead self.new }
+        ensures read { AreModelsRead self.old → AreModelsRead self.new }
     {
         if !is_model_name(model) {
             return Err(EditFault::NoModel);

@@ -24,12 +24,12 @@ fn put_line(alloc: Global, text: &mut Vec<u8>, number: u64, item: &Item) -> Resu
 }
 
 impl NamedModel {
-    ghost use Rattle.bench_texts.specs.Held.{model_of};
+    ghost use Rattle.bench_texts.specs.Held.{plain_model};
 
     /// The printed items in their order, each on a line of its own: its number, a space, the item.
     /// Errors: want of memory.
     pub fn print_items(&self, alloc: Global) -> Result<Vec<u8>, AllocError>
-        ensures { IfOk result (λ v. v.items ≡ printed_items (model_of self.now).items) }
+        ensures { IfOk result (λ v. v.items ≡ printed_items (plain_model self.now).items) }
     {
         let mut text = Vec::new(alloc);
         for (number, item) in self.numbers().iter().zip(self.text().items.iter()) {

@@ -1,7 +1,7 @@
 //! What the items of a model are resolved to.
 
 ghost use Rattle.std.specs.Prelude.{IfOk};
-ghost use Rattle.bench_texts.specs.Readings.{IsReading};
+ghost use Rattle.bench_texts.specs.Readings.{IsModelReading};
 
 use binding_graph::{ModelFault, ResolveFault, Resolved, resolve, used};
 use std::alloc::{AllocError, Global};
@@ -24,7 +24,7 @@ pub enum Reading {
 
 /// Resolves the items of a model. Errors: want of memory.
 pub fn read_items(alloc: Global, text: &ModelText) -> Result<Reading, AllocError>
-    ensures { IfOk result (IsReading text.now.items.items) }
+    ensures { IfOk result (IsModelReading text.now.items.items) }
 {
     match resolve(alloc, text) {
         Ok(resolved) => {

@@ -2,7 +2,7 @@
 
 ghost use Rattle.std.specs.Prelude.{◌≡◌, IfOk};
 ghost use Rattle.bench_texts.specs.Held.{texts_of};
-ghost use Rattle.bench_texts.specs.Changes.{texts_after, IsReady, IsPutFor};
+ghost use Rattle.bench_texts.specs.Changes.{changed_texts, IsChangeReady, IsPutFor};
 ghost use Rattle.bench_texts.specs.Replacements.{texts_with, IsReplaceable};
 
 use crate::change::Change;
@@ -18,9 +18,9 @@ impl Texts {
         alloc: Global,
         change: Change,
     ) -> Result<Replacement, AllocError>
-        requires { IsReady self.now change }
+        requires { IsChangeReady self.now change }
         ensures texts { IfOk result (λ r. texts_with r (texts_of self.now)
-            ≡ texts_after change (texts_of self.now)) }
+            ≡ changed_texts change (texts_of self.now)) }
         ensures ready { IfOk result (IsReplaceable self.now) }
         ensures target { IfOk result (IsPutFor change) }
     {

@@ -3,7 +3,7 @@
 ghost use Rattle.std.specs.Prelude.{◌≡◌, IfOk};
 ghost use Rattle.bench_texts.specs.declared.change.Change.TheVariants as changes;
 ghost use Rattle.bench_texts.specs.Held.{texts_of};
-ghost use Rattle.bench_texts.specs.Changes.{texts_after, IsReady};
+ghost use Rattle.bench_texts.specs.Changes.{changed_texts, IsChangeReady};
 ghost use Rattle.bench_texts.specs.Replacements.{texts_with, IsReplaceable, IsModelPut};
 
 use crate::replacement::Replacement;
@@ -20,9 +20,9 @@ impl Texts {
         number: u64,
         item: Item,
     ) -> Result<Replacement, AllocError>
-        requires { IsReady self.now (changes.SetItem at index number item) }
+        requires { IsChangeReady self.now (changes.SetItem at index number item) }
         ensures texts { IfOk result (λ r. texts_with r (texts_of self.now)
-            ≡ texts_after (changes.SetItem at index number item) (texts_of self.now)) }
+            ≡ changed_texts (changes.SetItem at index number item) (texts_of self.now)) }
         ensures ready { IfOk result (IsReplaceable self.now) }
         ensures target { IfOk result (IsModelPut at) }
     {
@@ -38,9 +38,9 @@ impl Texts {
         index: usize,
         item: Item,
     ) -> Result<Replacement, AllocError>
-        requires { IsReady self.now (changes.InsertItem at index item) }
+        requires { IsChangeReady self.now (changes.InsertItem at index item) }
         ensures texts { IfOk result (λ r. texts_with r (texts_of self.now)
-            ≡ texts_after (changes.InsertItem at index item) (texts_of self.now)) }
+            ≡ changed_texts (changes.InsertItem at index item) (texts_of self.now)) }
         ensures ready { IfOk result (IsReplaceable self.now) }
         ensures target { IfOk result (IsModelPut at) }
     {
@@ -55,9 +55,9 @@ impl Texts {
         at: usize,
         index: usize,
     ) -> Result<Replacement, AllocError>
-        requires { IsReady self.now (changes.RemoveItem at index) }
+        requires { IsChangeReady self.now (changes.RemoveItem at index) }
         ensures texts { IfOk result (λ r. texts_with r (texts_of self.now)
-            ≡ texts_after (changes.RemoveItem at index) (texts_of self.now)) }
+            ≡ changed_texts (changes.RemoveItem at index) (texts_of self.now)) }
         ensures ready { IfOk result (IsReplaceable self.now) }
         ensures target { IfOk result (IsModelPut at) }
     {

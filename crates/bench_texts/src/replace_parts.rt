@@ -3,7 +3,7 @@
 ghost use Rattle.std.specs.Prelude.{◌≡◌, IfOk};
 ghost use Rattle.bench_texts.specs.declared.change.Change.TheVariants as changes;
 ghost use Rattle.bench_texts.specs.Held.{texts_of};
-ghost use Rattle.bench_texts.specs.Changes.{texts_after, IsReady};
+ghost use Rattle.bench_texts.specs.Changes.{changed_texts, IsChangeReady};
 ghost use Rattle.bench_texts.specs.Replacements.{texts_with, IsReplaceable, IsTestPut};
 
 use crate::changed_tests::{
@@ -21,9 +21,9 @@ impl Texts {
         at: usize,
         init: Vec<InitEntry>,
     ) -> Result<Replacement, AllocError>
-        requires { IsReady self.now (changes.SetInit at init) }
+        requires { IsChangeReady self.now (changes.SetInit at init) }
         ensures texts { IfOk result (λ r. texts_with r (texts_of self.now)
-            ≡ texts_after (changes.SetInit at init) (texts_of self.now)) }
+            ≡ changed_texts (changes.SetInit at init) (texts_of self.now)) }
         ensures ready { IfOk result (IsReplaceable self.now) }
         ensures target { IfOk result (IsTestPut at) }
     {
@@ -38,9 +38,9 @@ impl Texts {
         thread: usize,
         other: Thread,
     ) -> Result<Replacement, AllocError>
-        requires { IsReady self.now (changes.SetThread at thread other) }
+        requires { IsChangeReady self.now (changes.SetThread at thread other) }
         ensures texts { IfOk result (λ r. texts_with r (texts_of self.now)
-            ≡ texts_after (changes.SetThread at thread other) (texts_of self.now)) }
+            ≡ changed_texts (changes.SetThread at thread other) (texts_of self.now)) }
         ensures ready { IfOk result (IsReplaceable self.now) }
         ensures target { IfOk result (IsTestPut at) }
     {
@@ -54,9 +54,9 @@ impl Texts {
         at: usize,
         condition: Condition,
     ) -> Result<Replacement, AllocError>
-        requires { IsReady self.now (changes.SetCond at condition) }
+        requires { IsChangeReady self.now (changes.SetCond at condition) }
         ensures texts { IfOk result (λ r. texts_with r (texts_of self.now)
-            ≡ texts_after (changes.SetCond at condition) (texts_of self.now)) }
+            ≡ changed_texts (changes.SetCond at condition) (texts_of self.now)) }
         ensures ready { IfOk result (IsReplaceable self.now) }
         ensures target { IfOk result (IsTestPut at) }
     {
@@ -70,9 +70,9 @@ impl Texts {
         at: usize,
         observed: Vec<Place>,
     ) -> Result<Replacement, AllocError>
-        requires { IsReady self.now (changes.SetObserved at observed) }
+        requires { IsChangeReady self.now (changes.SetObserved at observed) }
         ensures texts { IfOk result (λ r. texts_with r (texts_of self.now)
-            ≡ texts_after (changes.SetObserved at observed) (texts_of self.now)) }
+            ≡ changed_texts (changes.SetObserved at observed) (texts_of self.now)) }
         ensures ready { IfOk result (IsReplaceable self.now) }
         ensures target { IfOk result (IsTestPut at) }
     {

@@ -26,12 +26,12 @@ impl Texts {
     ghost use Rattle.std.specs.Prelude.{◌≡◌, ◌≤◌, [], map, vec_len};
     ghost use Rattle.text_values.specs.TestValue.{content_of};
     ghost use Rattle.bench_texts.specs.BenchTexts.{test_index, model_index};
-    ghost use Rattle.bench_texts.specs.Held.{model_of, texts_of, AreRead};
+    ghost use Rattle.bench_texts.specs.Held.{plain_model, texts_of, AreModelsRead};
 
     /// No tests and no models: the first item is given number 1.
     pub fn new(alloc: Global) -> Texts
         ensures texts { texts_of result ≡ record { tests = []; models = []; next = 1 } }
-        ensures read { AreRead result }
+        ensures read { AreModelsRead result }
     {
         Texts {
             tests: Vec::new(alloc),
@@ -50,7 +50,7 @@ impl Texts {
 
     /// The models, in their order.
     pub fn models(&self) -> &[NamedModel]
-        ensures texts { map model_of result.now ≡ (texts_of self.now).models }
+        ensures texts { map plain_model result.now ≡ (texts_of self.now).models }
         ensures models { result.now ≡ self.now.models.items }
     {
         &self.models

@@ -23,7 +23,7 @@ use Rattle.verdict.specs.Kept.{Flag, of_raised}
 use Rattle.bench_items.specs.Items.{RoleContent, role_content}
 use Rattle.bench_items.specs.Naming.{SeenName, item_outputs}
 use Rattle.bench_values.specs.Givens.{ForItem}
-use Rattle.bench_values.specs.Makes.{MakesItem, Makes, HasColumns, HasAnswers, checks_among, flags_among, IsVerdict}
+use Rattle.bench_values.specs.Makes.{ItemMakes, Makes, HasGroupColumns, HasCheckAnswers, checks_among, flags_among, IsVerdictOutcome}
 use Rattle.bench_values.specs.Spaces.{SpaceContent, space_content, no_executions}
 use Rattle.bench_values.specs.Values.{NodeContent, first_space, space_of, columns_of, answers_of}
 use Rattle.bench_values.specs.Views.{verdict_parts}
@@ -48,7 +48,7 @@ pub columns_over : (r : Role) (values : List NodeContent) (s : Space)
     (inputs found : List (Bor Column)) (x : Result (Vec Column Global) AllocError)
     → space_content s ≡ space_of values → inputs ≡ found
     → map (λ c. c.now) found ≡ columns_of values → IfOk x (λ v. ColumnsOf r inputs s v.items)
-    → IfOk x (λ v. HasColumns (role_content r) (space_of values) (columns_of values) v.items)
+    → IfOk x (λ v. HasGroupColumns (role_content r) (space_of values) (columns_of values) v.items)
 columns_over r values s inputs found (Ok v) over same are made = record {
   read = r;
   reading = refl;
@@ -64,7 +64,7 @@ pub answers_over : (r : Role) (values : List NodeContent) (s : Space)
     (inputs found : List (Bor Column)) (x : Result (Vec Bool Global) AllocError)
     → space_content s ≡ space_of values → inputs ≡ found
     → map (λ c. c.now) found ≡ columns_of values → IfOk x (λ v. AnswersOf r inputs s v.items)
-    → IfOk x (λ v. HasAnswers (role_content r) (space_of values) (columns_of values) v.items)
+    → IfOk x (λ v. HasCheckAnswers (role_content r) (space_of values) (columns_of values) v.items)
 answers_over r values s inputs found (Ok v) over same are made = record {
   read = r;
   reading = refl;
@@ -83,9 +83,9 @@ pub outcome_over : (parts : VerdictParts) (values : List NodeContent) (s : Space
     → flags ≡ flags_among parts.flags.items (answers_of values)
     → IfOk x (λ o. IsOutcomeOn s.locations.items (shown_in s) parts.condition.quantifier
     (formula_of parts.condition.proposition) observed checks flags o)
-    → IfOk x (λ o. IsVerdict (verdict_parts parts) (space_of values) (answers_of values) o)
+    → IfOk x (λ o. IsVerdictOutcome (verdict_parts parts) (space_of values) (answers_of values) o)
 outcome_over parts values s observed checks flags (Ok o) over shows are raised made =
-    subst (λ (t : SpaceContent). IsVerdict (verdict_parts parts) t (answers_of values) o) over
+    subst (λ (t : SpaceContent). IsVerdictOutcome (verdict_parts parts) t (answers_of values) o) over
     (rw (← shows, ← are, ← raised) made)
 outcome_over parts values s observed checks flags (Err e) over shows are raised made = tt
 
@@ -93,10 +93,10 @@ outcome_over parts values s observed checks flags (Err e) over shows are raised 
 
 pub item_over : (r : Role) (role : RoleContent) (history : List SeenName)
     (values : List NodeContent) (x : Result (Vec NodeContent Global) AllocError)
-    → role_content r ≡ role → IfOk x (λ v. MakesItem (role_content r) values v.items)
+    → role_content r ≡ role → IfOk x (λ v. ItemMakes (role_content r) values v.items)
     → IfOk x (λ v. Makes (ForItem role (item_outputs role history)) values v.items)
 item_over r role history values (Ok v) is made =
-    let here : MakesItem role values v.items = subst (λ (q : RoleContent). MakesItem q values v.items) is made in
+    let here : ItemMakes role values v.items = subst (λ (q : RoleContent). ItemMakes q values v.items) is made in
     (here, item_many role history (space_of values) (columns_of values) v.items here)
 item_over r role history values (Err e) is made = tt
 

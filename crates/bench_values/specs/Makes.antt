@@ -33,7 +33,7 @@ IsSpaceValue parts (OfOutcome outcome) = ⊥
 
 -- the columns of the names of an item that does this over a space, from the columns of the names
 -- that it uses
-pub record HasColumns (role : RoleContent) (space : SpaceContent) (columns : List Column)
+pub record HasGroupColumns (role : RoleContent) (space : SpaceContent) (columns : List Column)
     (cs : List Column) : Type 0 where
   pub read : Role
   pub reading : role_content read ≡ role
@@ -44,7 +44,7 @@ pub record HasColumns (role : RoleContent) (space : SpaceContent) (columns : Lis
   pub values : ColumnsOf read inputs over cs
 
 -- the answers of a check or a flag, likewise
-pub record HasAnswers (role : RoleContent) (space : SpaceContent) (columns : List Column)
+pub record HasCheckAnswers (role : RoleContent) (space : SpaceContent) (columns : List Column)
     (answers : List Bool) : Type 0 where
   pub read : Role
   pub reading : role_content read ≡ role
@@ -55,14 +55,14 @@ pub record HasAnswers (role : RoleContent) (space : SpaceContent) (columns : Lis
   pub values : AnswersOf read inputs over answers
 
 -- a group gives the column of each of its names, a check or a flag its answers
-abbrev pub IsMadeBy : RoleContent → SpaceContent → List Column → List NodeContent → Type 0
-IsMadeBy (Group recursive bodies) space columns outputs =
+abbrev pub RoleMakes : RoleContent → SpaceContent → List Column → List NodeContent → Type 0
+RoleMakes (Group recursive bodies) space columns outputs =
     (cs : List Column) × (outputs ≡ map OfColumn cs)
-    × HasColumns (Group recursive bodies) space columns cs
-IsMadeBy (Check negated word code flag) space columns outputs =
+    × HasGroupColumns (Group recursive bodies) space columns cs
+RoleMakes (Check negated word code flag) space columns outputs =
     (answers : List Bool) × (outputs ≡ OfCheck answers ∷ [])
-    × HasAnswers (Check negated word code flag) space columns answers
-IsMadeBy Silent space columns outputs = outputs ≡ []
+    × HasCheckAnswers (Check negated word code flag) space columns answers
+RoleMakes Silent space columns outputs = outputs ≡ []
 
 -- an outcome that says why there is no evaluation
 abbrev pub refused : Quantifier → Formula → Refusal → Outcome
@@ -85,8 +85,9 @@ flags_among (Some name ∷ ns) (a ∷ more) = (name, a) ∷ flags_among ns more
 
 -- the outcome of a condition over a space, from the answers of checks and flags in the order of the
 -- text
-abbrev pub IsVerdict : VerdictPartsContent → SpaceContent → List (List Bool) → Outcome → Type 0
-IsVerdict parts space answers o =
+abbrev pub IsVerdictOutcome : VerdictPartsContent → SpaceContent → List (List Bool) → Outcome
+    → Type 0
+IsVerdictOutcome parts space answers o =
     IsOutcomeOn space.locations space.executions parts.kind parts.proposition parts.observed
     (checks_among parts.flags answers) (flags_among parts.flags answers) o
 
@@ -95,18 +96,18 @@ abbrev pub IsVerdictOver : Option EvalRefusal → VerdictPartsContent → List N
     → Type 0
 IsVerdictOver (Some refusal) parts values o =
     o ≡ refused parts.kind parts.proposition (refusals.Space refusal)
-IsVerdictOver None parts values o = IsVerdict parts (space_of values) (answers_of values) o
+IsVerdictOver None parts values o = IsVerdictOutcome parts (space_of values) (answers_of values) o
 
 -- what an item gives
-abbrev pub MakesItem : RoleContent → List NodeContent → List NodeContent → Type 0
-MakesItem role values outputs = IsMadeBy role (space_of values) (columns_of values) outputs
+abbrev pub ItemMakes : RoleContent → List NodeContent → List NodeContent → Type 0
+ItemMakes role values outputs = RoleMakes role (space_of values) (columns_of values) outputs
 
 -- what a node gives: an item as many values as it has numbers
 abbrev pub Makes : GivenContent → List NodeContent → List NodeContent → Type 0
 Makes (ForSpace parts) values outputs =
     (v : NodeContent) × (outputs ≡ v ∷ []) × IsSpaceValue parts v
 Makes (ForItem role numbers) values outputs =
-    MakesItem role values outputs × (length outputs ≡ length numbers)
+    ItemMakes role values outputs × (length outputs ≡ length numbers)
 Makes (ForVerdict parts) values outputs =
     (o : Outcome) × (outputs ≡ OfOutcome o ∷ []) × IsVerdictOver (refusal_of values) parts values o
 Makes (ForFault parts) values outputs =

@@ -7,7 +7,7 @@ ghost use Rattle.verdict.specs.declared.answer.Outcome.{Outcome};
 ghost use Rattle.verdict.specs.declared.answer.Refusal.TheVariants as refusals;
 ghost use Rattle.verdict.specs.Kept.{of_raised};
 ghost use Rattle.bench_items.specs.Items.{role_content};
-ghost use Rattle.bench_values.specs.Makes.{IsSpaceValue, IsMadeBy, HasColumns, HasAnswers, checks_among, flags_among, IsVerdict, IsVerdictOver, refused, Makes};
+ghost use Rattle.bench_values.specs.Makes.{IsSpaceValue, RoleMakes, HasGroupColumns, HasCheckAnswers, checks_among, flags_among, IsVerdictOutcome, IsVerdictOver, refused, Makes};
 ghost use Rattle.bench_values.specs.Parts.{SpacePartsContent, HasParts};
 ghost use Rattle.bench_values.specs.Spaces.{space_content, no_executions};
 ghost use Rattle.bench_values.specs.Values.{OfColumn, first_space, space_of, refusal_of, columns_of, answers_of};
@@ -193,7 +193,7 @@ fn group_columns<'v>(
 ) -> Result<Vec<Column>, AllocError>
     ensures { let given = map (λ v. v.now) values.now in
         space_content space.now ≡ space_of given
-        → IfOk result (λ v. HasColumns (role_content item.now.role) (space_of given)
+        → IfOk result (λ v. HasGroupColumns (role_content item.now.role) (space_of given)
         (columns_of given) v.items) }
 {
     let inputs = columns_of(alloc, values)?;
@@ -208,7 +208,7 @@ fn check_answers<'v>(
 ) -> Result<Vec<bool>, AllocError>
     ensures { let given = map (λ v. v.now) values.now in
         space_content space.now ≡ space_of given
-        → IfOk result (λ v. HasAnswers (role_content item.now.role) (space_of given)
+        → IfOk result (λ v. HasCheckAnswers (role_content item.now.role) (space_of given)
         (columns_of given) v.items) }
 {
     let inputs = columns_of(alloc, values)?;
@@ -224,7 +224,7 @@ fn item_values<'v>(
     ensures { let given = map (λ v. v.now) values.now in
         space_content space.now ≡ space_of given
         → IfOk result (λ v.
-        IsMadeBy (role_content item.now.role) (space_of given) (columns_of given) v.items) }
+        RoleMakes (role_content item.now.role) (space_of given) (columns_of given) v.items) }
 {
     match &item.role {
         Role::Group { .. } => {
@@ -248,7 +248,7 @@ fn evaluated<'v>(
     ensures { let given = map (λ v. v.now) values.now in
         space_content space.now ≡ space_of given
         → IfOk result (λ o.
-        IsVerdict (verdict_parts parts.now) (space_of given) (answers_of given) o) }
+        IsVerdictOutcome (verdict_parts parts.now) (space_of given) (answers_of given) o) }
 {
     let answers = answers_of(alloc, values)?;
     let checks = checks_among(alloc, &parts.flags, &answers)?;

@@ -12,8 +12,8 @@ abbrev pub no_jobs : Tally
 no_jobs = record { stored = 0; same = 0; stale = 0; unknown = 0; refused = 0 }
 
 -- the counts with one more return, by what it came to
-abbrev pub noted : Finish → Tally → Tally
-noted Unknown t =
+abbrev pub with_return : Finish → Tally → Tally
+with_return Unknown t =
     record {
       stored = t.stored;
       same = t.same;
@@ -21,7 +21,7 @@ noted Unknown t =
       unknown = sum_of t.unknown 1;
       refused = t.refused;
     }
-noted (Stale stamp) t =
+with_return (Stale stamp) t =
     record {
       stored = t.stored;
       same = t.same;
@@ -29,7 +29,7 @@ noted (Stale stamp) t =
       unknown = t.unknown;
       refused = t.refused;
     }
-noted Same t =
+with_return Same t =
     record {
       stored = t.stored;
       same = sum_of t.same 1;
@@ -37,7 +37,7 @@ noted Same t =
       unknown = t.unknown;
       refused = t.refused;
     }
-noted (Stored names) t =
+with_return (Stored names) t =
     record {
       stored = sum_of t.stored 1;
       same = t.same;
@@ -47,8 +47,8 @@ noted (Stored names) t =
     }
 
 -- the counts of both
-abbrev pub added : Tally → Tally → Tally
-added a b = record {
+abbrev pub tally_sum : Tally → Tally → Tally
+tally_sum a b = record {
   stored = sum_of a.stored b.stored;
   same = sum_of a.same b.same;
   stale = sum_of a.stale b.stale;

@@ -1,7 +1,7 @@
 //! What became of the jobs of workers.
 
 ghost use Rattle.std.specs.Prelude.{◌≡◌, ◌+◌, ◌-◌, ◌^◌, min};
-ghost use Rattle.bench_workers.specs.Tallies.{noted, added, no_jobs};
+ghost use Rattle.bench_workers.specs.Tallies.{with_return, tally_sum, no_jobs};
 
 use memo_core::claims::Finish;
 
@@ -36,7 +36,7 @@ impl Tally {
 
     /// Counts a return by what it came to.
     pub fn note(&mut self, finish: &Finish)
-        ensures { self.new ≡ noted finish.now self.old }
+        ensures { self.new ≡ with_return finish.now self.old }
     {
         match finish {
             Finish::Stored(_) => self.stored = self.stored.saturating_add(1),
@@ -61,7 +61,7 @@ impl Tally {
 
     /// Adds the counts of another.
     pub fn add(&mut self, other: &Tally)
-        ensures { self.new ≡ added self.old other.now }
+        ensures { self.new ≡ tally_sum self.old other.now }
     {
         self.stored = self.stored.saturating_add(other.stored);
         self.same = self.same.saturating_add(other.same);

@@ -8,7 +8,7 @@ use Rattle.board.specs.declared.operation.BoardOp.{BoardOp}
 use Rattle.board.specs.declared.operation.BoardOp.TheVariants.{Edit, Settle}
 use Rattle.board.specs.Contents.{BoardContent}
 use Rattle.board.specs.Operations.{no_board, after_operation}
-use Rattle.board.specs.Legal.{Held, nothing_held, held_after, number_after, LegalFrom}
+use Rattle.board.specs.Legal.{TestsAndModels, no_tests_or_models, tests_and_models_after, number_after, LegalFrom}
 use Rattle.board.specs.Edits.{edits_in}
 
 -- ---- how many
@@ -38,23 +38,23 @@ counted_from (Settle at outcome ∷ ops) b le =
 
 -- ---- numbers
 
-pub numbered_from : (ops : List BoardOp) (h : Held) (last : ℕ) → LegalFrom h last ops
+pub numbered_from : (ops : List BoardOp) (h : TestsAndModels) (last : ℕ) → LegalFrom h last ops
     → edits_in ops + last ≤ fold number_after last ops
 numbered_from [] h last l = omega arith
 numbered_from (Edit edit ∷ ops) h last l =
-    let later = numbered_from ops (held_after h (Edit edit)) edit.number l.1 in
+    let later = numbered_from ops (tests_and_models_after h (Edit edit)) edit.number l.1 in
     let first : last < edit.number = l.0.0 in
     omega (arith, later, first)
 numbered_from (Settle at outcome ∷ ops) h last l = numbered_from ops h last l.1
 
 -- each edit has a number above the last one before
-above : (ops : List BoardOp) (h : Held) (last : ℕ) (i : ℕ) (e : BoardEdit) → LegalFrom h last ops
+above : (ops : List BoardOp) (h : TestsAndModels) (last : ℕ) (i : ℕ) (e : BoardEdit) → LegalFrom h last ops
     → slice_get ops i ≡ Some (Edit e) → last < e.number
 above [] h last i e l there = absurd (none-some (Edit e) there)
 above (Edit edit ∷ ops) h last zero e l there =
     let same : edit ≡ e = (cc) in subst (λ (x : BoardEdit). last < x.number) same l.0.0
 above (Edit edit ∷ ops) h last (suc i) e l there =
-    let later = above ops (held_after h (Edit edit)) edit.number i e l.1 there in
+    let later = above ops (tests_and_models_after h (Edit edit)) edit.number i e l.1 there in
     let first : last < edit.number = l.0.0 in
     omega (arith, later, first)
 above (Settle at outcome ∷ ops) h last zero e l there = cc
@@ -64,23 +64,23 @@ first_edit : (a e : BoardEdit) (n : ℕ) → Some (Edit a) ≡ Some (Edit e) →
 first_edit a e n there same =
     let is : a ≡ e = (cc) in subst (λ (x : BoardEdit). n ≡ x.number) is same
 
-pub apart_from : (ops : List BoardOp) (h : Held) (last : ℕ) → LegalFrom h last ops
+pub apart_from : (ops : List BoardOp) (h : TestsAndModels) (last : ℕ) → LegalFrom h last ops
     → (i k : ℕ) (e f : BoardEdit) → slice_get ops i ≡ Some (Edit e)
     → slice_get ops k ≡ Some (Edit f) → e.number ≡ f.number → i ≡ k
 apart_from [] h last l i k e f a b same = absurd (none-some (Edit e) a)
 apart_from (op ∷ ops) h last l zero zero e f a b same = refl
 apart_from (Edit edit ∷ ops) h last l zero (suc k) e f a b same =
-    let later = above ops (held_after h (Edit edit)) edit.number k f l.1 b in
+    let later = above ops (tests_and_models_after h (Edit edit)) edit.number k f l.1 b in
     let is = first_edit edit e edit.number a refl in
     absurd (omega (arith, later, is, same))
 apart_from (Settle at outcome ∷ ops) h last l zero (suc k) e f a b same = cc
 apart_from (Edit edit ∷ ops) h last l (suc i) zero e f a b same =
-    let later = above ops (held_after h (Edit edit)) edit.number i e l.1 a in
+    let later = above ops (tests_and_models_after h (Edit edit)) edit.number i e l.1 a in
     let is = first_edit edit f edit.number b refl in
     absurd (omega (arith, later, is, same))
 apart_from (Settle at outcome ∷ ops) h last l (suc i) zero e f a b same = cc
 apart_from (op ∷ ops) h last l (suc i) (suc k) e f a b same =
-    ap suc (apart_from ops (held_after h op) (number_after last op) l.1 i k e f a b same)
+    ap suc (apart_from ops (tests_and_models_after h op) (number_after last op) l.1 i k e f a b same)
 
 -- ---- from nothing
 
@@ -92,8 +92,8 @@ pub counted : (ops : List BoardOp)
 counted ops =
     counted_from ops no_board (omega arith) ∙ ap (λ (n : ℕ). min n most) (plus_none (edits_in ops))
 
-pub numbered : (ops : List BoardOp) → LegalFrom nothing_held 0 ops
+pub numbered : (ops : List BoardOp) → LegalFrom no_tests_or_models 0 ops
     → edits_in ops ≤ fold number_after 0 ops
 numbered ops legal =
     subst (λ (n : ℕ). n ≤ fold number_after 0 ops) (plus_none (edits_in ops))
-    (numbered_from ops nothing_held 0 legal)
+    (numbered_from ops no_tests_or_models 0 legal)

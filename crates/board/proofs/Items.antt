@@ -13,17 +13,17 @@ use Rattle.board.specs.declared.operation.NameChange.{NameChange}
 use Rattle.board.specs.declared.operation.NameChange.TheVariants.{PutTest, DropTest, PutModel, DropModel}
 use Rattle.board.specs.Contents.{ColumnContent, BoardContent}
 use Rattle.board.specs.Operations.{columns_after, after_operation}
-use Rattle.board.specs.Legal.{Held, held_with, held_after, number_after, Announces, MayFollow, LegalFrom}
+use Rattle.board.specs.Legal.{TestsAndModels, tests_and_models_with, tests_and_models_after, number_after, Announces, MayFollow, LegalFrom}
 use Rattle.board.specs.Right.{printed_of}
 use Rattle.board.proofs.Names.{as_many, put_names}
 
-abbrev pub HaveItems : List ColumnContent → Held → Type 0
+abbrev pub HaveItems : List ColumnContent → TestsAndModels → Type 0
 HaveItems columns h = map (λ c. c.items) columns ≡ map printed_of h.models
 
-module _ (h : Held) (columns : List ColumnContent) (cells : List CellIndex)
+module _ (h : TestsAndModels) (columns : List ColumnContent) (cells : List CellIndex)
     (same : HaveItems columns h) where
   edit_items : (whole : Bool) (change : NameChange) (r : Replacement)
-      → Announces h whole change cells r → HaveItems (columns_after change columns) (held_with r h)
+      → Announces h whole change cells r → HaveItems (columns_after change columns) (tests_and_models_with r h)
   edit_items whole (PutTest at name) (made.PutTest index test) a = same
   edit_items whole (PutTest at name) (made.DropTest index) a = absurd a
   edit_items whole (PutTest at name) (made.PutModel index model next) a = absurd a
@@ -51,17 +51,17 @@ module _ (h : Held) (columns : List ColumnContent) (cells : List CellIndex)
       ∙ (sym (map-remove printed_of h.models at)
       ∙ ap (λ (n : ℕ). map printed_of (remove h.models n)) a.0))
 
-step_items : (b : BoardContent) (h : Held) (last : ℕ) (op : BoardOp) → MayFollow h last op
-    → HaveItems b.columns h → HaveItems (after_operation b op).columns (held_after h op)
+step_items : (b : BoardContent) (h : TestsAndModels) (last : ℕ) (op : BoardOp) → MayFollow h last op
+    → HaveItems b.columns h → HaveItems (after_operation b op).columns (tests_and_models_after h op)
 step_items b h last (Edit edit) may same =
     edit_items h b.columns edit.reached.items same edit.prepared.value.whole edit.change
     edit.prepared.value.replacement may.1
 step_items b h last (Settle at outcome) may same = same
 
-pub items_from : (ops : List BoardOp) (b : BoardContent) (h : Held) (last : ℕ)
+pub items_from : (ops : List BoardOp) (b : BoardContent) (h : TestsAndModels) (last : ℕ)
     → LegalFrom h last ops → HaveItems b.columns h
-    → HaveItems (fold after_operation b ops).columns (fold held_after h ops)
+    → HaveItems (fold after_operation b ops).columns (fold tests_and_models_after h ops)
 items_from [] b h last l same = same
 items_from (op ∷ ops) b h last l same =
-    items_from ops (after_operation b op) (held_after h op) (number_after last op) l.1
+    items_from ops (after_operation b op) (tests_and_models_after h op) (number_after last op) l.1
     (step_items b h last op l.0 same)

@@ -9,7 +9,7 @@ use Rattle.bench_texts.specs.BenchTexts.{changed_at, put_at}
 use Rattle.bench_texts.proofs.Lists.{length-changed_at}
 use Rattle.board.specs.declared.operation.CellIndex.{CellIndex}
 use Rattle.board.specs.Contents.{RowContent, ColumnContent, cells_of, cell_at}
-use Rattle.board.specs.Operations.{with_cell, with_name, put_cell, open_cell, open_row, wider_row, narrower_row}
+use Rattle.board.specs.Operations.{with_cell, renamed_row, put_cell, open_cell, open_row, wider_row, narrower_row}
 
 -- ---- lists
 
@@ -202,7 +202,7 @@ new_cell name columns (r ∷ rs) zero j o h = h
 new_cell name columns (r ∷ rs) (suc i) j o h = new_cell name columns rs i j o h
 
 named_cell : (name : List ℕ) (at : ℕ) (rows : List RowContent) (i j : ℕ)
-    → cell_at (changed_at at (with_name name) rows) i j ≡ cell_at rows i j
+    → cell_at (changed_at at (renamed_row name) rows) i j ≡ cell_at rows i j
 named_cell name at [] i j = refl
 named_cell name zero (r ∷ rs) zero j = refl
 named_cell name zero (r ∷ rs) (suc i) j = refl
@@ -212,7 +212,7 @@ named_cell name (suc at) (r ∷ rs) (suc i) j = named_cell name at rs i j
 pub longer_cell : (b : Bool) (name : List ℕ) (at : ℕ) (columns : List ColumnContent)
     (rows : List RowContent) (i j : ℕ) (o : Outcome)
     → cell_at
-    (if b then changed_at at (with_name name) rows else rows ++ open_row name columns ∷ [])
+    (if b then changed_at at (renamed_row name) rows else rows ++ open_row name columns ∷ [])
     i j ≡ Some (Some o) → cell_at rows i j ≡ Some (Some o)
 longer_cell true name at columns rows i j o h = sym (named_cell name at rows i j) ∙ h
 longer_cell false name at columns rows i j o h = new_cell name columns rows i j o h

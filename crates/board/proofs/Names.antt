@@ -13,8 +13,8 @@ use Rattle.board.specs.declared.operation.CellIndex.{CellIndex}
 use Rattle.board.specs.declared.operation.NameChange.{NameChange}
 use Rattle.board.specs.declared.operation.NameChange.TheVariants.{PutTest, DropTest, PutModel, DropModel}
 use Rattle.board.specs.Contents.{RowContent, ColumnContent, BoardContent}
-use Rattle.board.specs.Operations.{open_cell, with_cell, with_name, open_row, wider_row, narrower_row, rows_after, columns_after, after_operation}
-use Rattle.board.specs.Legal.{Held, held_with, held_after, number_after, Announces, MayFollow, LegalFrom}
+use Rattle.board.specs.Operations.{open_cell, with_cell, renamed_row, open_row, wider_row, narrower_row, rows_after, columns_after, after_operation}
+use Rattle.board.specs.Legal.{TestsAndModels, tests_and_models_with, tests_and_models_after, number_after, Announces, MayFollow, LegalFrom}
 use Rattle.board.proofs.Changed.{map-kept, map-changed-put, map-placed}
 
 abbrev row_names : List RowContent → List (List ℕ)
@@ -23,7 +23,7 @@ row_names rows = map (λ r. r.name) rows
 abbrev column_names : List ColumnContent → List (List ℕ)
 column_names columns = map (λ c. c.name) columns
 
-pub record IsNamed (rows : List RowContent) (columns : List ColumnContent) (h : Held) : Type 0 where
+pub record IsNamed (rows : List RowContent) (columns : List ColumnContent) (h : TestsAndModels) : Type 0 where
   pub tests : row_names rows ≡ map (λ t. t.name) h.tests
   pub models : column_names columns ≡ map (λ m. m.name) h.models
 
@@ -73,18 +73,18 @@ as_many f g (x ∷ xs) [] e = cc
 as_many f g (x ∷ xs) (y ∷ ys) e =
     ap suc (as_many f g xs ys (let same : map f xs ≡ map g ys = (cc) in same))
 
-module _ (h : Held) (rows : List RowContent) (columns : List ColumnContent)
+module _ (h : TestsAndModels) (rows : List RowContent) (columns : List ColumnContent)
     (named : IsNamed rows columns h) (cells : List CellIndex) where
   edit_named : (whole : Bool) (change : NameChange) (r : Replacement)
       → Announces h whole change cells r
       → IsNamed (fold open_cell (rows_after change columns rows) cells)
-      (columns_after change columns) (held_with r h)
+      (columns_after change columns) (tests_and_models_with r h)
   edit_named whole (PutTest at name) (made.PutTest index test) a =
       let le : at ≤ length rows = omega (arith, a.1, as_many (λ r. r.name) (λ t. t.name) rows h.tests named.tests) in
       let new = open_row (arc_value name) columns in
       record {
         tests = opened_names cells (rows_after (PutTest at name) columns rows)
-            ∙ (put_names (λ r. r.name) (with_name (arc_value name)) new (λ t. t.name) test
+            ∙ (put_names (λ r. r.name) (renamed_row (arc_value name)) new (λ t. t.name) test
             (λ x. refl) rows h.tests at le a.2 named.tests
             ∙ ap (λ (n : ℕ). map (λ t. t.name) (put_at n test h.tests)) a.0);
         models = named.models;
@@ -130,9 +130,9 @@ module _ (h : Held) (rows : List RowContent) (columns : List ColumnContent)
         ∙ ap (λ (n : ℕ). map (λ m. m.name) (remove h.models n)) a.0));
   }
 
-step_named : (b : BoardContent) (h : Held) (last : ℕ) (op : BoardOp) → MayFollow h last op
+step_named : (b : BoardContent) (h : TestsAndModels) (last : ℕ) (op : BoardOp) → MayFollow h last op
     → IsNamed b.rows b.columns h
-    → IsNamed (after_operation b op).rows (after_operation b op).columns (held_after h op)
+    → IsNamed (after_operation b op).rows (after_operation b op).columns (tests_and_models_after h op)
 step_named b h last (Edit edit) may named =
     edit_named h b.rows b.columns named edit.reached.items edit.prepared.value.whole edit.change
     edit.prepared.value.replacement may.1
@@ -143,26 +143,26 @@ step_named b h last (Settle at outcome) may named = record {
   models = named.models;
 }
 
-pub names_from : (ops : List BoardOp) (b : BoardContent) (h : Held) (last : ℕ)
+pub names_from : (ops : List BoardOp) (b : BoardContent) (h : TestsAndModels) (last : ℕ)
     → LegalFrom h last ops → IsNamed b.rows b.columns h
     → IsNamed (fold after_operation b ops).rows (fold after_operation b ops).columns
-    (fold held_after h ops)
+    (fold tests_and_models_after h ops)
 names_from [] b h last l named = named
 names_from (op ∷ ops) b h last l named =
-    names_from ops (after_operation b op) (held_after h op) (number_after last op) l.1
+    names_from ops (after_operation b op) (tests_and_models_after h op) (number_after last op) l.1
     (step_named b h last op l.0 named)
 
 -- ---- parts of legal lists
 
-pub beginning_is_legal : (ops others : List BoardOp) (h : Held) (last : ℕ)
+pub beginning_is_legal : (ops others : List BoardOp) (h : TestsAndModels) (last : ℕ)
     → LegalFrom h last (ops ++ others) → LegalFrom h last ops
 beginning_is_legal [] others h last l = tt
 beginning_is_legal (op ∷ ops) others h last l =
-    (l.0, beginning_is_legal ops others (held_after h op) (number_after last op) l.1)
+    (l.0, beginning_is_legal ops others (tests_and_models_after h op) (number_after last op) l.1)
 
-pub one_more_is_legal : (ops : List BoardOp) (op : BoardOp) (h : Held) (last : ℕ)
-    → LegalFrom h last ops → MayFollow (fold held_after h ops) (fold number_after last ops) op
+pub one_more_is_legal : (ops : List BoardOp) (op : BoardOp) (h : TestsAndModels) (last : ℕ)
+    → LegalFrom h last ops → MayFollow (fold tests_and_models_after h ops) (fold number_after last ops) op
     → LegalFrom h last (ops ++ op ∷ [])
 one_more_is_legal [] op h last l may = (may, tt)
 one_more_is_legal (o ∷ ops) op h last l may =
-    (l.0, one_more_is_legal ops op (held_after h o) (number_after last o) l.1 may)
+    (l.0, one_more_is_legal ops op (tests_and_models_after h o) (number_after last o) l.1 may)

@@ -10,9 +10,9 @@ use Rattle.evaluation_laws.proofs.Saying.{one_outcome}
 use Rattle.evaluation_laws.proofs.Deciding.{decide}
 use Rattle.evaluation_laws.proofs.SliceModels.{items_suffice}
 use Rattle.board.specs.declared.operation.BoardOp.{BoardOp}
-use Rattle.board.specs.Contents.{RowContent, ColumnContent, BoardContent, row_index, column_index, cells_of, shown_cell, shown}
+use Rattle.board.specs.Contents.{RowContent, ColumnContent, BoardContent, row_index, column_index, cells_of, shown_cell, cell_named}
 use Rattle.board.specs.Operations.{no_board, board_after}
-use Rattle.board.specs.Legal.{Held, nothing_held, IsLegal, IsRightAt, texts_after}
+use Rattle.board.specs.Legal.{TestsAndModels, no_tests_or_models, IsLegal, IsRightAt, texts_after}
 use Rattle.board.proofs.Legal.{legal_is_right}
 use Rattle.board.proofs.Names.{IsNamed, names_from}
 use Rattle.board.specs.Results.{HasBoth, IsResultIn, IsRightCell}
@@ -21,7 +21,7 @@ use Rattle.board.proofs.Widths.{AreWide, wide_at, wide_from}
 
 -- ---- what is at an index
 
-pub one_result : (h : Held) (test model : List ℕ) (o p : Outcome) → IsResultIn h test model o
+pub one_result : (h : TestsAndModels) (test model : List ℕ) (o p : Outcome) → IsResultIn h test model o
     → IsResultIn h test model p → o ≡ p
 one_result h test model o p a b =
     let same_test : b.content ≡ a.content = same_Some b.content a.content (sym b.test_is ∙ a.test_is) in
@@ -34,7 +34,7 @@ module _ (ops : List BoardOp) (legal : IsLegal ops) (test model : List ℕ) wher
   abbrev b : BoardContent
   b = board_after ops
 
-  abbrev h : Held
+  abbrev h : TestsAndModels
   h = texts_after ops
 
   abbrev i : ℕ
@@ -44,7 +44,7 @@ module _ (ops : List BoardOp) (legal : IsLegal ops) (test model : List ℕ) wher
   j = column_index model b.columns
 
   named : IsNamed b.rows b.columns h
-  named = names_from ops no_board nothing_held 0 legal (record { tests = refl; models = refl })
+  named = names_from ops no_board no_tests_or_models 0 legal (record { tests = refl; models = refl })
 
   wide : AreWide (length b.columns) b.rows
   wide = wide_from ops no_board tt
@@ -100,5 +100,5 @@ module _ (ops : List BoardOp) (legal : IsLegal ops) (test model : List ℕ) wher
       ∙ none_alike (λ r. r.name) (λ t. t.name) b.rows h.tests i named.tests e)
   by_row (Some r) e = by_column r e (slice_get b.columns j) refl
 
-  pub right_cell : IsRightCell h test model (shown b test model)
+  pub right_cell : IsRightCell h test model (cell_named b test model)
   right_cell = by_row (slice_get b.rows i) refl

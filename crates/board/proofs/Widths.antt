@@ -12,7 +12,7 @@ use Rattle.board.specs.declared.operation.CellIndex.{CellIndex}
 use Rattle.board.specs.declared.operation.NameChange.{NameChange}
 use Rattle.board.specs.declared.operation.NameChange.TheVariants.{PutTest, DropTest, PutModel, DropModel}
 use Rattle.board.specs.Contents.{RowContent, ColumnContent, BoardContent}
-use Rattle.board.specs.Operations.{with_cell, open_cell, open_row, with_name, wider_row, narrower_row, rows_after, columns_after, after_operation}
+use Rattle.board.specs.Operations.{with_cell, open_cell, open_row, renamed_row, wider_row, narrower_row, rows_after, columns_after, after_operation}
 
 abbrev pub AreWide : ℕ → List RowContent → Type 0
 AreWide n [] = Unit {0}
@@ -80,10 +80,10 @@ one_wider n columns c r e =
 
 put_test_wide : (at : ℕ) (name : List ℕ) (columns : List ColumnContent) (rows : List RowContent)
     (few : Bool) → AreWide (length columns) rows
-    → AreWide (length columns) (if few then changed_at at (with_name name) rows
+    → AreWide (length columns) (if few then changed_at at (renamed_row name) rows
     else rows ++ open_row name columns ∷ [])
 put_test_wide at name columns rows true w =
-    wide_changed (length columns) (with_name name) (λ r. refl) rows at w
+    wide_changed (length columns) (renamed_row name) (λ r. refl) rows at w
 put_test_wide at name columns rows false w =
     wide_more (length columns) rows (open_row name columns) w (length-map columns (λ c. None))
 

@@ -44,10 +44,10 @@ abbrev pub cell_at : List RowContent → (test model : ℕ) → Option (Option O
 cell_at rows test model = slice_get (cells_of (slice_get rows test)) model
 
 -- the cell of a test and a model, by their names
-abbrev pub shown : BoardContent → (test model : List ℕ) → Cell
-shown b test model =
+abbrev pub cell_named : BoardContent → (test model : List ℕ) → Cell
+cell_named b test model =
     shown_cell (cell_at b.rows (row_index test b.rows) (column_index model b.columns))
 
 -- the printed items of the model of that name
-abbrev pub items_of : BoardContent → List ℕ → Option (List ℕ)
-items_of b model = option_map (λ c. c.items) (slice_get b.columns (column_index model b.columns))
+abbrev pub shown_items : BoardContent → List ℕ → Option (List ℕ)
+shown_items b model = option_map (λ c. c.items) (slice_get b.columns (column_index model b.columns))

@@ -5,13 +5,13 @@ use Rattle.text_values.specs.TestValue.{content_of}
 use Rattle.bench_texts.specs.declared.edit.Edit as code
 use Rattle.bench_texts.specs.BenchTexts.{BenchTexts}
 use Rattle.bench_texts.specs.Edits.{Edit, edit_of, is_whole, Applies}
-use Rattle.bench_texts.specs.Held.{model_of}
+use Rattle.bench_texts.specs.Held.{plain_model}
 use Rattle.bench_texts.specs.Replacements.{texts_with, IsPutBy}
 use Rattle.board.specs.declared.operation.BoardEdit.{BoardEdit}
 use Rattle.board.specs.declared.operation.BoardOp.{BoardOp}
 use Rattle.board.specs.declared.operation.BoardOp.TheVariants as ops
 use Rattle.board.specs.Legal as legal
-use Rattle.board.specs.Legal.{Held, texts_after, MayFollow, IsLegal}
+use Rattle.board.specs.Legal.{TestsAndModels, texts_after, MayFollow, IsLegal}
 
 -- ---- texts after operations
 
@@ -29,9 +29,9 @@ abbrev pub contents_after : List BoardOp → BenchTexts
 contents_after all = fold contents_with no_contents all
 
 -- these are what the tests and the models say
-pub record IsContentOf (t : BenchTexts) (h : Held) : Type 0 where
+pub record IsContentOf (t : BenchTexts) (h : TestsAndModels) : Type 0 where
   pub tests : t.tests ≡ map content_of h.tests
-  pub models : t.models ≡ map model_of h.models
+  pub models : t.models ≡ map plain_model h.models
 
 -- the two kinds of texts after these operations are the same
 abbrev pub HasContents : List BoardOp → Type 0
@@ -42,14 +42,14 @@ HasContents ops = IsContentOf (contents_after ops) (texts_after ops)
 -- The operation is that of this edit, which these texts make: it puts in place what the edit makes
 -- of them, of the test or the model that the edit names, and says whether the edit puts or drops it
 -- as a whole.
-pub record IsMadeBy (t : BenchTexts) (edit : BoardEdit) (e : Edit) : Type 0 where
+pub record IsOperationOf (t : BenchTexts) (edit : BoardEdit) (e : Edit) : Type 0 where
   pub applies : Applies t false e (texts_with edit.prepared.value.replacement t)
   pub target : IsPutBy t e edit.prepared.value.replacement
   pub whole : edit.prepared.value.whole ≡ is_whole e
 
 -- an edit is one that these texts make
 abbrev pub IsMadeOn : BenchTexts → BoardOp → Type 0
-IsMadeOn t (ops.Edit edit) = (e : Edit) × IsMadeBy t edit e
+IsMadeOn t (ops.Edit edit) = (e : Edit) × IsOperationOf t edit e
 IsMadeOn t (ops.Settle at outcome) = Unit {0}
 
 -- each edit among these operations is one that these texts, after the operations before it, make
@@ -74,7 +74,7 @@ MayComeNext all op =
 
 -- the operation is that of the edit of these texts, under that number
 abbrev pub IsEditOf : BenchTexts → BoardOp → Edit → ℕ → Type 0
-IsEditOf t (ops.Edit edit) e number = (edit.number ≡ number) × IsMadeBy t edit e
+IsEditOf t (ops.Edit edit) e number = (edit.number ≡ number) × IsOperationOf t edit e
 IsEditOf t (ops.Settle at outcome) e number = ⊥
 
 -- the operation is that of the edit of the texts after these, under that number

@@ -3,7 +3,7 @@
 use Rattle.std.specs.Prelude.{◌≡◌, ℕ, List, [], ◌∷◌, ◌++◌, Bool, Contains}
 use Rattle.bench_texts.specs.declared.replacement.Replacement.{Replacement}
 use Rattle.board.specs.declared.operation.CellIndex.{CellIndex}
-use Rattle.board.specs.Legal.{Held, slice_before, slice_after, IsReached}
+use Rattle.board.specs.Legal.{TestsAndModels, board_slice_before, board_slice_after, IsCellReached}
 
 abbrev pub test_cell : ℕ → ℕ → CellIndex
 test_cell test model = record { test = test; model = model }
@@ -13,17 +13,18 @@ model_cell model test = record { test = test; model = model }
 
 -- of these cells just those are listed that the edit reaches; each other one has one slice before
 -- the edit and after it
-pub record ListsAmong (h : Held) (whole : Bool) (r : Replacement) (line cells : List CellIndex)
+pub record ListsAmong (h : TestsAndModels) (whole : Bool) (r : Replacement)
+    (line cells : List CellIndex)
     : Type 0 where
   pub inside : (c : CellIndex) → Contains cells c
-      → Contains line c × IsReached h whole r c.test c.model
+      → Contains line c × IsCellReached h whole r c.test c.model
   pub kept : (c : CellIndex) → Contains line c → (Contains cells c → ⊥)
-      → slice_before h c.test c.model ≡ slice_after h r c.test c.model
-  pub listed : (c : CellIndex) → Contains line c → IsReached h whole r c.test c.model
+      → board_slice_before h c.test c.model ≡ board_slice_after h r c.test c.model
+  pub listed : (c : CellIndex) → Contains line c → IsCellReached h whole r c.test c.model
       → Contains cells c
 
 -- the list has one cell more, where the edit reaches it
-abbrev pub ListsOneMore : Held → (whole : Bool) → Replacement → CellIndex
+abbrev pub ListsOneMore : TestsAndModels → (whole : Bool) → Replacement → CellIndex
     → (old new : List CellIndex) → Type 0
 ListsOneMore h whole r c old new =
     (line : List CellIndex) → ListsAmong h whole r line old

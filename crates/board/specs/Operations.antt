@@ -38,14 +38,14 @@ narrower_row model row = record { name = row.name; cells = remove row.cells mode
 
 -- ---- names
 
-abbrev pub with_name : List ℕ → RowContent → RowContent
-with_name name row = record { name = name; cells = row.cells }
+abbrev pub renamed_row : List ℕ → RowContent → RowContent
+renamed_row name row = record { name = name; cells = row.cells }
 
 -- What is put has the index of the name, or is the last; a name that is dropped goes, with its
 -- cells.
 abbrev pub rows_after : NameChange → List ColumnContent → List RowContent → List RowContent
 rows_after (PutTest at name) columns rows =
-    if nat_lt at (length rows) then changed_at at (with_name (arc_value name)) rows
+    if nat_lt at (length rows) then changed_at at (renamed_row (arc_value name)) rows
     else rows ++ open_row (arc_value name) columns ∷ []
 rows_after (DropTest at) columns rows = remove rows at
 rows_after (PutModel at name items) columns rows =
@@ -62,8 +62,8 @@ columns_after (PutModel at name items) columns =
     else columns ++ column ∷ []
 columns_after (DropModel at) columns = remove columns at
 
-abbrev pub named_after : NameChange → BoardContent → BoardContent
-named_after change b =
+abbrev pub with_name_change : NameChange → BoardContent → BoardContent
+with_name_change change b =
     record {
       rows = rows_after change b.columns b.rows;
       columns = columns_after change b.columns;
@@ -73,15 +73,17 @@ named_after change b =
 -- ---- operations
 
 -- the cells of that list, opened
-abbrev pub opened : List CellIndex → BoardContent → BoardContent
-opened cells b = record { rows = fold open_cell b.rows cells; columns = b.columns; edits = b.edits }
+abbrev pub with_open_cells : List CellIndex → BoardContent → BoardContent
+with_open_cells cells b =
+    record { rows = fold open_cell b.rows cells; columns = b.columns; edits = b.edits }
 
 -- one edit more, as far as a number of 64 bits counts
-abbrev pub counted : BoardContent → BoardContent
-counted b = record { rows = b.rows; columns = b.columns; edits = min (suc b.edits) (2 ^ 64 - 1) }
+abbrev pub with_edit_counted : BoardContent → BoardContent
+with_edit_counted b =
+    record { rows = b.rows; columns = b.columns; edits = min (suc b.edits) (2 ^ 64 - 1) }
 
-abbrev pub settled : CellIndex → Outcome → BoardContent → BoardContent
-settled at outcome b =
+abbrev pub with_settled_cell : CellIndex → Outcome → BoardContent → BoardContent
+with_settled_cell at outcome b =
     record {
       rows = put_cell at.test at.model (Some outcome) b.rows;
       columns = b.columns;
@@ -91,8 +93,9 @@ settled at outcome b =
 -- An edit changes the names, opens the cells that it reaches and is counted; a settled cell shows
 -- its outcome.
 abbrev pub after_operation : BoardContent → BoardOp → BoardContent
-after_operation b (Edit edit) = counted (opened edit.reached.items (named_after edit.change b))
-after_operation b (Settle at outcome) = settled at (arc_value outcome) b
+after_operation b (Edit edit) =
+    with_edit_counted (with_open_cells edit.reached.items (with_name_change edit.change b))
+after_operation b (Settle at outcome) = with_settled_cell at (arc_value outcome) b
 
 -- a board that shows nothing
 abbrev pub no_board : BoardContent

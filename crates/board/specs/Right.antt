@@ -3,7 +3,7 @@
 use Rattle.std.specs.Prelude.{◌≡◌, ℕ, List, map, Some}
 use Rattle.verdict.specs.declared.answer.Outcome.{Outcome}
 use Rattle.bench_texts.specs.declared.model.NamedModel.{NamedModel}
-use Rattle.bench_texts.specs.Held.{model_of}
+use Rattle.bench_texts.specs.Held.{plain_model}
 use Rattle.bench_texts.specs.Printed.{printed_items}
 use Rattle.board.specs.declared.operation.BoardOp.{BoardOp}
 use Rattle.board.specs.Contents.{cell_at}
@@ -24,7 +24,7 @@ pub record HasNamesOf (ops : List BoardOp) : Type 0 where
 
 -- the items of a model with their numbers, one on each line
 abbrev pub printed_of : NamedModel → List ℕ
-printed_of m = printed_items (model_of m).items
+printed_of m = printed_items (plain_model m).items
 
 -- the items of the board's models are those of the models of the texts, in their order
 abbrev pub HasItemsOf : List BoardOp → Type 0

@@ -45,8 +45,8 @@ impl Model for Board {
 }
 
 impl Board {
-    ghost use Rattle.board.specs.Contents.{shown, shown_cell, cell_at, items_of};
-    ghost use Rattle.board.specs.Operations.{no_board, after_operation, named_after};
+    ghost use Rattle.board.specs.Contents.{cell_named, shown_cell, cell_at, shown_items};
+    ghost use Rattle.board.specs.Operations.{no_board, after_operation, with_name_change};
 
     /// A board that shows nothing.
     pub fn new(alloc: Global) -> Board
@@ -61,7 +61,7 @@ impl Board {
 
     /// What is shown of the cell of a test and a model, by their names. It takes no memory.
     pub fn show(&self, test: &[u8], model: &[u8]) -> Shown<'_>
-        ensures { cell_of result ≡ shown self.now test.now model.now }
+        ensures { cell_of result ≡ cell_named self.now test.now model.now }
     {
         self.show_at(CellIndex {
             test: row_index(&self.rows, test),
@@ -125,7 +125,7 @@ impl Board {
     /// The items of the model of this name, as the bench prints them, or none without such a model.
     /// It takes no memory.
     pub fn items(&self, model: &[u8]) -> Option<&[u8]>
-        ensures { option_map (λ b. b.now) result ≡ items_of self.now model.now }
+        ensures { option_map (λ b. b.now) result ≡ shown_items self.now model.now }
     {
         match self.columns.get(column_index(&self.columns, model)) {
             Some(column) => Some(column.items()),
@@ -154,7 +154,7 @@ impl Board {
 
     // Changes the names as an edit does.
     fn rename(&mut self, alloc: Global, change: &NameChange) -> Result<(), AllocError>
-        ensures { MatchResult result (λ _. self.new ≡ named_after change.now self.old)
+        ensures { MatchResult result (λ _. self.new ≡ with_name_change change.now self.old)
             (λ _. self.new ≡ self.old) }
     {
         match change {
@@ -186,7 +186,7 @@ impl Board {
         items: &Arc<Vec<u8>>,
     ) -> Result<(), AllocError>
         ensures { MatchResult result
-            (λ _. self.new ≡ named_after (NameChange.PutModel at name.now items.now) self.old)
+            (λ _. self.new ≡ with_name_change (NameChange.PutModel at name.now items.now) self.old)
             (λ _. self.new ≡ self.old) }
     {
         let column = Column::new(Arc::try_clone(name)?, Arc::try_clone(items)?);

@@ -3,7 +3,7 @@
 ghost use Rattle.std.specs.Prelude.{◌≡◌, IfOk, MatchResult, option_map, map, remove, length, nat_lt, if◌then◌else◌, ◌++◌, ◌∷◌, [], ◌<◌, fold, vec_len};
 ghost use Rattle.std.specs.Arc.{arc_value};
 ghost use Rattle.board.specs.Contents.{row_index, column_index};
-ghost use Rattle.board.specs.Operations.{put_cell, open_cell, open_row, wider_row, narrower_row, with_name};
+ghost use Rattle.board.specs.Operations.{put_cell, open_cell, open_row, wider_row, narrower_row, renamed_row};
 ghost use Rattle.bench_texts.specs.BenchTexts.{changed_at};
 
 use crate::column::Column;
@@ -61,7 +61,7 @@ pub(crate) fn open_cells(rows: &mut Vec<Row>, cells: &[CellIndex])
 // Gives a row this name.
 fn rename(rows: &mut Vec<Row>, at: usize, name: Arc<Name>)
     requires { at < vec_len rows.old }
-    ensures { rows.new.items ≡ changed_at at (with_name (arc_value name)) rows.old.items }
+    ensures { rows.new.items ≡ changed_at at (renamed_row (arc_value name)) rows.old.items }
 {
     rows[at].rename(name);
 }
@@ -85,7 +85,7 @@ pub(crate) fn put_test(
 ) -> Result<(), AllocError>
     ensures { MatchResult result
         (λ _. rows.new.items ≡ (if nat_lt at (length rows.old.items) then changed_at at
-        (with_name (arc_value name.now)) rows.old.items
+        (renamed_row (arc_value name.now)) rows.old.items
         else rows.old.items ++ open_row (arc_value name.now) columns.now ∷ []))
         (λ _. rows.new.items ≡ rows.old.items) }
 {

@@ -4,8 +4,8 @@ ghost use Rattle.std.specs.Prelude.{◌≡◌, ◌<◌, ◌≤◌, ℕ, List, If
 ghost use Rattle.std.specs.List.{range_with_len};
 ghost use Rattle.std.specs.Arc.{arc_value};
 ghost use Rattle.bench_texts.specs.Replacements.{printed_by, IsReplaceable};
-ghost use Rattle.bench_texts.specs.Held.{IsRead};
-ghost use Rattle.board.specs.Legal.{held_of, Announces, MayFollow};
+ghost use Rattle.bench_texts.specs.Held.{IsModelRead};
+ghost use Rattle.board.specs.Legal.{tests_and_models, Announces, MayFollow};
 ghost use Rattle.board.specs.Lines.{ListsAmong, ListsOneMore, test_cell, model_cell};
 
 use crate::operation::{BoardEdit, BoardOp, CellIndex, NameChange};
@@ -45,7 +45,7 @@ fn push_reached(
     at: CellIndex,
     reached: &mut Vec<CellIndex>,
 ) -> Result<(), AllocError>
-    ensures { OnOk result (ListsOneMore (held_of texts.now) prepared.now.whole
+    ensures { OnOk result (ListsOneMore (tests_and_models texts.now) prepared.now.whole
         prepared.now.replacement at reached.old.items reached.new.items) }
 {
     if !reaches(texts, prepared, at.test, at.model) {
@@ -62,7 +62,7 @@ fn reached_among(
     prepared: &Prepared,
     cells: &[CellIndex],
 ) -> Result<Vec<CellIndex>, AllocError>
-    ensures { IfOk result (λ v. ListsAmong (held_of texts.now) prepared.now.whole
+    ensures { IfOk result (λ v. ListsAmong (tests_and_models texts.now) prepared.now.whole
         prepared.now.replacement cells.now v.items) }
 {
     let mut reached = Vec::new(alloc);
@@ -107,7 +107,7 @@ fn announce_test(
     ensures { IfOk result (λ a. (test : Test)
         → prepared.now.replacement ≡ Replacement.PutTest at test → test.name ≡ name.now
         → at ≤ vec_len texts.now.tests
-        → Announces (held_of texts.now) prepared.now.whole a.change a.reached.items
+        → Announces (tests_and_models texts.now) prepared.now.whole a.change a.reached.items
         prepared.now.replacement) }
 {
     let cells = cells_of_test(alloc, at, texts.models().len())?;
@@ -126,8 +126,8 @@ fn announce_model(
 ) -> Result<Announcement, AllocError>
     ensures { IfOk result (λ a. (model : NamedModel) (next : ℕ)
         → prepared.now.replacement ≡ Replacement.PutModel at model next → model.name ≡ name.now
-        → at ≤ vec_len texts.now.models → IsRead model
-        → Announces (held_of texts.now) prepared.now.whole a.change a.reached.items
+        → at ≤ vec_len texts.now.models → IsModelRead model
+        → Announces (tests_and_models texts.now) prepared.now.whole a.change a.reached.items
         prepared.now.replacement) }
 {
     let cells = cells_of_model(alloc, texts.tests().len(), at)?;
@@ -140,7 +140,7 @@ fn announce_model(
 
 fn announce(alloc: Global, texts: &Texts, prepared: &Prepared) -> Result<Announcement, AllocError>
     requires { IsReplaceable texts.now prepared.now.replacement }
-    ensures { IfOk result (λ a. Announces (held_of texts.now) prepared.now.whole a.change
+    ensures { IfOk result (λ a. Announces (tests_and_models texts.now) prepared.now.whole a.change
         a.reached.items prepared.now.replacement) }
 {
     match prepared.replacement() {
@@ -180,7 +180,7 @@ impl BoardEdit {
     ) -> Result<BoardEdit, AllocError>
         requires { IsReplaceable texts.now prepared.now.replacement }
         ensures follows { (last : ℕ) → last < number
-            → IfOk result (λ e. MayFollow (held_of texts.now) last (BoardOp.Edit e)) }
+            → IfOk result (λ e. MayFollow (tests_and_models texts.now) last (BoardOp.Edit e)) }
         ensures prepared { IfOk result (λ e. e.prepared.value ≡ prepared.now) }
         ensures number { IfOk result (λ e. e.number ≡ number) }
     {

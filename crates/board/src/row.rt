@@ -34,7 +34,7 @@ impl Model for Row {
 impl Row {
     ghost use Rattle.std.specs.Prelude.{slice_get};
     ghost use Rattle.board.specs.Contents.{shown_cell};
-    ghost use Rattle.board.specs.Operations.{with_cell, with_name, open_row, wider_row, narrower_row};
+    ghost use Rattle.board.specs.Operations.{with_cell, renamed_row, open_row, wider_row, narrower_row};
 
     /// A test without outcomes under these models. Errors: want of memory.
     pub(crate) fn open(
@@ -61,7 +61,7 @@ impl Row {
 
     /// Gives it this name.
     pub(crate) fn rename(&mut self, name: Arc<Name>)
-        ensures { self.new ≡ with_name (arc_value name) self.old }
+        ensures { self.new ≡ renamed_row (arc_value name) self.old }
     {
         drop(replace(&mut self.name, name));
     }

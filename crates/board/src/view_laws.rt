@@ -3,8 +3,8 @@
 ghost use Rattle.std.specs.Prelude.{◌≡◌, ◌≤◌, ℕ, List};
 ghost use Rattle.board.specs.declared.operation.BoardOp.{BoardOp};
 ghost use Rattle.board.specs.Operations.{board_after};
-ghost use Rattle.board.specs.Legal.{Held, IsLegal, last_number};
-ghost use Rattle.board.specs.Results.{HasOneResult, ShowsRightCells};
+ghost use Rattle.board.specs.Legal.{TestsAndModels, IsLegal, last_number};
+ghost use Rattle.board.specs.Results.{HasOneResultIn, ShowsRightCells};
 ghost use Rattle.board.specs.Items.{ShowsRightItems};
 ghost use Rattle.board.specs.Edits.{edits_in, edit_count, AreNumbersApart};
 
@@ -24,7 +24,7 @@ pub fn items_are_right()
 
 /// Texts have one result of a test under a model.
 pub fn results_are_one()
-    ensures { (h : Held) (test model : List ℕ) → HasOneResult h test model }
+    ensures { (h : TestsAndModels) (test model : List ℕ) → HasOneResultIn h test model }
 {}
 
 /// A board counts the edits among its operations. There are no more of them in a legal list than

@@ -9,7 +9,7 @@ use Rattle.memo_core.specs.Run as core
 use Rattle.memo_core.specs.Run.{Bench, Meaning, Step}
 use Rattle.cells.specs.declared.events.Event.{Event}
 use Rattle.cells.specs.declared.events.Reply.{Reply}
-use Rattle.cells.specs.Events.{Refusing, task_given, has_claim, IsReturned, IsAnswered, AreAnswered}
+use Rattle.cells.specs.Events.{Refusing, task_given, has_claim, IsReturned, IsEventAnswered, AreEventsAnswered}
 use Rattle.cells.specs.Stages.{stage_tasks, tasks_in}
 
 or_true : (b : Bool) → (b || false) ≡ true → b ≡ true
@@ -120,9 +120,9 @@ returned means refuses last old new o answer r h step = rw h (r, refl, step)
 pub answered_last : {T E V G F : Type 0} (means : Meaning T E V G) (refuses : Refusing T E F)
     (last : T → ℕ) (old mid new : Bench T V) (given later after : List (Task V G))
     (es : List (Event E)) (rs : List (Reply F)) (e : Event E) (r : Reply F)
-    → AreAnswered means refuses last old given es rs mid later
-    → IsAnswered means refuses last mid later e r new after
-    → AreAnswered means refuses last old given (es ++ e ∷ []) (rs ++ r ∷ []) new after
+    → AreEventsAnswered means refuses last old given es rs mid later
+    → IsEventAnswered means refuses last mid later e r new after
+    → AreEventsAnswered means refuses last old given (es ++ e ∷ []) (rs ++ r ∷ []) new after
 answered_last means refuses last old mid new given later after [] [] e r h a =
     (new, after, (rw (h.0, h.1) at a), (refl, refl))
 answered_last means refuses last old mid new given later after [] (x ∷ rs) e r h a = absurd h

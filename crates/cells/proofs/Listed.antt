@@ -14,7 +14,7 @@ use Rattle.cells.specs.declared.events.Event.TheVariants.{Edit, Claim, Return, L
 use Rattle.cells.specs.declared.events.Reply.{Reply}
 use Rattle.cells.specs.declared.events.Reply.TheVariants.{Edited, Claimed, Returned, Lost, Renewed}
 use Rattle.cells.specs.Views.{Task}
-use Rattle.cells.specs.Events.{Refusing, IsEdited, IsClaimed, IsReturned, IsAnswered, AreAnswered, IsJob, accepted_in, accepted_among, task_given}
+use Rattle.cells.specs.Events.{Refusing, IsEdited, IsClaimed, IsReturned, IsEventAnswered, AreEventsAnswered, IsJob, accepted_in, accepted_among, task_given}
 use Rattle.cells.specs.CellLaws.{ListBoundsWork}
 
 module _ {T E V G : Type 0} (means : Meaning T E V G) where
@@ -181,7 +181,7 @@ module _ {T E V G F : Type 0} (means : Meaning T E V G) (refuses : Refusing T E 
         none_run means ⊤ given after old new h same
 
     answered_run : (old new : Bench T V) (given after : List (Task V G)) (e : Event E) (r : Reply F)
-        → IsAnswered means refuses last old given e r new after
+        → IsEventAnswered means refuses last old given e r new after
         → HasRun means (IsJob e) given after (accepted_in r) old new
     answered_run old new given after (Edit e) (Edited r) h =
         edited_run old new given after e r h.0 h.1
@@ -215,7 +215,7 @@ module _ {T E V G F : Type 0} (means : Meaning T E V G) (refuses : Refusing T E 
 
     -- events with their replies are a run
     pub lists_run : (old new : Bench T V) (given after : List (Task V G)) (es : List (Event E))
-        (rs : List (Reply F)) → AreAnswered means refuses last old given es rs new after
+        (rs : List (Reply F)) → AreEventsAnswered means refuses last old given es rs new after
         → HasRun means (Each IsJob es) given after (accepted_among rs) old new
     lists_run old new given after [] [] h = none_run means ⊤ given after old new h.0 h.1
     lists_run old new given after [] (r ∷ rs) h = absurd h

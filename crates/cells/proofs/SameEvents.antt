@@ -7,7 +7,7 @@ use Rattle.cells.specs.declared.events.Event.TheVariants.{Edit, Claim, Return, L
 use Rattle.cells.specs.declared.events.Reply.{Reply}
 use Rattle.cells.specs.declared.events.Reply.TheVariants.{Edited, Claimed, Returned, Lost, Renewed}
 use Rattle.cells.specs.Views.{Task}
-use Rattle.cells.specs.Events.{Refusing, IsEdited, IsAnswered, AreAnswered, IsSameEvent}
+use Rattle.cells.specs.Events.{Refusing, IsEdited, IsEventAnswered, AreEventsAnswered, IsSameEvent}
 
 -- one copy more
 pub zip_last : {A B : Type 0} (R : A → B → Type 0) (xs : List A) (ys : List B) (x : A) (y : B)
@@ -31,8 +31,8 @@ module _ {T E V G F : Type 0} (means : Meaning T E V G) (refuses : Refusing T E 
   edit_same old new e f (Err fault) s h = (refused_same old.texts e f _ fault s h.0, h.1, h.2)
 
   one_same : (old new : Bench T V) (given after : List (Task V G)) (e f : Event E) (r : Reply F)
-      → IsSameEvent same e f → IsAnswered means refuses last old given e r new after
-      → IsAnswered means refuses last old given f r new after
+      → IsSameEvent same e f → IsEventAnswered means refuses last old given e r new after
+      → IsEventAnswered means refuses last old given f r new after
   one_same old new given after (Edit e) (Edit f) (Edited r) s h =
       (edit_same old new e f r s h.0, h.1)
   one_same old new given after (Edit e) (Edit f) (Claimed r) s h = absurd h
@@ -44,18 +44,18 @@ module _ {T E V G F : Type 0} (means : Meaning T E V G) (refuses : Refusing T E 
   one_same old new given after (Edit e) (Lose claim) r s h = absurd s
   one_same old new given after (Edit e) Renew r s h = absurd s
   one_same old new given after Claim f r s h =
-      subst (λ (x : Event E). IsAnswered means refuses last old given x r new after) (sym s) h
+      subst (λ (x : Event E). IsEventAnswered means refuses last old given x r new after) (sym s) h
   one_same old new given after (Return claim) f r s h =
-      subst (λ (x : Event E). IsAnswered means refuses last old given x r new after) (sym s) h
+      subst (λ (x : Event E). IsEventAnswered means refuses last old given x r new after) (sym s) h
   one_same old new given after (Lose claim) f r s h =
-      subst (λ (x : Event E). IsAnswered means refuses last old given x r new after) (sym s) h
+      subst (λ (x : Event E). IsEventAnswered means refuses last old given x r new after) (sym s) h
   one_same old new given after Renew f r s h =
-      subst (λ (x : Event E). IsAnswered means refuses last old given x r new after) (sym s) h
+      subst (λ (x : Event E). IsEventAnswered means refuses last old given x r new after) (sym s) h
 
   pub answered_same : (old new : Bench T V) (given after : List (Task V G)) (es fs : List (Event E))
       (rs : List (Reply F)) → AllZip (IsSameEvent same) es fs
-      → AreAnswered means refuses last old given es rs new after
-      → AreAnswered means refuses last old given fs rs new after
+      → AreEventsAnswered means refuses last old given es rs new after
+      → AreEventsAnswered means refuses last old given fs rs new after
   answered_same old new given after [] [] rs z h = h
   answered_same old new given after [] (f ∷ fs) rs z h = absurd z
   answered_same old new given after (e ∷ es) [] rs z h = absurd z

@@ -3,9 +3,9 @@ use Rattle.std.specs.List.{AllByRecursion as Each}
 use Rattle.std.proofs.lemmas.Option.{same_Some}
 use Rattle.memo_core.specs.declared.keys.Node.{Node}
 use Rattle.memo_core.specs.declared.keys.Output.{Output as Made}
-use Rattle.memo_core.specs.Graph.{Memo, Net, memo_of, output_at, stored_at}
+use Rattle.memo_core.specs.Graph.{Memo, Net, memo_of, output_at, stored_output}
 use Rattle.memo_core.specs.Laws.{GivenStays, IsUsedClosed}
-use Rattle.memo_core.specs.Right.{Making, IsRight, IsCounted, IsSound}
+use Rattle.memo_core.specs.Right.{Making, IsRight, CountsAsComputed, IsSoundNet}
 use Rattle.memo_core.proofs.Counted.{counted_made}
 use Rattle.memo_core.proofs.Headline.{settled_solved}
 use Rattle.memo_engine.proofs.WorkLemmas.{has_there}
@@ -15,14 +15,14 @@ use Rattle.cells.specs.Cells.{AreSolved, Carries}
 module _ {T V G : Type 0} (is_valid : T → Type 0) (since : T → T → Type 0) (net : T → Net G)
     (makes : Making V G) (is_there : T → Node → Type 0)
     (stays : GivenStays is_valid since net)
-    (sound : (t : T) → is_valid t → IsSound makes (net t) (is_there t))
+    (sound : (t : T) → is_valid t → IsSoundNet makes (net t) (is_there t))
     (there : (t : T) → is_valid t → Each (is_there t) ((net t).used))
     (closed : (t : T) → is_valid t → IsUsedClosed (net t)) where
   pub bench_solved : (t : T) (ms : List (Memo V)) (taken : ℕ) → is_valid t
-      → IsRight (IsCounted since net makes t) (net t) ms taken → AreSolved makes (net t) ms
+      → IsRight (CountsAsComputed since net makes t) (net t) ms taken → AreSolved makes (net t) ms
   bench_solved t ms taken valid right = record {
     solved =
-        λ n has is. settled_solved (IsCounted since net makes t) makes (net t) ms taken (is_there t)
+        λ n has is. settled_solved (CountsAsComputed since net makes t) makes (net t) ms taken (is_there t)
         (λ m is vs os k a. counted_made is_valid since net makes stays t valid m is vs os k a) right
         (sound t valid) is.0 n (has_there (is_there t) (net t).used n (there t valid) has) is.1;
     closed = closed t valid;
@@ -30,7 +30,7 @@ module _ {T V G : Type 0} (is_valid : T → Type 0) (since : T → T → Type 0)
 
 -- the first output of a node, by the outputs that its memo holds
 first_stored : {V : Type 0} (m : Option (Memo V)) (os : List (Made V))
-    → option_map (λ m. m.outputs) m ≡ Some os → stored_at 0 m ≡ output_at 0 os
+    → option_map (λ m. m.outputs) m ≡ Some os → stored_output 0 m ≡ output_at 0 os
 first_stored None os h = cc
 first_stored (Some m) os h = ap (output_at 0) (same_Some m.outputs os h)
 

@@ -7,13 +7,13 @@ use Rattle.memo_core.specs.Graph.{IsSettled}
 use Rattle.memo_core.specs.Right.{IsUntouchedBy}
 use Rattle.memo_core.specs.Laws.{DecidesSettled}
 use Rattle.memo_core.specs.Run as core
-use Rattle.memo_core.specs.Run.{Bench, Meaning, state_in, Step, Run, IsStart, IsFreshFrom, count_unsettled}
+use Rattle.memo_core.specs.Run.{Bench, Meaning, state_in, Step, Run, IsNewBench, IsFreshFrom, count_unsettled}
 use Rattle.memo_core.specs.Step.{IsWork}
 use Rattle.memo_core.specs.Work.{IsJobEvent, numbers_given, accepted_count}
 use Rattle.cells.specs.declared.events.Event.{Event}
 use Rattle.cells.specs.declared.events.Reply.{Reply}
-use Rattle.cells.specs.Cells.{Cells, IsSettledCell, IsNeeded}
-use Rattle.cells.specs.Events.{Refusing, Answers, IsJob, accepted_among}
+use Rattle.cells.specs.Cells.{Cells, IsSettledCell, IsNeededNode}
+use Rattle.cells.specs.Events.{Refusing, AnswersEvents, IsJob, accepted_among}
 use Rattle.cells.specs.Views.{IsRightBench}
 
 -- after any list of events, the outcome of a settled cell is what evaluating the present texts from
@@ -22,7 +22,7 @@ abbrev pub SettledCellIsFromScratch : {T E V G O : Type 0} → Meaning T E V G �
     → Type 0
 SettledCellIsFromScratch {T} {E} {V} {G} {O} means of =
     (events : List (core.Event E V G)) (start end : Bench T V)
-    → IsStart means.is_valid means.net start → Run means start events end
+    → IsNewBench means.is_valid means.net start → Run means start events end
     → (test model : List ℕ) (o : O) → IsSettledCell means.net of end test model o
     → of.from_scratch end.texts test model o
 
@@ -38,7 +38,7 @@ RightIsFromScratch {T} {E} {V} {G} {O} means of =
 abbrev pub UnreachedCellStays : {T E V G O : Type 0} → Meaning T E V G → Cells T E V O → Type 0
 UnreachedCellStays {T} {E} {V} {G} {O} means of =
     (events : List (core.Event E V G)) (start old new : Bench T V) (e : E) (test model : List ℕ)
-    (o : O) → IsStart means.is_valid means.net start → Run means start events old
+    (o : O) → IsNewBench means.is_valid means.net start → Run means start events old
     → Step means old (core.Edit e) new
     → (of.reaches old.texts e new.texts test model → ⊥)
     → IsSettledCell means.net of old test model o → IsSettledCell means.net of new test model o
@@ -48,17 +48,17 @@ UnreachedCellStays {T} {E} {V} {G} {O} means of =
 abbrev pub OnlyNeededIsGiven : {T E V G O : Type 0} → Meaning T E V G → Cells T E V O → Type 0
 OnlyNeededIsGiven {T} {E} {V} {G} means of =
     (events : List (core.Event E V G)) (start old new : Bench T V) (number : ℕ) (n : Node)
-    (given : G) (keys : List Key) (values : List V) → IsStart means.is_valid means.net start
+    (given : G) (keys : List Key) (values : List V) → IsNewBench means.is_valid means.net start
     → Run means start events old
     → Step means old (core.Claim number n given keys values) new
-    → IsNeeded (means.net old.texts) (of.verdict_of old.texts) n × IsWork (state_in means old) n
+    → IsNeededNode (means.net old.texts) (of.verdict_of old.texts) n × IsWork (state_in means old) n
 
 -- after any list of events, no two claims that are out are of one node with the same inputs and
 -- stamps, and none repeats a memo
 abbrev pub NoneIsOutTwice : {T E V G : Type 0} → Meaning T E V G → Type 0
 NoneIsOutTwice {T} {E} {V} {G} means =
     (events : List (core.Event E V G)) (start end : Bench T V)
-    → IsStart means.is_valid means.net start → Run means start events end
+    → IsNewBench means.is_valid means.net start → Run means start events end
     → IsFreshFrom end.memos end.claims
 
 -- After any list of events and an edit: where each node was settled and not touched by the edit but
@@ -67,7 +67,7 @@ NoneIsOutTwice {T} {E} {V} {G} means =
 abbrev pub EditBoundsWork : {T E V G : Type 0} → Meaning T E V G → Type 0
 EditBoundsWork {T} {E} {V} {G} means =
     (earlier events : List (core.Event E V G)) (first old start end : Bench T V) (e : E)
-    (is_open : Node → Bool) → IsStart means.is_valid means.net first
+    (is_open : Node → Bool) → IsNewBench means.is_valid means.net first
     → Run means first earlier old → Step means old (core.Edit e) start
     → ((n : Node) → is_open n ≡ false
     → IsSettled (means.net old.texts) old.memos n
@@ -82,7 +82,7 @@ EditBoundsWork {T} {E} {V} {G} means =
 abbrev pub QuietCellsAreSettled : {T E V G O : Type 0} → Meaning T E V G → Cells T E V O → Type 0
 QuietCellsAreSettled {T} {E} {V} {G} means of =
     (events : List (core.Event E V G)) (start before end : Bench T V)
-    → IsStart means.is_valid means.net start → Run means start events before
+    → IsNewBench means.is_valid means.net start → Run means start events before
     → Step means before core.NoClaim end → before.claims ≡ []
     → (test model : List ℕ) (n : Node) → of.verdict_of end.texts test model ≡ Some n
     → IsSettled (means.net end.texts) end.memos n
@@ -91,7 +91,7 @@ QuietCellsAreSettled {T} {E} {V} {G} means of =
 abbrev pub ListsAreRuns : {T E V G F : Type 0} → Meaning T E V G → Refusing T E F → (T → ℕ) → Type 0
 ListsAreRuns {T} {E} {V} {G} {F} means refuses last =
     (old new : Bench T V) (events : List (Event E)) (replies : List (Reply F))
-    → Answers means refuses last old events replies new
+    → AnswersEvents means refuses last old events replies new
     → (run : List (core.Event E V G)) × Run means old run new
 
 -- after any list of events, no more returns of a list of claims, returns and losses are accepted
@@ -101,8 +101,8 @@ abbrev pub ListBoundsWork : {T E V G F : Type 0} → Meaning T E V G → Refusin
 ListBoundsWork {T} {E} {V} {G} {F} means refuses last =
     (earlier : List (core.Event E V G)) (first start end : Bench T V) (events : List (Event E))
     (replies : List (Reply F)) (before after : Node → Bool)
-    → IsStart means.is_valid means.net first → Run means first earlier start
-    → Answers means refuses last start events replies end → Each IsJob events
+    → IsNewBench means.is_valid means.net first → Run means first earlier start
+    → AnswersEvents means refuses last start events replies end → Each IsJob events
     → DecidesSettled (state_in means start) before → DecidesSettled (state_in means end) after
     → accepted_among replies + count_unsettled after (means.net end.texts).used
     ≤ count_unsettled before (means.net start.texts).used

@@ -1,11 +1,11 @@
--- Read this first: what a cell shows of a bench (`IsShown`), and what texts of tests and models owe
--- to a bench of cells.
+-- Read this first: what a cell shows of a bench (`IsCellShown`), and what texts of tests and models
+-- owe to a bench of cells.
 use Rattle.std.specs.Prelude.{◌≡◌, ℕ, zero, suc, List, Option, Some, None, Bool}
 use Rattle.memo_core.specs.declared.keys.Node.{Node}
 use Rattle.memo_core.specs.declared.keys.Key.TheVariants.{Output}
 use Rattle.memo_core.specs.Graph.{Memo, Net, at, input_nodes, IsSettled}
 use Rattle.memo_core.specs.Laws.{IsUsedClosed}
-use Rattle.memo_core.specs.Right.{Making, IsSolved, IsUntouchedBy}
+use Rattle.memo_core.specs.Right.{Making, IsSolvedNode, IsUntouchedBy}
 use Rattle.memo_core.specs.Run.{Bench}
 use Rattle.memo_core.specs.Step.{Has}
 use Rattle.cells.specs.declared.shown.Shown.{Shown}
@@ -25,7 +25,7 @@ pub record Carries {V O : Type 0} (outcome_in : V → Option O) (memos : List (M
 -- present values of its present inputs, and cells use the nodes that it uses
 pub record AreSolved {V G : Type 0} (makes : Making V G) (net : Net G) (memos : List (Memo V))
     : Type 0 where
-  pub solved : (n : Node) → Has net.used n → IsSettled net memos n → IsSolved makes net memos n
+  pub solved : (n : Node) → Has net.used n → IsSettled net memos n → IsSolvedNode makes net memos n
   pub closed : IsUsedClosed net
 
 -- the second node is the first, or what the first uses, so many steps down
@@ -37,7 +37,7 @@ abbrev pub StandsOn : {G : Type 0} → Net G → Node → Node → Type 0
 StandsOn net n m = (d : ℕ) × StandsOnBy d net n m
 
 -- the verdict of some cell stands on the node
-pub record IsNeeded {G : Type 0} (net : Net G) (verdict_of : List ℕ → List ℕ → Option Node)
+pub record IsNeededNode {G : Type 0} (net : Net G) (verdict_of : List ℕ → List ℕ → Option Node)
     (n : Node) : Type 0 where
   pub test : List ℕ
   pub model : List ℕ
@@ -56,7 +56,7 @@ SolvedIsFromScratch {V} {G} {O} makes net outcome_in verdict from_scratch =
     → IsSettled net memos n → (o : O) × Carries outcome_in memos n o × from_scratch o
 
 abbrev pub UsedIsNeeded : {G : Type 0} → Net G → (List ℕ → List ℕ → Option Node) → Type 0
-UsedIsNeeded net verdict_of = (n : Node) → Has net.used n → IsNeeded net verdict_of n
+UsedIsNeeded net verdict_of = (n : Node) → Has net.used n → IsNeededNode net verdict_of n
 
 -- a cell that was there has the same verdict, and nothing that the verdict stands on is touched
 abbrev pub UnreachedIsUntouched : {G : Type 0} → (Node → Bool) → Net G → Net G → Option Node
@@ -100,11 +100,11 @@ pub record IsOpenCell {T E V G O : Type 0} (net : T → Net G) (of : Cells T E V
   pub unsettled : IsSettled (net b.texts) b.memos verdict → ⊥
 
 -- what is shown of the cell of a test and a model
-abbrev pub IsShown : {T E V G O : Type 0} → (T → Net G) → Cells T E V O → Bench T V
+abbrev pub IsCellShown : {T E V G O : Type 0} → (T → Net G) → Cells T E V O → Bench T V
     → (test model : List ℕ) → Shown O → Type 0
-IsShown net of b test model (Settled o) = IsSettledCell net of b test model o.now
-IsShown net of b test model Open = IsOpenCell net of b test model
-IsShown net of b test model NoCell = of.verdict_of b.texts test model ≡ None
+IsCellShown net of b test model (Settled o) = IsSettledCell net of b test model o.now
+IsCellShown net of b test model Open = IsOpenCell net of b test model
+IsCellShown net of b test model NoCell = of.verdict_of b.texts test model ≡ None
 
 -- an outcome that is shown is what evaluating the present texts from nothing gives
 abbrev pub ShowsFromScratch : {T E V O : Type 0} → Cells T E V O → T → (test model : List ℕ)

@@ -1,5 +1,5 @@
--- Read after Cells: what an event of a list and its reply make of a bench (`IsAnswered`), and a
--- list of events with its replies (`Answers`).
+-- Read after Cells: what an event of a list and its reply make of a bench (`IsEventAnswered`), and
+-- a list of events with its replies (`AnswersEvents`).
 use Rattle.std.specs.Prelude.{◌≡◌, ℕ, ◌+◌, ◌<◌, ◌≤◌, ⊤, Bool, false, ◌||◌, ◌==◌, leb, List, [], ◌∷◌, ◌++◌, Option, Some, None, Result, Ok, Err, if◌then◌else◌}
 use Rattle.value_store.specs.declared.fault.StoreFault.{StoreFault}
 use Rattle.memo_core.specs.declared.claims.ClaimFault.{ClaimFault}
@@ -101,29 +101,31 @@ module _ {T E V G F : Type 0} (means : Meaning T E V G) (refuses : Refusing T E 
     IsReturned old (Some t) (Err fault) new = new ≡ old
 
     -- an event with its reply
-    abbrev pub IsAnswered : Bench T V → List (Task V G) → Event E → Reply F → Bench T V
+    abbrev pub IsEventAnswered : Bench T V → List (Task V G) → Event E → Reply F → Bench T V
         → List (Task V G) → Type 0
-    IsAnswered old given (Edit e) (Edited answer) new after =
+    IsEventAnswered old given (Edit e) (Edited answer) new after =
         IsEdited old e answer new × (after ≡ given)
-    IsAnswered old given Claim (Claimed answer) new after = IsClaimed old given answer new after
-    IsAnswered old given (Return claim) (Returned answer) new after =
+    IsEventAnswered old given Claim (Claimed answer) new after =
+        IsClaimed old given answer new after
+    IsEventAnswered old given (Return claim) (Returned answer) new after =
         IsReturned old (task_given claim given) answer new × (after ≡ given)
-    IsAnswered old given (Lose claim) (Lost answer) new after =
+    IsEventAnswered old given (Lose claim) (Lost answer) new after =
         Step means old (core.Lose claim answer) new × (after ≡ given)
-    IsAnswered old given Renew Renewed new after = Step means old core.Renew new × (after ≡ given)
-    IsAnswered old given _ _ new after = ⊥
+    IsEventAnswered old given Renew Renewed new after =
+        Step means old core.Renew new × (after ≡ given)
+    IsEventAnswered old given _ _ new after = ⊥
 
     -- events with their replies, one after another
-    abbrev pub AreAnswered : Bench T V → List (Task V G) → List (Event E) → List (Reply F)
+    abbrev pub AreEventsAnswered : Bench T V → List (Task V G) → List (Event E) → List (Reply F)
         → Bench T V
         → List (Task V G) → Type 0
-    AreAnswered old given [] [] new after = (new ≡ old) × (after ≡ given)
-    AreAnswered old given (e ∷ es) (r ∷ rs) new after =
-        (mid : Bench T V) × (later : List (Task V G)) × IsAnswered old given e r mid later
-        × AreAnswered mid later es rs new after
-    AreAnswered old given _ _ new after = ⊥
+    AreEventsAnswered old given [] [] new after = (new ≡ old) × (after ≡ given)
+    AreEventsAnswered old given (e ∷ es) (r ∷ rs) new after =
+        (mid : Bench T V) × (later : List (Task V G)) × IsEventAnswered old given e r mid later
+        × AreEventsAnswered mid later es rs new after
+    AreEventsAnswered old given _ _ new after = ⊥
 
     -- a list of events, which begins without jobs
-    abbrev pub Answers : Bench T V → List (Event E) → List (Reply F) → Bench T V → Type 0
-    Answers old events replies new =
-        (after : List (Task V G)) × AreAnswered old [] events replies new after
+    abbrev pub AnswersEvents : Bench T V → List (Event E) → List (Reply F) → Bench T V → Type 0
+    AnswersEvents old events replies new =
+        (after : List (Task V G)) × AreEventsAnswered old [] events replies new after

@@ -8,9 +8,9 @@ use Rattle.memo_core.specs.declared.keys.Key.{Key}
 use Rattle.memo_core.specs.declared.keys.Output.{Output as Made}
 use Rattle.memo_core.specs.declared.claims.Claim.{Claim}
 use Rattle.memo_core.specs.Graph.{named_values}
-use Rattle.memo_core.specs.Right.{Making, IsRight, IsCounted}
-use Rattle.memo_core.specs.Views.{Slot, as_memos, shown_outputs}
-use Rattle.memo_core.specs.Step.{Return, open_claims, AreNumbered}
+use Rattle.memo_core.specs.Right.{Making, IsRight, CountsAsComputed}
+use Rattle.memo_core.specs.Views.{MemoEntry, as_memos, shown_outputs}
+use Rattle.memo_core.specs.Step.{Return, open_claims, AreClaimsNumbered}
 use Rattle.memo_core.specs.Run.{Bench, Meaning, IsFreshFrom}
 use Rattle.memo_core.specs.Marks.{IsMarkedTo}
 
@@ -32,25 +32,25 @@ abbrev pub task_answered : {V G : Type 0} → Return V G → Task V G
 task_answered r = task_of r.claim r.node r.given r.keys r.values
 
 -- a return's outputs are what running its node makes, with room for their names
-pub record IsAnswer {V G : Type 0} (makes : Making V G) (n : Node) (given : G) (keys : List Key)
+pub record IsJobAnswer {V G : Type 0} (makes : Making V G) (n : Node) (given : G) (keys : List Key)
     (values : List V) (outputs : List (Made (Shown V))) (names : Vec ℕ Global) : Type 0 where
   pub computed : makes n given keys values (named_values (shown_outputs outputs))
   pub empty : vec_len names ≡ 0
   pub room : length outputs ≤ vec_capacity names
 
 -- a bench as plain data: its texts, its memos, what is out, and how many numbers are taken
-abbrev pub plain_bench : {T V : Type 0} → T → List (Slot V) → List (ℕ × Claim) → ℕ → Bench T V
+abbrev pub plain_bench : {T V : Type 0} → T → List (MemoEntry V) → List (ℕ × Claim) → ℕ → Bench T V
 plain_bench texts memos claims taken =
     record { texts = texts; memos = as_memos memos; claims = open_claims claims; taken = taken }
 
 -- its memos are right, its claims apart, its marks true
 pub record IsSoundBench {T E V G : Type 0} (means : Meaning T E V G) (texts : T)
-    (memos : List (Slot V)) (claims : List (ℕ × Claim)) (taken : ℕ) : Type 0 where
+    (memos : List (MemoEntry V)) (claims : List (ℕ × Claim)) (taken : ℕ) : Type 0 where
   pub right : means.is_valid texts
-      × IsRight (IsCounted means.since means.net means.makes texts) (means.net texts)
+      × IsRight (CountsAsComputed means.since means.net means.makes texts) (means.net texts)
       (as_memos memos) taken
   pub fresh : IsFreshFrom (as_memos memos) (open_claims claims)
-      × AreNumbered taken (open_claims claims)
+      × AreClaimsNumbered taken (open_claims claims)
   pub marks : IsMarkedTo (means.net texts) memos []
 
 -- What holds of a bench at all times: its texts are valid, each memo holds what its node makes of
@@ -59,7 +59,8 @@ pub record IsSoundBench {T E V G : Type 0} (means : Meaning T E V G) (texts : T)
 pub record IsRightBench {T E V G : Type 0} (means : Meaning T E V G) (b : Bench T V)
     : Type 0 where
   pub valid : means.is_valid b.texts
-  pub right : IsRight (IsCounted means.since means.net means.makes b.texts) (means.net b.texts)
+  pub right : IsRight (CountsAsComputed means.since means.net means.makes b.texts)
+      (means.net b.texts)
       b.memos b.taken
   pub fresh : IsFreshFrom b.memos b.claims
-  pub numbered : AreNumbered b.taken b.claims
+  pub numbered : AreClaimsNumbered b.taken b.claims

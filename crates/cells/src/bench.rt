@@ -3,8 +3,8 @@
 ghost use Rattle.std.specs.Prelude.{◌≡◌, ◌<◌, ◌≤◌, ◌+◌, leb, [], ℕ, IsTrue, IsFalse, IfOk, OnOk, OnErr, IfErr, IfSome, IfNone, Err};
 ghost use Rattle.memo_core.specs.Laws.{meaning};
 ghost use Rattle.memo_core.specs.Run.{Edit as Edited, Claim as Claimed, NoClaim, Returned, Lose as Lost, Renew as Renewed, Refused, Step};
-ghost use Rattle.memo_engine.specs.Told.{IsTold, OnNone};
-ghost use Rattle.cells.specs.Cells.{cells, IsShown, ShowsFromScratch, AllAreSettled};
+ghost use Rattle.memo_engine.specs.Told.{IsEditTold, OnNone};
+ghost use Rattle.cells.specs.Cells.{cells, IsCellShown, ShowsFromScratch, AllAreSettled};
 ghost use Rattle.cells.specs.Views.{IsRightBench};
 
 use crate::job::{Done, Job};
@@ -124,7 +124,7 @@ impl<K: StoreName, T: CellTexts> Bench<K, T> {
         ensures edited { IfOk result (λ r. IfSome r (λ _. Step
             (meaning T.net T.is_valid T.since T.makes T.keeps T.edited T.last) self.old
             (Edited edit) self.new)) }
-        ensures told { IfOk result (λ r. IfSome r (λ number. IsTold T.prepares T.commits W.told
+        ensures told { IfOk result (λ r. IfSome r (λ number. IsEditTold T.prepares T.commits W.told
             self.old.texts edit number self.new.texts witness.old witness.new)) }
         ensures unspent { OnOk result (self.old.taken < LAST) }
         ensures held { IfOk result (λ r. IfNone r (W.held witness.old witness.new)) }
@@ -190,7 +190,7 @@ impl<K: StoreName, T: CellTexts> Bench<K, T> {
 
     /// What is shown of a test under a model. It takes no memory.
     pub fn shown(&self, test: &[u8], model: &[u8]) -> Shown<'_, T::Outcome>
-        ensures shown { IsShown T.net (cells T.verdict_of T.outcome_in T.from_scratch T.reaches)
+        ensures shown { IsCellShown T.net (cells T.verdict_of T.outcome_in T.from_scratch T.reaches)
             self.now test.now model.now result }
         ensures from_scratch { ShowsFromScratch
             (cells T.verdict_of T.outcome_in T.from_scratch T.reaches) self.now.texts test.now

@@ -51,13 +51,13 @@ impl<K: StoreName, T: CellTexts> Model for Done<K, T> {
     ghost use Rattle.memo_core.specs.Step.{Return};
     ghost use Rattle.memo_core.specs.Views.{shown_values};
     ghost use Rattle.memo_engine.specs.Clauses.{return_from};
-    ghost use Rattle.cells.specs.Views.{IsAnswer};
+    ghost use Rattle.cells.specs.Views.{IsJobAnswer};
 
     ghost Value = { Return T.Value T.Given };
 
     ghost view = { λ d. return_from d.done };
 
-    ghost invariant = { λ d. IsAnswer T.makes d.done.node d.done.given d.done.keys.items
+    ghost invariant = { λ d. IsJobAnswer T.makes d.done.node d.done.given d.done.keys.items
         (shown_values d.done.values.items) d.done.outputs.items d.done.names };
 }
 

@@ -2,7 +2,7 @@
 
 ghost use Rattle.std.specs.Prelude.{◌≡◌, ◌<◌, ◌≤◌, ◌+◌, IfOk, OnErr, length, vec_len, vec_capacity};
 ghost use Rattle.memo_core.specs.Laws.{meaning};
-ghost use Rattle.cells.specs.Events.{IsAnswered, IsSameEvent, Answers};
+ghost use Rattle.cells.specs.Events.{IsEventAnswered, IsSameEvent, AnswersEvents};
 ghost use Rattle.cells.specs.Stages.{tasks_in};
 ghost use Rattle.std.specs.List.{AllZip};
 
@@ -49,7 +49,7 @@ impl<K: StoreName, T: CellTexts> Bench<K, T> {
     /// Gives out a job, which is kept with the others, for which there is room.
     fn claim_next(&mut self, alloc: Global, jobs: &mut Vec<Option<Stage<K, T>>>) -> Reply<T::Fault>
         requires { vec_len jobs.old < vec_capacity jobs.old }
-        ensures answered { IsAnswered
+        ensures answered { IsEventAnswered
             (meaning T.net T.is_valid T.since T.makes T.keeps T.edited T.last) T.refuses T.last
             self.old (tasks_in jobs.old.items) Event.Claim result self.new
             (tasks_in jobs.new.items) }
@@ -78,7 +78,7 @@ impl<K: StoreName, T: CellTexts> Bench<K, T> {
         claim: u64,
         jobs: &mut [Option<Stage<K, T>>],
     ) -> Reply<T::Fault>
-        ensures answered { IsAnswered
+        ensures answered { IsEventAnswered
             (meaning T.net T.is_valid T.since T.makes T.keeps T.edited T.last) T.refuses T.last
             self.old (tasks_in jobs.old) (Event.Return claim) result self.new (tasks_in jobs.new) }
     {
@@ -98,7 +98,7 @@ impl<K: StoreName, T: CellTexts> Bench<K, T> {
         event: Event<T::Edit>,
     ) -> Reply<T::Fault>
         requires { vec_len jobs.old < vec_capacity jobs.old }
-        ensures answered { IsAnswered
+        ensures answered { IsEventAnswered
             (meaning T.net T.is_valid T.since T.makes T.keeps T.edited T.last) T.refuses T.last
             self.old (tasks_in jobs.old.items) event result self.new (tasks_in jobs.new.items) }
         ensures len { vec_len jobs.new ≤ vec_len jobs.old + 1 }
@@ -129,7 +129,7 @@ impl<K: StoreName, T: CellTexts> Bench<K, T> {
         requires replies { vec_len replies.old ≡ 0 }
         requires jobs_fit { length events.items ≤ vec_capacity jobs.old }
         requires replies_fit { length events.items ≤ vec_capacity replies.old }
-        ensures { Answers (meaning T.net T.is_valid T.since T.makes T.keeps T.edited T.last)
+        ensures { AnswersEvents (meaning T.net T.is_valid T.since T.makes T.keeps T.edited T.last)
             T.refuses T.last self.old events.items replies.new.items self.new }
     {
         for event in events {
@@ -149,7 +149,7 @@ impl<K: StoreName, T: CellTexts> Bench<K, T> {
         alloc: Global,
         events: &[Event<T::Edit>],
     ) -> Result<Vec<Reply<T::Fault>>, AllocError>
-        ensures answered { IfOk result (λ replies. Answers
+        ensures answered { IfOk result (λ replies. AnswersEvents
             (meaning T.net T.is_valid T.since T.makes T.keeps T.edited T.last) T.refuses T.last
             self.old events.now replies.items self.new) }
         ensures err { OnErr result (self.new ≡ self.old) }

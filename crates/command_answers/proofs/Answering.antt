@@ -30,9 +30,9 @@ use Rattle.command_answers.specs.declared.stream.Answer.{Answer}
 use Rattle.from_scratch.specs.FromScratch.{IsFromScratch}
 use Rattle.command_answers.specs.Whys.{IsWhyOf, IsWhyAnswer}
 use Rattle.why_forbidden.specs.declared.answer.Asked.{Asked}
-use Rattle.command_answers.specs.Answer.{IsLogOf, IsLog, IsModelRefused, IsTestRefused, IsAnswer, IsEvaluated, RefusesModel, RefusesTest, IsRefusal, IsSaidOf, IsWritten, IsStreamed}
-use Rattle.command_answers.specs.Made.{AreWritten, IsMade}
-use Rattle.command_answers.specs.Cut.{IsCut}
+use Rattle.command_answers.specs.Answer.{IsLogOf, IsEvalLog, IsModelRefused, IsTestRefused, IsEvalAnswer, IsEvaluated, RefusesModel, RefusesTest, IsEvalRefusal, IsSaidOf, IsEvalWritten, IsStreamed}
+use Rattle.command_answers.specs.Made.{IsAnswerWritten, IsAnswerMade}
+use Rattle.command_answers.specs.Cut.{IsInputCut}
 use Rattle.session_edits.specs.Answer.{refused_line}
 use Rattle.outcome_texts.specs.Log.{log_of}
 
@@ -94,8 +94,8 @@ fault_said r report fault is h =
 
 -- the line of a refused text is an answer to the two texts
 pub refused_so : (text : List ℕ) (refused : Bool) (model test : List ℕ) (e : EvalFault)
-    → IsRefusal model test e → IsSaidOf (Err e) text refused
-    → (refused ≡ true) × IsAnswer model test text true
+    → IsEvalRefusal model test e → IsSaidOf (Err e) text refused
+    → (refused ≡ true) × IsEvalAnswer model test text true
 refused_so text refused model test (eval_faults.Model rule offset) h said =
     (said.1, RefusesModel refl rule offset h said.0)
 refused_so text refused model test (eval_faults.Test rule offset) h said =
@@ -104,21 +104,21 @@ refused_so text refused model test (eval_faults.Memory e) h said = absurd said
 
 -- so what is said of a log, of reasons and of drawings is what is answered
 pub evaluated : (r : Result Answer AllocError) (report : Result (Vec ℕ Global) EvalFault)
-    (model test : List ℕ) → IfOk report (λ log. IsLog model test log.items)
-    → IfErr report (IsRefusal model test)
+    (model test : List ℕ) → IfOk report (λ log. IsEvalLog model test log.items)
+    → IfErr report (IsEvalRefusal model test)
     → IfOk r (λ a. IsSaidOf report a.text.items a.is_refused)
-    → IfOk r (λ a. IsAnswer model test a.text.items a.is_refused)
+    → IfOk r (λ a. IsEvalAnswer model test a.text.items a.is_refused)
 evaluated (Ok a) (Ok v) model test log refusal said =
-    IsEvaluated said.1 (subst (λ (l : List ℕ). IsLog model test l) (sym said.0) log)
+    IsEvaluated said.1 (subst (λ (l : List ℕ). IsEvalLog model test l) (sym said.0) log)
 evaluated (Ok a) (Err e) model test log refusal said =
     let h = refused_so a.text.items a.is_refused model test e refusal said in
-    subst (λ (b : Bool). IsAnswer model test a.text.items b) (sym h.0) h.1
+    subst (λ (b : Bool). IsEvalAnswer model test a.text.items b) (sym h.0) h.1
 evaluated (Err f) report model test log refusal said = tt
 
 pub explained : (r : Result Answer AllocError) (report : Result (Vec ℕ Global) EvalFault)
     (asked : Asked) (model test : List ℕ)
     → IfOk report (λ text. IsWhyOf asked model test text.items)
-    → IfErr report (IsRefusal model test)
+    → IfErr report (IsEvalRefusal model test)
     → IfOk r (λ a. IsSaidOf report a.text.items a.is_refused)
     → IfOk r (λ a. IsWhyAnswer asked model test a.text.items a.is_refused)
 explained (Ok a) (Ok v) asked model test why refusal said =
@@ -132,7 +132,7 @@ explained (Err f) report asked model test why refusal said = tt
 -- what is said of an answer that was made, and what was written of it
 made_so : (is_said : List ℕ → Bool → Type 0) (made : Result Answer AllocError) (text : List ℕ)
     (refused : Bool) → IfOk made (λ a. is_said a.text.items a.is_refused)
-    → IsMade made text refused → is_said text refused
+    → IsAnswerMade made text refused → is_said text refused
 made_so is_said made text refused h (a, is, same, so) =
     let said : is_said a.text.items a.is_refused = subst (λ (m : Result Answer AllocError). IfOk m (λ a. is_said a.text.items a.is_refused)) is h in
     subst (λ (b : Bool). is_said text b) (sym so) (subst (λ (l : List ℕ). is_said l a.is_refused)
@@ -141,7 +141,7 @@ made_so is_said made text refused h (a, is, same, so) =
 pub written_so : (is_said : List ℕ → Bool → Type 0) (made : Result Answer AllocError)
     (old new : Option (List ℕ)) (r : Result Bool SessionFault)
     → IfOk made (λ a. is_said a.text.items a.is_refused)
-    → AreWritten (IsMade made) old new r → AreWritten is_said old new r
+    → IsAnswerWritten (IsAnswerMade made) old new r → IsAnswerWritten is_said old new r
 written_so is_said made old new (Ok refused) h (text, is, appends) =
     (text, made_so is_said made text refused h is, appends)
 written_so is_said made old new (Err faults.Write) h (text, refused, is, front) =
@@ -163,7 +163,7 @@ unread left known faults.Memory h k = kept known
 unread left known faults.Shared h k = absurd (k refl)
 
 pub streamed : (left old new : Option (List ℕ)) (r : Result Bool SessionFault) (model test : List ℕ)
-    → IfSome left (λ bytes. IsCut bytes model test) → IsWritten model test old new r
+    → IfSome left (λ bytes. IsInputCut bytes model test) → IsEvalWritten model test old new r
     → IsStreamed left old new r
 streamed left old new (Ok refused) model test cut h =
     record { model = model; test = test; cut = cut; written = h }

@@ -11,8 +11,8 @@ use Rattle.cat_syntax.specs.Reads as models
 use Rattle.cat_syntax.specs.Reads.{FaultAt}
 use Rattle.command_line.specs.declared.fault.SessionFault.{SessionFault}
 use Rattle.command_line.specs.declared.fault.SessionFault.TheVariants as faults
-use Rattle.command_answers.specs.Answer.{IsModelRefused, IsTestRefused, IsAnswer, IsEvaluated, RefusesModel, RefusesTest, AreAnsweredAlike, IsWritten, IsStreamed}
-use Rattle.command_answers.specs.Cut.{IsDotLine, HasNoDotLine, IsCutAt, IsCut}
+use Rattle.command_answers.specs.Answer.{IsModelRefused, IsTestRefused, IsEvalAnswer, IsEvaluated, RefusesModel, RefusesTest, AreAnsweredAlike, IsEvalWritten, IsStreamed}
+use Rattle.command_answers.specs.Cut.{IsDotLine, HasNoDotLine, IsCutAt, IsInputCut}
 use Rattle.command_answers.proofs.Answering.{streamed}
 
 -- ---- texts that are too long
@@ -77,7 +77,7 @@ test_front n model test most = by_front (front_of n test most)
     by_front : (take n test ≡ test) ⊎ ((65536 < length (take n test)) × (65536 < length test))
         → AreAnsweredAlike model (take n test) model test
     by_front (inl same) =
-        λ text refused h. subst (λ (t : List ℕ). IsAnswer model t text refused) same h
+        λ text refused h. subst (λ (t : List ℕ). IsEvalAnswer model t text refused) same h
     by_front (inr (long, more)) = long_tests model (take n test) test long more
 
 pub fronts_decide : (n : ℕ) (model test : List ℕ) → 65536 < n
@@ -88,7 +88,7 @@ fronts_decide n model test most = by_front (front_of n model most)
         → AreAnsweredAlike (take n model) (take n test) model test
     by_front (inl same) =
         λ text refused h. test_front n model test most text refused (subst
-        (λ (m : List ℕ). IsAnswer m (take n test) text refused) same h)
+        (λ (m : List ℕ). IsEvalAnswer m (take n test) text refused) same h)
     by_front (inr (long, more)) = long_models (take n model) (take n test) model test long more
 
 -- ---- every input has a cut
@@ -185,7 +185,7 @@ first_before bytes (suc n) = go_on (first_before bytes n)
 record LongCut (bytes : List ℕ) : Type 0 where
   model : List ℕ
   test : List ℕ
-  cut : IsCut bytes model test
+  cut : IsInputCut bytes model test
   long : 65536 < length model
 
 long_cut : (bytes : List ℕ) → 65536 < length bytes → HasNoDotLine bytes 65537 → LongCut bytes
@@ -236,10 +236,10 @@ dot_in_front n all i more inside d =
 record Decided (all model test : List ℕ) : Type 0 where
   m : List ℕ
   t : List ℕ
-  cut : IsCut all m t
+  cut : IsInputCut all m t
   alike : AreAnsweredAlike model test m t
 
-decided : (all model test : List ℕ) → IsCut (take 131075 all) model test → Decided all model test
+decided : (all model test : List ℕ) → IsInputCut (take 131075 all) model test → Decided all model test
 decided all model test h = by_length (cases_order 131075 (length all))
   where
     whole : length all ≤ 131075 → Decided all model test
@@ -247,7 +247,7 @@ decided all model test h = by_length (cases_order 131075 (length all))
         record {
           m = model;
           t = test;
-          cut = subst (λ (l : List ℕ). IsCut l model test) (take_all 131075 all few) h;
+          cut = subst (λ (l : List ℕ). IsInputCut l model test) (take_all 131075 all few) h;
           alike = λ text refused a. a;
         }
 
@@ -287,7 +287,7 @@ decided all model test h = by_length (cases_order 131075 (length all))
         by_order i at_i (inr (inl less)) = near i (omega arith) at_i
         by_order i at_i (inr (inr more)) = far i more at_i
 
-        by_cut : IsCut (take 131075 all) model test → Decided all model test
+        by_cut : IsInputCut (take 131075 all) model test → Decided all model test
         by_cut (inl (i, at_i)) = by_order i at_i (cases_order i 65536)
         by_cut (inr uncut) =
             let is_full = full in
@@ -303,7 +303,7 @@ decided all model test h = by_length (cases_order 131075 (length all))
 -- ---- what is written
 
 written_alike : (model test m t : List ℕ) (old new : Option (List ℕ)) (r : Result Bool SessionFault)
-    → AreAnsweredAlike model test m t → IsWritten model test old new r → IsWritten m t old new r
+    → AreAnsweredAlike model test m t → IsEvalWritten model test old new r → IsEvalWritten m t old new r
 written_alike model test m t old new (Ok refused) alike (text, answer, appended) =
     (text, alike text refused answer, appended)
 written_alike model test m t old new (Err faults.Write) alike (text, refused, answer, front) =
@@ -315,9 +315,9 @@ written_alike model test m t old new (Err faults.Shared) alike h = h
 -- the answer to the cut of the first bytes that were left is that to the cut of all
 pub streamed_front : (left old new : Option (List ℕ)) (r : Result Bool SessionFault)
     (kept model test : List ℕ) → IfSome left (λ all. kept ≡ take 131075 all)
-    → IsCut kept model test → IsWritten model test old new r → IsStreamed left old new r
+    → IsInputCut kept model test → IsEvalWritten model test old new r → IsStreamed left old new r
 streamed_front None old new r kept model test front cut h = streamed None old new r model test tt h
 streamed_front (Some all) old new r kept model test front cut h =
-    let d = decided all model test (subst (λ (l : List ℕ). IsCut l model test) front cut) in
+    let d = decided all model test (subst (λ (l : List ℕ). IsInputCut l model test) front cut) in
     streamed (Some all) old new r d.m d.t d.cut
     (written_alike model test d.m d.t old new r d.alike h)

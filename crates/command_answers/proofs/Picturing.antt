@@ -6,7 +6,7 @@ use Rattle.std.specs.declared.vec.Vec.{Vec}
 use Rattle.command_line.specs.declared.form.Drawn.{Drawn}
 use Rattle.command_answers.specs.declared.fault.EvalFault.{EvalFault}
 use Rattle.command_answers.specs.declared.stream.Answer.{Answer}
-use Rattle.command_answers.specs.Answer.{IsRefusal, IsSaidOf}
+use Rattle.command_answers.specs.Answer.{IsEvalRefusal, IsSaidOf}
 use Rattle.command_answers.specs.Pictures.{IsPictureOf, IsPictureAnswer}
 use Rattle.command_answers.proofs.Answering.{refused_so}
 
@@ -14,7 +14,7 @@ use Rattle.command_answers.proofs.Answering.{refused_so}
 pub pictured : (r : Result Answer AllocError) (report : Result (Vec ℕ Global) EvalFault)
     (drawn : Drawn) (most : ℕ) (model test : List ℕ)
     → IfOk report (λ text. IsPictureOf drawn most model test text.items)
-    → IfErr report (IsRefusal model test)
+    → IfErr report (IsEvalRefusal model test)
     → IfOk r (λ a. IsSaidOf report a.text.items a.is_refused)
     → IfOk r (λ a. IsPictureAnswer drawn most model test a.text.items a.is_refused)
 pictured (Ok a) (Ok v) drawn most model test picture refusal said =

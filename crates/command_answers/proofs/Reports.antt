@@ -21,7 +21,7 @@ use Rattle.from_scratch.specs.Suites.{AreOutcomes}
 use Rattle.session_answers.specs.declared.rows.TestOutcomes.{TestOutcomes}
 use Rattle.session_answers.specs.Rows.{HasOutcomes, row_said}
 use Rattle.session_answers.proofs.Named.{first_is, rest_is, no_first}
-use Rattle.command_answers.specs.Reports.{IsCellUnder, IsRow}
+use Rattle.command_answers.specs.Reports.{IsCellUnder, IsReportRow}
 
 pub no_models : (models : List NamedModel) (faults : List ℕ) → models ≡ [] → faults ≡ []
     → AreModels [] models faults
@@ -88,7 +88,7 @@ cells_said test (m ∷ ms) (t ∷ ts) (o ∷ os) e h =
 
 all_said : (tests : List Test) (models : List NamedModel) (texts : List (Bor ModelText))
     (rows : List TestOutcomes) → map (λ t. t.now) texts ≡ map (λ m. m.model) models
-    → AllZip (HasOutcomes texts) tests rows → AllZip (IsRow models) tests (map row_said rows)
+    → AllZip (HasOutcomes texts) tests rows → AllZip (IsReportRow models) tests (map row_said rows)
 all_said [] models texts [] e h = tt
 all_said [] models texts (r ∷ rs) e h = absurd h
 all_said (t ∷ ts) models texts [] e h = absurd h
@@ -102,7 +102,7 @@ pub rows_said : (tests : List Test) (models : List NamedModel) (texts : List (Bo
     (r : Result (Vec TestOutcomes Global) AllocError)
     → map (λ t. t.now) texts ≡ map (λ m. m.model) models
     → IfOk r (λ v. AllZip (HasOutcomes texts) tests v.items)
-    → IfOk r (λ v. AllZip (IsRow models) tests (map row_said v.items))
+    → IfOk r (λ v. AllZip (IsReportRow models) tests (map row_said v.items))
 rows_said tests models texts (Ok rows) e h = all_said tests models texts rows.items e h
 rows_said tests models texts (Err fault) e h = tt
 

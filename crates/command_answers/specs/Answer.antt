@@ -21,10 +21,10 @@ use Rattle.command_answers.specs.declared.fault.EvalFault.{EvalFault}
 use Rattle.command_answers.specs.declared.fault.EvalFault.TheVariants as eval_faults
 use Rattle.command_line.specs.declared.fault.SessionFault.{SessionFault}
 use Rattle.command_line.specs.declared.fault.SessionFault.TheVariants as session_faults
-use Rattle.command_answers.specs.Cut.{IsCut}
+use Rattle.command_answers.specs.Cut.{IsInputCut}
 use Rattle.outcome_texts.specs.Log.{log_of}
 use Rattle.session_edits.specs.Answer.{refused_line}
-use Rattle.command_answers.specs.Made.{AreWritten}
+use Rattle.command_answers.specs.Made.{IsAnswerWritten}
 
 -- ---- what a test that was read says under a model that was read
 
@@ -33,7 +33,7 @@ abbrev pub IsLogOf : Test → ModelText → List ℕ → Type 0
 IsLogOf test model log = (o : Outcome) × IsFromScratch test model o × (log ≡ log_of test.name o)
 
 -- the log of the test and the model that the two texts mean
-pub record IsLog (model test log : List ℕ) : Type 0 where
+pub record IsEvalLog (model test log : List ℕ) : Type 0 where
   pub items : ModelText
   pub model_read : Reads Model model (clauses_of items.items.items)
   pub known : Test
@@ -57,34 +57,36 @@ abbrev pub IsModel : List ℕ → Type 0
 IsModel model = (v : List cat_value.Clause) × Reads Model model v
 
 -- what stands in the way of a log: the fault of the model's text,
-abbrev pub IsOfModel : List ℕ → EvalFault → Type 0
-IsOfModel model (eval_faults.Model rule offset) = IsModelRefused model rule offset
-IsOfModel model (eval_faults.Test rule offset) = ⊥
-IsOfModel model (eval_faults.Memory e) = Unit {0}
+abbrev pub IsModelEvalFault : List ℕ → EvalFault → Type 0
+IsModelEvalFault model (eval_faults.Model rule offset) = IsModelRefused model rule offset
+IsModelEvalFault model (eval_faults.Test rule offset) = ⊥
+IsModelEvalFault model (eval_faults.Memory e) = Unit {0}
 
 -- that of the test's text,
-abbrev pub IsOfTest : List ℕ → EvalFault → Type 0
-IsOfTest test (eval_faults.Model rule offset) = ⊥
-IsOfTest test (eval_faults.Test rule offset) = IsTestRefused test rule offset
-IsOfTest test (eval_faults.Memory e) = Unit {0}
+abbrev pub IsTestEvalFault : List ℕ → EvalFault → Type 0
+IsTestEvalFault test (eval_faults.Model rule offset) = ⊥
+IsTestEvalFault test (eval_faults.Test rule offset) = IsTestRefused test rule offset
+IsTestEvalFault test (eval_faults.Memory e) = Unit {0}
 
 -- the first of the two, or want of memory
-abbrev pub IsRefusal : List ℕ → List ℕ → EvalFault → Type 0
-IsRefusal model test (eval_faults.Model rule offset) = IsModelRefused model rule offset
-IsRefusal model test (eval_faults.Test rule offset) = IsModel model × IsTestRefused test rule offset
-IsRefusal model test (eval_faults.Memory e) = Unit {0}
+abbrev pub IsEvalRefusal : List ℕ → List ℕ → EvalFault → Type 0
+IsEvalRefusal model test (eval_faults.Model rule offset) = IsModelRefused model rule offset
+IsEvalRefusal model test (eval_faults.Test rule offset) =
+    IsModel model × IsTestRefused test rule offset
+IsEvalRefusal model test (eval_faults.Memory e) = Unit {0}
 
 -- ---- answers
 
 -- this is said of the two texts, where `refused` is whether one is refused: the log, or the line of
 -- the first text that is refused
-pub data IsAnswer (model test text : List ℕ) (refused : Bool) : Type 0 where
-  IsEvaluated : refused ≡ false → IsLog model test text → IsAnswer model test text refused
+pub data IsEvalAnswer (model test text : List ℕ) (refused : Bool) : Type 0 where
+  IsEvaluated : refused ≡ false → IsEvalLog model test text → IsEvalAnswer model test text refused
   RefusesModel : refused ≡ true → (rule : CatRule) → (offset : ℕ) → IsModelRefused model rule offset
-      → text ≡ refused_line 67 (model_rule_number rule) offset → IsAnswer model test text refused
+      → text ≡ refused_line 67 (model_rule_number rule) offset
+      → IsEvalAnswer model test text refused
   RefusesTest : refused ≡ true → (rule : LitmusRule) → (offset : ℕ) → IsModel model
       → IsTestRefused test rule offset → text ≡ refused_line 76 (test_rule_number rule) offset
-      → IsAnswer model test text refused
+      → IsEvalAnswer model test text refused
 
 -- what is printed of a report, where `refused` is whether it was refused: the report, or the line
 -- of the refusal
@@ -99,14 +101,14 @@ IsSaidOf (Err (eval_faults.Memory e)) text refused = ⊥
 -- whatever is said of the first two texts is said of the other two
 abbrev pub AreAnsweredAlike : List ℕ → List ℕ → List ℕ → List ℕ → Type 0
 AreAnsweredAlike model test other_model other_test =
-    (text : List ℕ) (refused : Bool) → IsAnswer model test text refused
-    → IsAnswer other_model other_test text refused
+    (text : List ℕ) (refused : Bool) → IsEvalAnswer model test text refused
+    → IsEvalAnswer other_model other_test text refused
 
 -- the bytes of a sink, before and after an answer was written: all of it, or a front of it where a
 -- write failed, and else nothing
-abbrev pub IsWritten : List ℕ → List ℕ → Option (List ℕ) → Option (List ℕ)
+abbrev pub IsEvalWritten : List ℕ → List ℕ → Option (List ℕ) → Option (List ℕ)
     → Result Bool SessionFault → Type 0
-IsWritten model test old new result = AreWritten (IsAnswer model test) old new result
+IsEvalWritten model test old new result = IsAnswerWritten (IsEvalAnswer model test) old new result
 
 -- the same for the two texts into which an input is cut, of which these bytes are left, where they
 -- are known
@@ -114,8 +116,8 @@ pub record IsWrittenOf (left old new : Option (List ℕ)) (result : Result Bool 
     : Type 0 where
   pub model : List ℕ
   pub test : List ℕ
-  pub cut : IfSome left (λ bytes. IsCut bytes model test)
-  pub written : IsWritten model test old new result
+  pub cut : IfSome left (λ bytes. IsInputCut bytes model test)
+  pub written : IsEvalWritten model test old new result
 
 -- a stream's answer: nothing is written unless the whole input was read
 abbrev pub IsStreamed : Option (List ℕ) → Option (List ℕ) → Option (List ℕ)

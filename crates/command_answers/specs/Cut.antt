@@ -26,5 +26,5 @@ pub record IsUncut (bytes model test : List ℕ) : Type 0 where
   pub empty : test ≡ []
 
 -- the texts before and after the first line that is exactly a full stop
-abbrev pub IsCut : List ℕ → List ℕ → List ℕ → Type 0
-IsCut bytes model test = ((i : ℕ) × IsCutAt bytes model test i) ⊎ IsUncut bytes model test
+abbrev pub IsInputCut : List ℕ → List ℕ → List ℕ → Type 0
+IsInputCut bytes model test = ((i : ℕ) × IsCutAt bytes model test i) ⊎ IsUncut bytes model test

@@ -13,14 +13,14 @@ use Rattle.why_forbidden.specs.Drawings.{IsDrawn}
 use Rattle.command_line.specs.declared.fault.SessionFault.{SessionFault}
 use Rattle.command_line.specs.declared.form.Drawn.{Drawn}
 use Rattle.command_line.specs.declared.form.Drawn.TheVariants as drawns
-use Rattle.command_answers.specs.Answer.{IsAnswer}
-use Rattle.command_answers.specs.Made.{AreWritten}
+use Rattle.command_answers.specs.Answer.{IsEvalAnswer}
+use Rattle.command_answers.specs.Made.{IsAnswerWritten}
 
 -- the executions that a word of the command line asks for
-abbrev pub wanted : Drawn → Wanted
-wanted drawns.Shown = wanteds.Shown
-wanted drawns.Forbidden = wanteds.Forbidden
-wanted drawns.All = wanteds.All
+abbrev pub wanted_executions : Drawn → Wanted
+wanted_executions drawns.Shown = wanteds.Shown
+wanted_executions drawns.Forbidden = wanteds.Forbidden
+wanted_executions drawns.All = wanteds.All
 
 -- what is drawn of the test and the model that the two texts mean
 pub record IsPictureOf (drawn : Drawn) (most : ℕ) (model test text : List ℕ) : Type 0 where
@@ -28,16 +28,16 @@ pub record IsPictureOf (drawn : Drawn) (most : ℕ) (model test text : List ℕ)
   pub model_read : Reads Model model (clauses_of items.items.items)
   pub known : Test
   pub test_read : ReadsTest test (content_of known)
-  pub pictured : IsDrawn (wanted drawn) most known items text
+  pub pictured : IsDrawn (wanted_executions drawn) most known items text
 
 -- that, or the line of the first text that is refused
 abbrev pub IsPictureAnswer : Drawn → ℕ → List ℕ → List ℕ → List ℕ → Bool → Type 0
 IsPictureAnswer drawn most model test text false = IsPictureOf drawn most model test text
-IsPictureAnswer drawn most model test text true = IsAnswer model test text true
+IsPictureAnswer drawn most model test text true = IsEvalAnswer model test text true
 
 -- the bytes of a sink, before and after: the answer, or a front of it where a write failed, and
 -- else nothing
 abbrev pub IsPictureWritten : Drawn → ℕ → List ℕ → List ℕ → Option (List ℕ) → Option (List ℕ)
     → Result Bool SessionFault → Type 0
 IsPictureWritten drawn most model test old new result =
-    AreWritten (IsPictureAnswer drawn most model test) old new result
+    IsAnswerWritten (IsPictureAnswer drawn most model test) old new result

@@ -86,30 +86,31 @@ IsCellUnder test m Open = ⊥
 IsCellUnder test m (Settled o) = IsFromScratch test m.model o
 
 -- the row of a test under these models
-pub record IsRow (models : List NamedModel) (test : Test) (row : Row) : Type 0 where
+pub record IsReportRow (models : List NamedModel) (test : Test) (row : Row) : Type 0 where
   pub name : row.name ≡ test.name
   pub cells : AllZip (IsCellUnder test) models row.cells
 
 -- what the files hold: the first faults are those of the models
-pub record AreRead (model_files test_files : List TextFile) (models : List NamedModel)
+pub record AreFilesRead (model_files test_files : List TextFile) (models : List NamedModel)
     (rows : List Row) (faults : List ℕ) : Type 0 where
   pub model_faults : List ℕ
   pub models_read : AreModels model_files models model_faults
   pub tests : List Test
   pub tests_read : AreTests model_faults test_files tests faults
-  pub rows_said : AllZip (IsRow models) tests rows
+  pub rows_said : AllZip (IsReportRow models) tests rows
 
 -- ---- reports
 
-abbrev pub names_of : List NamedModel → List (List ℕ)
-names_of models = map (λ m. m.name) models
+abbrev pub model_names : List NamedModel → List (List ℕ)
+model_names models = map (λ m. m.name) models
 
 -- the table of the tests under the models, and the lines of the files that are refused
-pub record IsTable (model_files test_files : List TextFile) (text faults : List ℕ) : Type 0 where
+pub record IsTableReport (model_files test_files : List TextFile) (text faults : List ℕ)
+    : Type 0 where
   pub models : List NamedModel
   pub rows : List Row
-  pub read : AreRead model_files test_files models rows faults
-  pub text_is : text ≡ table_of (names_of models) rows
+  pub read : AreFilesRead model_files test_files models rows faults
+  pub text_is : text ≡ table_of (model_names models) rows
 
 -- where two models tell the tests apart: nothing where they are not two
 abbrev pub difference_under : List NamedModel → List Row → List ℕ
@@ -118,11 +119,11 @@ difference_under (m ∷ []) rows = []
 difference_under (m ∷ n ∷ []) rows = difference_of (map pair_in rows)
 difference_under (m ∷ n ∷ o ∷ ms) rows = []
 
-pub record IsDifference (model_files test_files : List TextFile) (text faults : List ℕ)
+pub record IsDifferenceReport (model_files test_files : List TextFile) (text faults : List ℕ)
     : Type 0 where
   pub models : List NamedModel
   pub rows : List Row
-  pub read : AreRead model_files test_files models rows faults
+  pub read : AreFilesRead model_files test_files models rows faults
   pub text_is : text ≡ difference_under models rows
 
 -- One call failed and none followed it: one to the faults' sink, before the text was written, or

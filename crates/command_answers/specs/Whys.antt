@@ -10,8 +10,8 @@ use Rattle.cat_syntax.specs.Reads.{Reads}
 use Rattle.why_forbidden.specs.declared.answer.Asked.{Asked}
 use Rattle.why_forbidden.specs.Whys.{IsWhy}
 use Rattle.command_line.specs.declared.fault.SessionFault.{SessionFault}
-use Rattle.command_answers.specs.Answer.{IsAnswer}
-use Rattle.command_answers.specs.Made.{AreWritten}
+use Rattle.command_answers.specs.Answer.{IsEvalAnswer}
+use Rattle.command_answers.specs.Made.{IsAnswerWritten}
 
 -- what is said of the test and the model that the two texts mean
 pub record IsWhyOf (asked : Asked) (model test text : List ℕ) : Type 0 where
@@ -24,11 +24,11 @@ pub record IsWhyOf (asked : Asked) (model test text : List ℕ) : Type 0 where
 -- that, or the line of the first text that is refused
 abbrev pub IsWhyAnswer : Asked → List ℕ → List ℕ → List ℕ → Bool → Type 0
 IsWhyAnswer asked model test text false = IsWhyOf asked model test text
-IsWhyAnswer asked model test text true = IsAnswer model test text true
+IsWhyAnswer asked model test text true = IsEvalAnswer model test text true
 
 -- the bytes of a sink, before and after: the answer, or a front of it where a write failed, and
 -- else nothing
 abbrev pub IsWhyWritten : Asked → List ℕ → List ℕ → Option (List ℕ) → Option (List ℕ)
     → Result Bool SessionFault → Type 0
 IsWhyWritten asked model test old new result =
-    AreWritten (IsWhyAnswer asked model test) old new result
+    IsAnswerWritten (IsWhyAnswer asked model test) old new result

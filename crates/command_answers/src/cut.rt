@@ -1,7 +1,7 @@
 //! A model and a test in one input.
 
 ghost use Rattle.std.specs.Prelude.{◌≡◌, ◌≢◌, ℕ, ◌+◌, ◌<◌, ◌≤◌, length, slice_index};
-ghost use Rattle.command_answers.specs.Cut.{IsCut};
+ghost use Rattle.command_answers.specs.Cut.{IsInputCut};
 
 use text_values::line_length;
 
@@ -20,7 +20,7 @@ fn line_end(bytes: &[u8], start: usize) -> usize
 /// The bytes before the first line that is exactly `.`, and those after it: all and none where
 /// there is no such line.
 pub fn cut_at_dot(bytes: &[u8]) -> (&[u8], &[u8])
-    ensures { IsCut bytes.now result.0.now result.1.now }
+    ensures { IsInputCut bytes.now result.0.now result.1.now }
 {
     let mut start = 0;
     while start < bytes.len() {

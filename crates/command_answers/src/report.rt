@@ -5,8 +5,8 @@ ghost use Rattle.std.specs.List.{AllZip};
 ghost use Rattle.std.specs.Io.KnownBytes.{Appends};
 ghost use Rattle.outcome_texts.specs.Columns.{table_of};
 ghost use Rattle.session_answers.specs.Rows.{row_said};
-ghost use Rattle.command_answers.specs.Reports.{IsRow, AreRead, names_of, IsTable, difference_under, IsDifference, IsStopped};
-ghost use Rattle.session_script.specs.Written.{WritesFront};
+ghost use Rattle.command_answers.specs.Reports.{IsReportRow, AreFilesRead, model_names, IsTableReport, difference_under, IsDifferenceReport, IsStopped};
+ghost use Rattle.session_script.specs.Written.{WritesPrefix};
 
 use crate::file::TextFile;
 use crate::reading::{NamedModel, read_models, read_tests};
@@ -51,7 +51,7 @@ fn all_outcomes<L: ProgressListener>(
     models: &[NamedModel],
     listener: &mut L,
 ) -> Result<Vec<TestOutcomes>, AllocError>
-    ensures { IfOk result (λ v. AllZip (IsRow models.now) tests.now (map row_said v.items)) }
+    ensures { IfOk result (λ v. AllZip (IsReportRow models.now) tests.now (map row_said v.items)) }
 {
     let texts = model_texts(alloc, models)?;
     test_outcomes(alloc, tests, &texts, listener)
@@ -63,7 +63,7 @@ fn evaluate_files<L: ProgressListener>(
     tests: &[TextFile<'_>],
     listener: &mut L,
 ) -> Result<EvaluatedFiles, AllocError>
-    ensures { IfOk result (λ e. AreRead models.now tests.now e.models.items
+    ensures { IfOk result (λ e. AreFilesRead models.now tests.now e.models.items
         (map row_said e.rows.items) e.faults.items) }
 {
     let known = read_models(alloc, models)?;
@@ -77,7 +77,7 @@ fn evaluate_files<L: ProgressListener>(
 }
 
 fn names(alloc: Global, models: &[NamedModel]) -> Result<Vec<Name>, AllocError>
-    ensures { IfOk result (λ v. v.items ≡ names_of models.now) }
+    ensures { IfOk result (λ v. v.items ≡ model_names models.now) }
 {
     let mut names = Vec::with_capacity(alloc, models.len())?;
     for model in models {
@@ -91,7 +91,8 @@ fn table_of_rows(
     models: &[NamedModel],
     rows: &[TestOutcomes],
 ) -> Result<Vec<u8>, AllocError>
-    ensures { IfOk result (λ v. v.items ≡ table_of (names_of models.now) (map row_said rows.now)) }
+    ensures { IfOk result
+        (λ v. v.items ≡ table_of (model_names models.now) (map row_said rows.now)) }
 {
     let names = names(alloc, models)?;
     let rows = test_rows(alloc, rows)?;
@@ -106,7 +107,7 @@ pub fn table_report<L: ProgressListener>(
     tests: &[TextFile<'_>],
     listener: &mut L,
 ) -> Result<Report, AllocError>
-    ensures { IfOk result (λ r. IsTable models.now tests.now r.text.items r.faults.items) }
+    ensures { IfOk result (λ r. IsTableReport models.now tests.now r.text.items r.faults.items) }
 {
     let found = evaluate_files(alloc, models, tests, listener)?;
     let text = table_of_rows(alloc, &found.models, &found.rows)?;
@@ -138,7 +139,8 @@ pub fn difference_report<L: ProgressListener>(
     tests: &[TextFile<'_>],
     listener: &mut L,
 ) -> Result<Report, AllocError>
-    ensures { IfOk result (λ r. IsDifference models.now tests.now r.text.items r.faults.items) }
+    ensures { IfOk result
+        (λ r. IsDifferenceReport models.now tests.now r.text.items r.faults.items) }
 {
     let found = evaluate_files(alloc, models, tests, listener)?;
     let text = difference_of_rows(alloc, &found.models, &found.rows)?;
@@ -164,9 +166,9 @@ pub fn write_report<W: ByteSink, E: ByteSink>(
         report.now.text.items) }
     ensures faults { OnOk result (Appends (E.contents errors.old) (E.contents errors.new)
         report.now.faults.items) }
-    ensures text_front { WritesFront (W.contents output.old) (W.contents output.new)
+    ensures text_front { WritesPrefix (W.contents output.old) (W.contents output.new)
         report.now.text.items }
-    ensures faults_front { WritesFront (E.contents errors.old) (E.contents errors.new)
+    ensures faults_front { WritesPrefix (E.contents errors.old) (E.contents errors.new)
         report.now.faults.items }
     // `Write` comes after one failed call, which is the last, and there is no other error.
     ensures failed { OnErr result (IsStopped (W.failed_calls output.old) (W.failed_calls output.new)

@@ -2,8 +2,8 @@
 
 ghost use Rattle.std.specs.Prelude.{◌≡◌, ◌≢◌, ◌+◌, ◌-◌, ◌<◌, ◌^◌, true, Err, IfOk, IfSome, OnOk, take};
 ghost use Rattle.std.specs.Io.KnownBytes.{IsAtEnd};
-ghost use Rattle.command_answers.specs.Answer.{IsAnswer, IsReadFault, IsSaidOf, IsWritten, IsStreamed};
-ghost use Rattle.command_answers.specs.Made.{AreWritten, IsMade};
+ghost use Rattle.command_answers.specs.Answer.{IsEvalAnswer, IsReadFault, IsSaidOf, IsEvalWritten, IsStreamed};
+ghost use Rattle.command_answers.specs.Made.{IsAnswerWritten, IsAnswerMade};
 ghost use Rattle.command_answers.specs.Pictures.{IsPictureAnswer, IsPictureWritten};
 ghost use Rattle.command_answers.specs.Whys.{IsWhyAnswer, IsWhyWritten};
 ghost use Rattle.session_edits.specs.Answer.{refused_line};
@@ -67,7 +67,8 @@ fn write_made<W: ByteSink>(
     sink: &mut W,
 ) -> Result<bool, SessionFault>
     requires { W.failed_calls sink.old < 2 ^ 64 - 1 }
-    ensures written { AreWritten (IsMade made) (W.contents sink.old) (W.contents sink.new) result }
+    ensures written { IsAnswerWritten (IsAnswerMade made) (W.contents sink.old)
+        (W.contents sink.new) result }
     ensures failed { result ≡ Err SessionFault.Write
         → W.failed_calls sink.new ≡ W.failed_calls sink.old + 1 }
     ensures same { result ≢ Err SessionFault.Write
@@ -85,7 +86,7 @@ fn write_made<W: ByteSink>(
 }
 
 fn answer_to(alloc: Global, model: &[u8], test: &[u8]) -> Result<Answer, AllocError>
-    ensures { IfOk result (λ a. IsAnswer model.now test.now a.text.items a.is_refused) }
+    ensures { IfOk result (λ a. IsEvalAnswer model.now test.now a.text.items a.is_refused) }
 {
     answer_of(alloc, eval(alloc, model, test))
 }
@@ -101,7 +102,7 @@ pub fn write_answer<W: ByteSink>(
 ) -> Result<bool, SessionFault>
     requires { W.failed_calls sink.old < 2 ^ 64 - 1 }
     // The answer is written, or a front of it where a write failed, and else nothing.
-    ensures written { IsWritten model.now test.now (W.contents sink.old) (W.contents sink.new)
+    ensures written { IsEvalWritten model.now test.now (W.contents sink.old) (W.contents sink.new)
         result }
     // `Write` comes after one failed call, and all else after none.
     ensures failed { result ≡ Err SessionFault.Write

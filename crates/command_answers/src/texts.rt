@@ -8,7 +8,7 @@ ghost use Rattle.litmus_grammar.specs.Texts.{ReadsTest};
 ghost use Rattle.text_values.specs.TestValue.{content_of};
 ghost use Rattle.command_answers.specs.Pictures as pictures;
 ghost use Rattle.command_answers.specs.Pictures.{IsPictureOf};
-ghost use Rattle.command_answers.specs.Answer.{IsLogOf, IsLog, IsRefusal, IsOfModel, IsOfTest};
+ghost use Rattle.command_answers.specs.Answer.{IsLogOf, IsEvalLog, IsEvalRefusal, IsModelEvalFault, IsTestEvalFault};
 ghost use Rattle.command_answers.specs.Whys.{IsWhyOf};
 
 use crate::fault::EvalFault;
@@ -29,7 +29,7 @@ struct KnownTexts {
 
 fn model_of(alloc: Global, text: &[u8]) -> Result<ModelText, EvalFault>
     ensures found { IfOk result (λ m. Reads Form.Model text.now (clauses_of m.items.items)) }
-    ensures fault { IfErr result (IsOfModel text.now) }
+    ensures fault { IfErr result (IsModelEvalFault text.now) }
 {
     match read_model(alloc, text) {
         Ok(model) => Ok(model),
@@ -40,7 +40,7 @@ fn model_of(alloc: Global, text: &[u8]) -> Result<ModelText, EvalFault>
 
 fn test_of(alloc: Global, text: &[u8]) -> Result<Test, EvalFault>
     ensures found { IfOk result (λ t. ReadsTest text.now (content_of t)) }
-    ensures fault { IfErr result (IsOfTest text.now) }
+    ensures fault { IfErr result (IsTestEvalFault text.now) }
 {
     match read_test(alloc, text) {
         Ok(test) => Ok(test),
@@ -54,7 +54,7 @@ fn known_texts(alloc: Global, model: &[u8], test: &[u8]) -> Result<KnownTexts, E
     ensures model_read { IfOk result (λ k.
         Reads Form.Model model.now (clauses_of k.model.items.items)) }
     ensures test_read { IfOk result (λ k. ReadsTest test.now (content_of k.test)) }
-    ensures refusal { IfErr result (IsRefusal model.now test.now) }
+    ensures refusal { IfErr result (IsEvalRefusal model.now test.now) }
 {
     let known_model = match model_of(alloc, model) {
         Ok(known) => known,
@@ -80,9 +80,9 @@ fn outcome_text(alloc: Global, test: &Test, model: &ModelText) -> Result<Vec<u8>
 /// model breaks, with its byte, then that of the test, or want of memory.
 pub fn eval(alloc: Global, model: &[u8], test: &[u8]) -> Result<Vec<u8>, EvalFault>
     // A log is that of an outcome of the test and the model that the texts mean.
-    ensures log { IfOk result (λ log. IsLog model.now test.now log.items) }
+    ensures log { IfOk result (λ log. IsEvalLog model.now test.now log.items) }
     // A refusal is that of the first text that means nothing.
-    ensures refusal { IfErr result (IsRefusal model.now test.now) }
+    ensures refusal { IfErr result (IsEvalRefusal model.now test.now) }
 {
     let known = match known_texts(alloc, model, test) {
         Ok(known) => known,
@@ -105,7 +105,7 @@ pub fn why_report(
     // A report is what is said of the test and the model that the texts mean.
     ensures report { IfOk result (λ text. IsWhyOf asked model.now test.now text.items) }
     // A refusal is that of the first text that means nothing.
-    ensures refusal { IfErr result (IsRefusal model.now test.now) }
+    ensures refusal { IfErr result (IsEvalRefusal model.now test.now) }
 {
     let known = match known_texts(alloc, model, test) {
         Ok(known) => known,
@@ -118,7 +118,7 @@ pub fn why_report(
 }
 
 fn wanted(drawn: Drawn) -> Wanted
-    ensures { result ≡ pictures.wanted drawn }
+    ensures { result ≡ pictures.wanted_executions drawn }
 {
     match drawn {
         Drawn::Shown => Wanted::Shown,
@@ -139,7 +139,7 @@ pub fn draw_report(
     // A report is what is drawn of the test and the model that the texts mean.
     ensures report { IfOk result (λ text. IsPictureOf drawn most model.now test.now text.items) }
     // A refusal is that of the first text that means nothing.
-    ensures refusal { IfErr result (IsRefusal model.now test.now) }
+    ensures refusal { IfErr result (IsEvalRefusal model.now test.now) }
 {
     let known = match known_texts(alloc, model, test) {
         Ok(known) => known,

@@ -1,7 +1,8 @@
 //! What the words of a command line ask for.
 
 ghost use Rattle.std.specs.Prelude.{◌≡◌, ◌≤◌, ◌+◌, Some, None, IfOk, OnErr, length, option_map};
-ghost use Rattle.command_line.specs.Forms.{texts_of, asked_by, is_path, are_paths, dashes, word_at, eval_of, table_of, diff_of, why_of, number_in, begins, number_behind, session_with, session_in, session_of_one, session_of_two, session_of_three, session_of, paths_of, options_of, has_option, count_of, why_with, watch_with, watch_of, drawn_of, draw_with, draw_of_one, draw_of_two, draw_of_three, draw_by, draw_of, text_of, by_command, asked_in};
+ghost use Rattle.session_script.specs.Requests.{word_at};
+ghost use Rattle.command_line.specs.Forms.{borrowed_words, asked_by_form, is_path, are_paths, dashes, eval_of, table_of, diff_of, why_of, number_in, begins, number_behind, session_with, session_in, session_of_one, session_of_two, session_of_three, session_of, paths_of, options_of, has_option, count_of, why_with, watch_with, watch_of, drawn_of, draw_with, draw_of_one, draw_of_two, draw_of_three, draw_by, draw_of, borrowed_word, by_command, asked_by_words};
 
 use clap::Error;
 use command_usage::usage;
@@ -90,7 +91,7 @@ fn is_path(word: &str) -> bool
 }
 
 fn are_paths(words: &[&str]) -> bool
-    ensures { result ≡ are_paths (texts_of words.now) }
+    ensures { result ≡ are_paths (borrowed_words words.now) }
 {
     for i in 0..words.len() {
         if !is_path(word_at(words, i)) {
@@ -102,7 +103,7 @@ fn are_paths(words: &[&str]) -> bool
 
 // Where the first `--` is, or the number of words.
 fn dashes(words: &[&str]) -> usize
-    ensures value { result ≡ dashes (texts_of words.now) }
+    ensures value { result ≡ dashes (borrowed_words words.now) }
     ensures within { result ≤ length words.now }
 {
     for i in 0..words.len() {
@@ -115,7 +116,7 @@ fn dashes(words: &[&str]) -> usize
 
 // The word of this index, or the empty word.
 fn word_at<'w, 'a>(words: &'w [&'a str], index: usize) -> &'a str
-    ensures { result.now ≡ word_at (texts_of words.now) index }
+    ensures { result.now ≡ word_at (borrowed_words words.now) index }
 {
     match words.get(index) {
         Some(word) => *word,
@@ -124,7 +125,7 @@ fn word_at<'w, 'a>(words: &'w [&'a str], index: usize) -> &'a str
 }
 
 fn eval_form<'a>(words: &'a [&'a str]) -> Option<Form<'a>>
-    ensures { option_map asked_by result ≡ eval_of (texts_of words.now) }
+    ensures { option_map asked_by_form result ≡ eval_of (borrowed_words words.now) }
 {
     if words.len() == 2 && are_paths(words) {
         return Some(Form::Eval {
@@ -136,8 +137,8 @@ fn eval_form<'a>(words: &'a [&'a str]) -> Option<Form<'a>>
 }
 
 fn table_form<'a>(words: &'a [&'a str]) -> Option<Form<'a>>
-    ensures { option_map asked_by result
-        ≡ table_of (texts_of words.now) (dashes (texts_of words.now)) }
+    ensures { option_map asked_by_form result
+        ≡ table_of (borrowed_words words.now) (dashes (borrowed_words words.now)) }
 {
     let split = dashes(words);
     if split == 0 || words.len() - split < 2 {
@@ -154,7 +155,7 @@ fn table_form<'a>(words: &'a [&'a str]) -> Option<Form<'a>>
 }
 
 fn diff_form<'a>(words: &'a [&'a str]) -> Option<Form<'a>>
-    ensures { option_map asked_by result ≡ diff_of (texts_of words.now) }
+    ensures { option_map asked_by_form result ≡ diff_of (borrowed_words words.now) }
 {
     if words.len() > 2 && are_paths(words) {
         return Some(Form::Diff {
@@ -192,7 +193,7 @@ fn number_behind(word: &str, front: &str) -> Option<u64>
 }
 
 fn session_with<'a>(script: Option<&'a str>, workers: Option<u64>) -> Option<Form<'a>>
-    ensures { option_map asked_by result ≡ session_with (text_of script.entry) workers }
+    ensures { option_map asked_by_form result ≡ session_with (borrowed_word script.entry) workers }
 {
     match workers {
         Some(workers) if workers <= MOST_WORKERS => Some(Form::Session { script, workers }),
@@ -201,7 +202,7 @@ fn session_with<'a>(script: Option<&'a str>, workers: Option<u64>) -> Option<For
 }
 
 fn session_in<'a>(script: &'a str, workers: Option<u64>) -> Option<Form<'a>>
-    ensures { option_map asked_by result ≡ session_in script.now workers }
+    ensures { option_map asked_by_form result ≡ session_in script.now workers }
 {
     if is_path(script) {
         return session_with(Some(script), workers);
@@ -210,7 +211,7 @@ fn session_in<'a>(script: &'a str, workers: Option<u64>) -> Option<Form<'a>>
 }
 
 fn session_of_one<'a>(word: &'a str) -> Option<Form<'a>>
-    ensures { option_map asked_by result ≡ session_of_one word.now }
+    ensures { option_map asked_by_form result ≡ session_of_one word.now }
 {
     if begins(word, WORKERS_FRONT) {
         session_with(None, number_behind(word, WORKERS_FRONT))
@@ -220,7 +221,7 @@ fn session_of_one<'a>(word: &'a str) -> Option<Form<'a>>
 }
 
 fn session_of_two<'a>(first: &'a str, second: &'a str) -> Option<Form<'a>>
-    ensures { option_map asked_by result ≡ session_of_two first.now second.now }
+    ensures { option_map asked_by_form result ≡ session_of_two first.now second.now }
 {
     if first == "--workers" {
         session_with(None, number_in(second.as_bytes()))
@@ -234,7 +235,7 @@ fn session_of_two<'a>(first: &'a str, second: &'a str) -> Option<Form<'a>>
 }
 
 fn session_of_three<'a>(words: &'a [&'a str]) -> Option<Form<'a>>
-    ensures { option_map asked_by result ≡ session_of_three (texts_of words.now) }
+    ensures { option_map asked_by_form result ≡ session_of_three (borrowed_words words.now) }
 {
     let first = word_at(words, 0);
     let second = word_at(words, 1);
@@ -249,7 +250,7 @@ fn session_of_three<'a>(words: &'a [&'a str]) -> Option<Form<'a>>
 }
 
 fn session_form<'a>(words: &'a [&'a str]) -> Option<Form<'a>>
-    ensures { option_map asked_by result ≡ session_of (texts_of words.now) }
+    ensures { option_map asked_by_form result ≡ session_of (borrowed_words words.now) }
 {
     if words.len() == 0 {
         let script = None;
@@ -271,7 +272,7 @@ fn session_form<'a>(words: &'a [&'a str]) -> Option<Form<'a>>
 // The first two words, or the last two where the first word is an option.
 fn paths_of<'w, 'a>(words: &'w [&'a str]) -> &'w [&'a str]
     requires { 2 ≤ length words.now }
-    ensures { texts_of result.now ≡ paths_of (texts_of words.now) }
+    ensures { borrowed_words result.now ≡ paths_of (borrowed_words words.now) }
 {
     if is_path(word_at(words, 0)) {
         &words[..2]
@@ -283,7 +284,7 @@ fn paths_of<'w, 'a>(words: &'w [&'a str]) -> &'w [&'a str]
 // The words behind these, or before them.
 fn options_of<'w, 'a>(words: &'w [&'a str]) -> &'w [&'a str]
     requires { 2 ≤ length words.now }
-    ensures { texts_of result.now ≡ options_of (texts_of words.now) }
+    ensures { borrowed_words result.now ≡ options_of (borrowed_words words.now) }
 {
     if is_path(word_at(words, 0)) {
         &words[2..]
@@ -294,7 +295,7 @@ fn options_of<'w, 'a>(words: &'w [&'a str]) -> &'w [&'a str]
 
 // Whether one of two options is this one.
 fn has_option(options: &[&str], option: &str) -> bool
-    ensures { result ≡ has_option (texts_of options.now) option.now }
+    ensures { result ≡ has_option (borrowed_words options.now) option.now }
 {
     word_at(options, 0) == option || word_at(options, 1) == option
 }
@@ -315,8 +316,8 @@ fn why_with<'a>(
     is_forbidden: bool,
     is_deep: bool,
 ) -> Option<Form<'a>>
-    ensures { option_map asked_by result
-        ≡ why_with (texts_of paths.now) count is_forbidden is_deep }
+    ensures { option_map asked_by_form result
+        ≡ why_with (borrowed_words paths.now) count is_forbidden is_deep }
 {
     if are_paths(paths) && count == count_of(is_forbidden, is_deep) {
         let model = word_at(paths, 0);
@@ -332,7 +333,7 @@ fn why_with<'a>(
 }
 
 fn why_form<'a>(words: &'a [&'a str]) -> Option<Form<'a>>
-    ensures { option_map asked_by result ≡ why_of (texts_of words.now) }
+    ensures { option_map asked_by_form result ≡ why_of (borrowed_words words.now) }
 {
     if words.len() < 2 {
         return None;
@@ -344,7 +345,7 @@ fn why_form<'a>(words: &'a [&'a str]) -> Option<Form<'a>>
 }
 
 fn watch_with<'a>(words: &'a [&'a str], workers: Option<u64>) -> Option<Form<'a>>
-    ensures { option_map asked_by result ≡ watch_with (texts_of words.now) workers }
+    ensures { option_map asked_by_form result ≡ watch_with (borrowed_words words.now) workers }
 {
     match workers {
         Some(workers) if words.len() > 1 && are_paths(words) && MOST_WORKERS >= workers => {
@@ -361,7 +362,7 @@ fn watch_with<'a>(words: &'a [&'a str], workers: Option<u64>) -> Option<Form<'a>
 }
 
 fn watch_form<'a>(words: &'a [&'a str]) -> Option<Form<'a>>
-    ensures { option_map asked_by result ≡ watch_of (texts_of words.now) }
+    ensures { option_map asked_by_form result ≡ watch_of (borrowed_words words.now) }
 {
     let first = word_at(words, 0);
     if first == "--workers" {
@@ -391,7 +392,7 @@ fn drawn_of(word: &str) -> Option<Drawn>
 }
 
 fn draw_with<'a>(paths: &[&'a str], drawn: Option<Drawn>, most: Option<u64>) -> Option<Form<'a>>
-    ensures { option_map asked_by result ≡ draw_with (texts_of paths.now) drawn most }
+    ensures { option_map asked_by_form result ≡ draw_with (borrowed_words paths.now) drawn most }
 {
     match (drawn, most) {
         (Some(drawn), Some(most)) => {
@@ -412,7 +413,7 @@ fn draw_with<'a>(paths: &[&'a str], drawn: Option<Drawn>, most: Option<u64>) -> 
 }
 
 fn draw_of_one<'a>(paths: &[&'a str], option: &str) -> Option<Form<'a>>
-    ensures { option_map asked_by result ≡ draw_of_one (texts_of paths.now) option.now }
+    ensures { option_map asked_by_form result ≡ draw_of_one (borrowed_words paths.now) option.now }
 {
     if begins(option, MOST_FRONT) {
         draw_with(paths, Some(Drawn::Shown), number_behind(option, MOST_FRONT))
@@ -422,7 +423,8 @@ fn draw_of_one<'a>(paths: &[&'a str], option: &str) -> Option<Form<'a>>
 }
 
 fn draw_of_two<'a>(paths: &[&'a str], first: &str, second: &str) -> Option<Form<'a>>
-    ensures { option_map asked_by result ≡ draw_of_two (texts_of paths.now) first.now second.now }
+    ensures { option_map asked_by_form result
+        ≡ draw_of_two (borrowed_words paths.now) first.now second.now }
 {
     if first == "--most" {
         draw_with(paths, Some(Drawn::Shown), number_in(second.as_bytes()))
@@ -436,8 +438,8 @@ fn draw_of_two<'a>(paths: &[&'a str], first: &str, second: &str) -> Option<Form<
 }
 
 fn draw_of_three<'a>(paths: &[&'a str], options: &[&str]) -> Option<Form<'a>>
-    ensures { option_map asked_by result
-        ≡ draw_of_three (texts_of paths.now) (texts_of options.now) }
+    ensures { option_map asked_by_form result
+        ≡ draw_of_three (borrowed_words paths.now) (borrowed_words options.now) }
 {
     let first = word_at(options, 0);
     let second = word_at(options, 1);
@@ -452,7 +454,8 @@ fn draw_of_three<'a>(paths: &[&'a str], options: &[&str]) -> Option<Form<'a>>
 }
 
 fn draw_by<'a>(paths: &[&'a str], options: &[&str]) -> Option<Form<'a>>
-    ensures { option_map asked_by result ≡ draw_by (texts_of paths.now) (texts_of options.now) }
+    ensures { option_map asked_by_form result
+        ≡ draw_by (borrowed_words paths.now) (borrowed_words options.now) }
 {
     if options.len() == 0 {
         draw_with(paths, Some(Drawn::Shown), Some(USUAL_PICTURES))
@@ -468,7 +471,7 @@ fn draw_by<'a>(paths: &[&'a str], options: &[&str]) -> Option<Form<'a>>
 }
 
 fn draw_form<'a>(words: &'a [&'a str]) -> Option<Form<'a>>
-    ensures { option_map asked_by result ≡ draw_of (texts_of words.now) }
+    ensures { option_map asked_by_form result ≡ draw_of (borrowed_words words.now) }
 {
     if words.len() < 2 {
         return None;
@@ -477,7 +480,7 @@ fn draw_form<'a>(words: &'a [&'a str]) -> Option<Form<'a>>
 }
 
 fn command_form<'a>(command: &str, words: &'a [&'a str]) -> Option<Form<'a>>
-    ensures { option_map asked_by result ≡ by_command command.now (texts_of words.now) }
+    ensures { option_map asked_by_form result ≡ by_command command.now (borrowed_words words.now) }
 {
     if command == "eval" {
         eval_form(words)
@@ -499,7 +502,7 @@ fn command_form<'a>(command: &str, words: &'a [&'a str]) -> Option<Form<'a>>
 }
 
 fn form_in<'a>(words: &'a [&'a str]) -> Option<Form<'a>>
-    ensures { option_map asked_by result ≡ asked_in (texts_of words.now) }
+    ensures { option_map asked_by_form result ≡ asked_by_words (borrowed_words words.now) }
 {
     if words.len() < 2 {
         return Some(Form::Stream);
@@ -511,8 +514,9 @@ fn form_in<'a>(words: &'a [&'a str]) -> Option<Form<'a>>
 /// version, for words that have no form.
 pub fn form_of<'a>(alloc: Global, words: &'a [&'a str]) -> Result<Form<'a>, Error>
     // A form is answered just where the words have one, and it is that one.
-    ensures form { IfOk result (λ f. asked_in (texts_of words.now) ≡ Some (asked_by f)) }
-    ensures none { OnErr result (asked_in (texts_of words.now) ≡ None) }
+    ensures form { IfOk result
+        (λ f. asked_by_words (borrowed_words words.now) ≡ Some (asked_by_form f)) }
+    ensures none { OnErr result (asked_by_words (borrowed_words words.now) ≡ None) }
 {
     match form_in(words) {
         Some(form) => Ok(form),

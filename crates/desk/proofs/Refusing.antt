@@ -6,7 +6,7 @@ use Rattle.memo_core.specs.declared.claims.ClaimFault.{ClaimFault}
 use Rattle.desk.specs.declared.fault.DeskFault.{DeskFault}
 use Rattle.desk.specs.declared.fault.DeskFault.TheVariants as faults
 use Rattle.desk.specs.Held.{IsRefusedAfter, IsRefusedBy, IsClaimRefusedBy}
-use Rattle.desk.specs.Numbers.{number_of}
+use Rattle.desk.specs.Numbers.{desk_fault_number}
 
 -- the bench says nothing of viewers; what is known of them is known of each rule
 pub refused_more : {F : Type 0} (refuses is_want : F → Type 0) (known is_ahead : Type 0)
@@ -53,13 +53,13 @@ not_claim fault e = cc
 pub own_refusal : {A F : Type 0} (r : Result A (DeskFault F)) (closed : Bool) (spare : ℕ)
     → (r ≡ Err faults.Closed) ↔ (closed ≡ true)
     → (r ≡ Err faults.NoSeat) ↔ ((closed ≡ false) × (spare ≡ 0))
-    → OnErr r (closed ≡ false → spare ≡ 0) → IfErr r (λ fault. IsSome (number_of fault))
+    → OnErr r (closed ≡ false → spare ≡ 0) → IfErr r (λ fault. IsSome (desk_fault_number fault))
 own_refusal (Ok a) closed spare is_closed no_seat only = tt
 own_refusal (Err fault) true spare is_closed no_seat only =
-    subst (λ (r : Result _ (DeskFault _)). IfErr r (λ f. IsSome (number_of f)))
+    subst (λ (r : Result _ (DeskFault _)). IfErr r (λ f. IsSome (desk_fault_number f)))
     (sym (is_closed.1 refl)) refl
 own_refusal (Err fault) false spare is_closed no_seat only =
-    subst (λ (r : Result _ (DeskFault _)). IfErr r (λ f. IsSome (number_of f)))
+    subst (λ (r : Result _ (DeskFault _)). IfErr r (λ f. IsSome (desk_fault_number f)))
     (sym (no_seat.1 (refl, only refl))) refl
 
 -- a call that an open desk never refuses is refused for a closed desk

@@ -13,16 +13,16 @@ use Rattle.memo_core.specs.declared.claims.Finish.{Finish}
 use Rattle.memo_core.specs.declared.claims.Finish.TheVariants.{Unknown, Stale, Same, Stored}
 use Rattle.memo_core.specs.Names.{same_node}
 use Rattle.memo_core.specs.Lemmas.Equality.{same_node_exact}
-use Rattle.memo_core.specs.Graph.{Memo, Net, memo_of, at, stored_at, stamp_in, present_inputs, put_memo, input_nodes, IsSettledBy, IsSettled}
-use Rattle.memo_core.specs.Step.{Has, State, Return, Accepts, Finishes}
+use Rattle.memo_core.specs.Graph.{Memo, Net, memo_of, at, stored_output, stamp_or_zero, present_inputs, put_memo, input_nodes, IsSettledBy, IsSettled}
+use Rattle.memo_core.specs.Step.{Has, MemoState, Return, Accepts, FinishesReturn}
 use Rattle.memo_core.specs.Run.{Bench, Meaning, Claim, NoClaim, Returned, Refused, Step, state_in}
 use Rattle.memo_core.proofs.Theory.{put_other}
 use Rattle.desk_history.proofs.Showing.{fold_push}
 use Rattle.cells.specs.Cells.{Cells, Carries, IsSettledCell, StandsOn}
-use Rattle.desk.specs.Boards.{BoardCell, IsSettledOn, IsListedWithin, HoldsFor, ArePosted, ArePostedAbove, ArePostedFor, ArePostedBut, IsKept, AreKept, settled_with, with_outcome}
+use Rattle.desk.specs.Boards.{BoardCell, IsSettledOn, IsListedWithin, HoldsFor, ArePosted, ArePostedAbove, ArePostedFor, ArePostedBut, IsCellKept, AreCellsKept, settled_with, with_outcome}
 use Rattle.desk.specs.declared.answer.Posted.{Posted}
 use Rattle.desk.specs.declared.answer.Posted.TheVariants.{Now, Later}
-use Rattle.desk.specs.Held.{Held, held, Appends, HasEdit, IsMade, PublishesOr, IsRefusedTurn, IsShownOrOwed}
+use Rattle.desk.specs.Held.{Held, held, AppendsSettles, HasEdit, IsEditAppended, PublishesOr, IsRefusedTurn, IsShownOrOwed}
 use Rattle.desk.specs.Posts.{IsPosted}
 use Rattle.desk.proofs.Outcomes.{below_get}
 
@@ -69,11 +69,11 @@ module _ {V G : Type 0} (net : Net G) (memos : List (Memo V)) (m : Memo V) where
           ≡ present_inputs net memos (Output k x ∷ ks)
       same_first k x f ks e =
           ap
-          (λ (o : Option (Memo V)). input_of (Output k x) (stamp_in (stored_at x o))
+          (λ (o : Option (Memo V)). input_of (Output k x) (stamp_or_zero (stored_output x o))
           ∷ present_inputs net (put_memo m memos) ks)
           (put_other m k memos f)
           ∙ ap
-          (λ (is : List Input). input_of (Output k x) (stamp_in (stored_at x (memo_of k memos)))
+          (λ (is : List Input). input_of (Output k x) (stamp_or_zero (stored_output x (memo_of k memos)))
           ∷ is) e
 
   -- what is settled once the memo is put was so before, or stands on its node
@@ -94,14 +94,14 @@ module _ {V G : Type 0} (net : Net G) (memos : List (Memo V)) (m : Memo V) where
 -- ---- cells that are kept
 
 module _ {O : Type 0} where
-  kept_self : (c : BoardCell O) → IsKept c c
+  kept_self : (c : BoardCell O) → IsCellKept c c
   kept_self c = record { test = refl; model = refl; outcome = λ s. s }
 
-  pub keeps_self : (old new : List (BoardCell O)) → new ≡ old → AreKept old new
+  pub keeps_self : (old new : List (BoardCell O)) → new ≡ old → AreCellsKept old new
   keeps_self old new same index c e =
       (c, subst (λ (l : List (BoardCell O)). slice_get l index ≡ Some c) (sym same) e, kept_self c)
 
-  pub keeps_then : (a b c : List (BoardCell O)) → AreKept a b → AreKept b c → AreKept a c
+  pub keeps_then : (a b c : List (BoardCell O)) → AreCellsKept a b → AreCellsKept b c → AreCellsKept a c
   keeps_then a b c f g index x e =
       let y = f index x e in
       let z = g index y.0 y.1 in (
@@ -114,12 +114,12 @@ module _ {O : Type 0} where
         },
       )
 
-  settled_is : (x c : BoardCell O) (o : O) → Some x ≡ Some c → IsKept c (settled_with o x)
+  settled_is : (x c : BoardCell O) (o : O) → Some x ≡ Some c → IsCellKept c (settled_with o x)
   settled_is x c o e =
       let same : x ≡ c = cc in
       record { test = ap (λ (d : BoardCell O). d.test) same; model = ap (λ (d : BoardCell O). d.model) same; outcome = λ s. refl }
 
-  pub keeps_with : (cs : List (BoardCell O)) (i : ℕ) (o : O) → AreKept cs (with_outcome i o cs)
+  pub keeps_with : (cs : List (BoardCell O)) (i : ℕ) (o : O) → AreCellsKept cs (with_outcome i o cs)
   keeps_with [] i o index c e = absurd cc
   keeps_with (x ∷ cs) zero o zero c e = (settled_with o x, refl, settled_is x c o e)
   keeps_with (x ∷ cs) zero o (suc k) c e = (c, e, kept_self c)
@@ -131,9 +131,9 @@ module _ {O : Type 0} where
       (r : Result A F) (old new : List P) (op : P) (i : ℕ) (o : O)
       → MatchResult r (λ _. new ≡ old ++ op ∷ []) (λ _. new ≡ old)
       → cells (after (fold after none old) op) ≡ with_outcome i o (cells (fold after none old))
-      → AreKept (cells (fold after none old)) (cells (fold after none new))
+      → AreCellsKept (cells (fold after none old)) (cells (fold after none new))
   keeps_one cells after none (Ok x) old new op i o is made =
-      subst (AreKept (cells (fold after none old)))
+      subst (AreCellsKept (cells (fold after none old)))
       (sym (ap (λ l. cells (fold after none l)) is
       ∙ (ap cells (fold_push after none old op) ∙ made)))
       (keeps_with (cells (fold after none old)) i o)
@@ -141,7 +141,7 @@ module _ {O : Type 0} where
       keeps_self (cells (fold after none old)) (cells (fold after none new))
       (ap (λ l. cells (fold after none l)) is)
 
-  pub settled_on : (old new : List (BoardCell O)) → AreKept old new → (test model : List ℕ)
+  pub settled_on : (old new : List (BoardCell O)) → AreCellsKept old new → (test model : List ℕ)
       → IsSettledOn old test model → IsSettledOn new test model
   settled_on old new keeps test model s =
       let d = keeps s.index s.cell s.there in
@@ -150,24 +150,24 @@ module _ {O : Type 0} where
 -- ---- the bench
 
 -- the memos of the state after a return
-abbrev MemosAfter : {V G : Type 0} → State V G → Return V G → State V G → Type 0
+abbrev MemosAfter : {V G : Type 0} → MemoState V G → Return V G → MemoState V G → Type 0
 MemosAfter {V} old r new =
     (new.memos ≡ old.memos)
     ⊎ ((m : Memo V) × (m.node ≡ r.node) × (new.memos ≡ put_memo m old.memos))
 
-accepted : {V G : Type 0} (old new : State V G) (r : Return V G) → Accepts old r new
+accepted : {V G : Type 0} (old new : MemoState V G) (r : Return V G) → Accepts old r new
     → MemosAfter old r new
 accepted old new r a =
     inr (
       record { node = r.node; inputs = a.claim.inputs; outputs = a.outputs },
       refl,
-      ap (λ (s : State _ _). s.memos) a.after,
+      ap (λ (s : MemoState _ _). s.memos) a.after,
     )
 
-memos_after : {V G : Type 0} (old new : State V G) (r : Return V G) (answer : Finish)
-    → Finishes old r answer new → MemosAfter old r new
-memos_after old new r Unknown f = inl (ap (λ (s : State _ _). s.memos) f.1)
-memos_after old new r (Stale stamp) f = inl (ap (λ (s : State _ _). s.memos) f.3)
+memos_after : {V G : Type 0} (old new : MemoState V G) (r : Return V G) (answer : Finish)
+    → FinishesReturn old r answer new → MemosAfter old r new
+memos_after old new r Unknown f = inl (ap (λ (s : MemoState _ _). s.memos) f.1)
+memos_after old new r (Stale stamp) f = inl (ap (λ (s : MemoState _ _). s.memos) f.3)
 memos_after old new r Same f = accepted old new r f.0
 memos_after old new r (Stored names) f = accepted old new r f.0
 
@@ -213,14 +213,14 @@ module _ {T E V G O : Type 0} (net : T → Net G) (of : Cells T E V O) where
         stamp = s.carries.stamp;
         value = s.carries.value;
         first =
-            ap (λ (k : Option (Memo V)). stored_at 0 k)
+            ap (λ (k : Option (Memo V)). stored_output 0 k)
             (sym (put_other m s.verdict old.memos other))
             ∙ (ap (λ (ms : List (Memo V)). at ms (Output s.verdict 0)) (sym e) ∙ s.carries.first);
         holds = s.carries.holds;
       }
 
   pub posted_all : (bench : Bench T V) (node : Node) (old new : List (BoardCell O))
-      → ArePostedBut net of bench node old → AreKept old new → ArePostedAbove net of bench node new
+      → ArePostedBut net of bench node old → AreCellsKept old new → ArePostedAbove net of bench node new
       → ArePosted net of bench new
   posted_all bench node old new but keeps above test model o s = elim (but test model o s) [
     | inl on ↦ settled_on old new keeps test model on
@@ -229,7 +229,7 @@ module _ {T E V G O : Type 0} (net : T → Net G) (of : Cells T E V O) where
 
   -- where none but these was left, all are posted
   pub posted_for : (bench : Bench T V) (above : Option Node) (old new : List (BoardCell O))
-      → IfSome above (λ node. ArePostedBut net of bench node old) → AreKept old new
+      → IfSome above (λ node. ArePostedBut net of bench node old) → AreCellsKept old new
       → ArePostedFor net of bench above new → ArePosted net of bench new
   posted_for bench None old new rest keeps posted = posted
   posted_for bench (Some node) old new rest keeps posted =
@@ -237,7 +237,7 @@ module _ {T E V G O : Type 0} (net : T → Net G) (of : Cells T E V O) where
 
   -- a cell of the range is posted where each of the range is
   listed_posted : (bench : Bench T V) (old new : List (BoardCell O)) (first end : ℕ)
-      → AreKept old new → ((k : ℕ) → first ≤ k → k < end → IsPosted net of bench new k)
+      → AreCellsKept old new → ((k : ℕ) → first ≤ k → k < end → IsPosted net of bench new k)
       → (test model : List ℕ) (o : O) → IsListedWithin old first end test model
       → IsSettledCell net of bench test model o → IsSettledOn new test model
   listed_posted bench old new first end keeps posted test model o k s =
@@ -252,7 +252,7 @@ module _ {T E V G O : Type 0} (net : T → Net G) (of : Cells T E V O) where
   pub for_posted : (bench : Bench T V) (above : Option Node) (old new : List (BoardCell O))
       (first end : ℕ)
       → HoldsFor (net bench.texts) (of.verdict_of bench.texts) above old first end
-      → AreKept old new → ((k : ℕ) → first ≤ k → k < end → IsPosted net of bench new k)
+      → AreCellsKept old new → ((k : ℕ) → first ≤ k → k < end → IsPosted net of bench new k)
       → ArePostedFor net of bench above new
   for_posted bench None old new first end holds keeps posted =
       λ test model o s. listed_posted bench old new first end keeps posted test model o
@@ -278,7 +278,7 @@ module _ {T E V G O : Type 0} (means : Meaning T E V G) (of : Cells T E V O) (ol
       → Step means old (Claim number n given keys values) new → ArePosted means.net of old cells
       → ArePosted means.net of new cells
   posted_claimed number n given keys values step posted =
-      posted_same means.net of old new cells step.0 (ap (λ (s : State V G). s.memos) step.1.after)
+      posted_same means.net of old new cells step.0 (ap (λ (s : MemoState V G). s.memos) step.1.after)
       posted
 
   pub posted_idle : Step means old NoClaim new → ArePosted means.net of old cells
@@ -308,7 +308,7 @@ module _ {T E V G : Type 0} (means : Meaning T E V G) (old new : Bench T V) wher
   pub later_claimed : (number : ℕ) (n : Node) (given : G) (keys : List Key) (values : List V)
       → Step means old (Claim number n given keys values) new → old.taken ≤ new.taken
   later_claimed number n given keys values step =
-      let taken : new.taken ≡ number = ap (λ (s : State V G). s.taken) step.1.after in
+      let taken : new.taken ≡ number = ap (λ (s : MemoState V G). s.taken) step.1.after in
       let is : number ≡ old.taken + 1 = step.1.number_is in
       omega (arith, taken, is)
 
@@ -340,11 +340,11 @@ pub appends_of : {T V O : Type 0} (is_settle : O → Type 0) (inside old : Held 
     → inside ≡ old → Each is_settle more
     → (bench : Bench T V) (all published : List O) (owes : Bool)
     → all ≡ inside.all ++ more
-    → Appends is_settle old.all old (held bench all published inside.spare inside.closed owes)
+    → AppendsSettles is_settle old.all old (held bench all published inside.spare inside.closed owes)
 appends_of is_settle inside old more same each bench all published owes e =
     subst
     (λ (h : Held _ _ _).
-    Appends is_settle h.all h (held bench all published inside.spare inside.closed owes))
+    AppendsSettles is_settle h.all h (held bench all published inside.spare inside.closed owes))
     same
     (record { settles = more; are_settles = each; all = e; spare = refl; closed = refl })
 
@@ -352,10 +352,10 @@ appends_of is_settle inside old more same each bench all published owes e =
 pub appends_since : {T V O : Type 0} (is_settle : O → Type 0) (before after : Bench T V)
     (all published : List O) (spare : ℕ) (closed owes owes' : Bool) (old new : Held T V O)
     → held before all published spare closed owes ≡ old
-    → Appends is_settle all (held after all published spare closed owes') new
-    → Appends is_settle old.all old new
+    → AppendsSettles is_settle all (held after all published spare closed owes') new
+    → AppendsSettles is_settle old.all old new
 appends_since is_settle before after all published spare closed owes owes' old new same a =
-    subst (λ (h : Held _ _ _). Appends is_settle h.all h new) same
+    subst (λ (h : Held _ _ _). AppendsSettles is_settle h.all h new) same
     (record {
       settles = a.settles;
       are_settles = a.are_settles;
@@ -418,7 +418,7 @@ ahead_of inside old me same more =
 pub has_edit : {T E V G O : Type 0} (means : Meaning T E V G) (is_legal : List O → Type 0)
     (is_edit : List O → O → E → ℕ → Type 0) (is_settle : O → Type 0) (e : E) (number : ℕ)
     (old new : Bench T V) (me before list more all later : List O)
-    → IsPrefix me before → IsMade means is_edit e old new before list number → Each is_settle more
+    → IsPrefix me before → IsEditAppended means is_edit e old new before list number → Each is_settle more
     → all ≡ list ++ more → later ≡ all → is_legal later
     → HasEdit is_legal is_edit is_settle e number me later
 has_edit means is_legal is_edit is_settle e number old new me before list more all later behind made

@@ -93,13 +93,13 @@ ArePostedBut {T} {E} {V} {G} {O} net of bench node cells =
     → IsSettledOn cells test model ⊎ StandsOn (net bench.texts) s.verdict node
 
 -- the later cell is of the same test and model, and settled where the earlier one was
-pub record IsKept {O : Type 0} (c d : BoardCell O) : Type 0 where
+pub record IsCellKept {O : Type 0} (c d : BoardCell O) : Type 0 where
   pub test : d.test ≡ c.test
   pub model : d.model ≡ c.model
   pub outcome : IsSome c.outcome → IsSome d.outcome
 
 -- each cell stands at its index, and what was settled is so
-abbrev pub AreKept : {O : Type 0} → (old new : List (BoardCell O)) → Type 0
-AreKept {O} old new =
+abbrev pub AreCellsKept : {O : Type 0} → (old new : List (BoardCell O)) → Type 0
+AreCellsKept {O} old new =
     (index : ℕ) (c : BoardCell O) → slice_get old index ≡ Some c
-    → (d : BoardCell O) × (slice_get new index ≡ Some d) × IsKept c d
+    → (d : BoardCell O) × (slice_get new index ≡ Some d) × IsCellKept c d

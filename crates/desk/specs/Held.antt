@@ -42,13 +42,13 @@ abbrev pub IsShownOrOwed : {T V O : Type 0} → (are_posted : Bench T V → List
 IsShownOrOwed are_posted desk =
     desk.owes ≡ false → (desk.published ≡ desk.all) × are_posted desk.bench desk.published
 
-abbrev pub number_of : Accepted → ℕ
-number_of (Now number) = number
-number_of (Later number) = number
+abbrev pub accepted_number : Accepted → ℕ
+accepted_number (Now number) = number
+accepted_number (Later number) = number
 
 -- operations that settle cells were appended, and nothing else changed but the bench and what is
 -- published
-pub record Appends {T V O : Type 0} (is_settle : O → Type 0) (before : List O)
+pub record AppendsSettles {T V O : Type 0} (is_settle : O → Type 0) (before : List O)
     (old new : Held T V O) : Type 0 where
   pub settles : List O
   pub are_settles : Each is_settle settles
@@ -58,7 +58,7 @@ pub record Appends {T V O : Type 0} (is_settle : O → Type 0) (before : List O)
 
 -- one edit was made under the next number, and its operation, which is that of the edit after
 -- these, appended
-pub record IsMade {T E V G O : Type 0} (means : Meaning T E V G)
+pub record IsEditAppended {T E V G O : Type 0} (means : Meaning T E V G)
     (is_edit : List O → O → E → ℕ → Type 0) (e : E) (old new : Bench T V) (before after : List O)
     (number : ℕ) : Type 0 where
   pub step : Step means old (core.Edit e) new
@@ -72,8 +72,8 @@ pub record IsEditTurn {T E V G O : Type 0} (means : Meaning T E V G)
     (is_edit : List O → O → E → ℕ → Type 0) (is_settle : O → Type 0) (e : E) (old new : Held T V O)
     (number : ℕ) : Type 0 where
   pub list : List O
-  pub made : IsMade means is_edit e old.bench new.bench old.all list number
-  pub appends : Appends is_settle list old new
+  pub made : IsEditAppended means is_edit e old.bench new.bench old.all list number
+  pub appends : AppendsSettles is_settle list old new
 
 -- all is published and the viewer was told; or readers see what they saw, and the viewer knows what
 -- it knew
@@ -97,11 +97,12 @@ pub record HasEdit {E O : Type 0} (is_legal : List O → Type 0)
 
 -- the viewer was told a list that has the edit; or it knows what it knew, and there is such a list,
 -- which is published next
-abbrev pub Tells : {E O : Type 0} → (List O → Type 0) → (List O → O → E → ℕ → Type 0) → (O → Type 0)
+abbrev pub TellsEdit : {E O : Type 0} → (List O → Type 0) → (List O → O → E → ℕ → Type 0)
+    → (O → Type 0)
     → E → (me me' : List O) → Accepted → Type 0
-Tells {O = O} is_legal is_edit is_settle e me me' (Now number) =
+TellsEdit {O = O} is_legal is_edit is_settle e me me' (Now number) =
     HasEdit is_legal is_edit is_settle e number me me'
-Tells {O = O} is_legal is_edit is_settle e me me' (Later number) =
+TellsEdit {O = O} is_legal is_edit is_settle e me me' (Later number) =
     (me' ≡ me) × ((later : List O) × HasEdit is_legal is_edit is_settle e number me later)
 
 -- readers see all operations, or what they saw
@@ -147,13 +148,14 @@ pub record IsWaiting {T V O : Type 0} (are_posted : Bench T V → List O → Typ
   pub count : changes ≡ length new.published
   pub owes : new.owes ≡ false
 
-abbrev pub Settles : {T V O : Type 0} → (is_legal are_settled : List O → Type 0)
+abbrev pub IsSettlingTurn : {T V O : Type 0} → (is_legal are_settled : List O → Type 0)
     → (are_posted : Bench T V → List O → Type 0) → (new : Held T V O) → (me me' : List O) → Settling
     → Type 0
-Settles is_legal are_settled are_posted new me me' Done = IsDone is_legal are_settled new me me'
-Settles is_legal are_settled are_posted new me me' (Waits changes) =
+IsSettlingTurn is_legal are_settled are_posted new me me' Done =
+    IsDone is_legal are_settled new me me'
+IsSettlingTurn is_legal are_settled are_posted new me me' (Waits changes) =
     IsWaiting are_posted new me me' changes
-Settles is_legal are_settled are_posted new me me' Refused = (me' ≡ me) × (new.owes ≡ true)
+IsSettlingTurn is_legal are_settled are_posted new me me' Refused = (me' ≡ me) × (new.owes ≡ true)
 
 -- what the viewer of a turn of settling is told: all that it knew and what goes on from there,
 -- where every cell is settled; or nothing

@@ -3,8 +3,8 @@
 ghost use Rattle.std.specs.Prelude.{◌≡◌, ◌≢◌, ◌⊎◌, [], IfOk, IfErr, IsSome, OnErr, OnOk, fold, leb, ⊤};
 ghost use mathlib.Core.List.{IsPrefix};
 ghost use Rattle.desk.specs.Boards.{AreSettled};
-ghost use Rattle.desk.specs.Held.{IsClaimRefusedBy, IsRefusedAfter, IsRefusedBy, Tells, TellsSettled};
-ghost use Rattle.desk.specs.Numbers.{number_of};
+ghost use Rattle.desk.specs.Held.{IsClaimRefusedBy, IsRefusedAfter, IsRefusedBy, TellsEdit, TellsSettled};
+ghost use Rattle.desk.specs.Numbers.{desk_fault_number};
 
 use crate::answer::{Accepted, Settling, Taken};
 use crate::fault::DeskFault;
@@ -92,7 +92,7 @@ impl<J: Naming + StoreName, X: BoardTexts, R: Wait + Drop> Desk<J, X, R> {
             X.is_want_of_memory
             (me.old ≢ [])) }
         ensures told { IfOk result (λ a.
-            Tells X.is_legal X.is_edit X.is_settle edit me.old me.new a) }
+            TellsEdit X.is_legal X.is_edit X.is_settle edit me.old me.new a) }
     {
         let mut state = self.lock(rt);
         let changes = state.change_count();
@@ -183,7 +183,7 @@ impl<J: Naming + StoreName, X: BoardTexts, R: Wait + Drop> Desk<J, X, R> {
     #[tactic(auto, using(crate::proofs::Refusing::own_refusal))]
     pub fn viewer<W: Wait>(&self, rt: &W) -> Result<Viewer<J, X>, DeskFault<X::Fault>>
         ensures given { IfOk result (λ v. v ≡ []) }
-        ensures fault { IfErr result (λ fault. IsSome (number_of fault)) }
+        ensures fault { IfErr result (λ fault. IsSome (desk_fault_number fault)) }
     {
         self.lock(rt).viewer()
     }
@@ -196,7 +196,7 @@ impl<J: Naming + StoreName, X: BoardTexts, R: Wait + Drop> Desk<J, X, R> {
         me: &mut Viewer<J, X>,
     ) -> Result<Settling, DeskFault<X::Fault>>
         ensures err { OnErr result (me.new ≡ me.old) }
-        ensures fault { IfErr result (λ fault. IsSome (number_of fault)) }
+        ensures fault { IfErr result (λ fault. IsSome (desk_fault_number fault)) }
         ensures ahead { IfErr result (λ fault. fault ≡ DeskFault.NoSeat → me.old ≢ []) }
         ensures told { IfOk result (λ r. TellsSettled X.is_legal
             (λ ops. AreSettled (X.cells (fold X.after X.none ops))) me.old me.new r) }
@@ -220,7 +220,7 @@ impl<J: Naming + StoreName, X: BoardTexts, R: Wait + Drop> Desk<J, X, R> {
     /// a turn, and want of memory after 16 refusals in a row.
     pub fn settle<W: Wait>(&self, rt: &W, me: &mut Viewer<J, X>) -> Result<(), DeskFault<X::Fault>>
         ensures err { OnErr result (me.new ≡ me.old) }
-        ensures fault { IfErr result (λ fault. IsSome (number_of fault)
+        ensures fault { IfErr result (λ fault. IsSome (desk_fault_number fault)
             ⊎ (fault ≡ DeskFault.OutOfMemory)) }
         ensures ahead { IfErr result (λ fault. fault ≡ DeskFault.NoSeat → me.old ≢ []) }
         ensures begins { OnOk result (IsPrefix me.old me.new) }

@@ -1,7 +1,7 @@
 //! Why the desk refuses a call.
 
 ghost use Rattle.std.specs.Prelude.{◌≡◌};
-ghost use Rattle.desk.specs.Numbers.{number_of};
+ghost use Rattle.desk.specs.Numbers.{desk_fault_number};
 
 use memo_core::claims::ClaimFault;
 use thiserror::Error;
@@ -30,7 +30,7 @@ impl<F> DeskFault<F> {
     /// The number of a refusal by the desk: 1 for K1 and 2 for K2. A refusal by the bench has a
     /// number of its own, and want of memory has none.
     pub fn number(&self) -> Option<u8>
-        ensures { result ≡ number_of self.now }
+        ensures { result ≡ desk_fault_number self.now }
     {
         match self {
             DeskFault::Closed => Some(1),

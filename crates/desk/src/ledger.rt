@@ -3,7 +3,7 @@
 ghost use Rattle.std.specs.Prelude.{◌≡◌, ◌↔◌, ◌≤◌, IsTrue, MatchBool, fold, length};
 ghost use mathlib.Core.List.{IsPrefix};
 ghost use Rattle.cells.specs.Cells.{cells as cells_of};
-ghost use Rattle.desk.specs.Boards.{AreKept, ArePostedFor, AreSettled};
+ghost use Rattle.desk.specs.Boards.{AreCellsKept, ArePostedFor, AreSettled};
 ghost use Rattle.desk.specs.Posts.{Posts};
 
 use crate::posting::{is_settled, post_settled};
@@ -76,7 +76,7 @@ impl<J: Naming, X: BoardTexts> Ledger<J, X> {
         ensures posted { IsTrue result
             → ArePostedFor X.net (cells_of X.verdict_of X.outcome_in X.from_scratch X.reaches)
             bench.now above (X.cells (fold X.after X.none self.new.all)) }
-        ensures stays { AreKept (X.cells (fold X.after X.none self.old.all))
+        ensures stays { AreCellsKept (X.cells (fold X.after X.none self.old.all))
             (X.cells (fold X.after X.none self.new.all)) }
     {
         post_settled(alloc, bench, &mut self.press, above)

@@ -2,7 +2,7 @@
 
 ghost use Rattle.std.specs.Prelude.{◌<◌, ◌≤◌, ℕ, length, IsTrue, IfOk, IfSome, IfNone, fold};
 ghost use Rattle.cells.specs.Cells.{cells as cells_of};
-ghost use Rattle.desk.specs.Boards.{AreKept, ArePostedFor, AreSettled, HoldsFor};
+ghost use Rattle.desk.specs.Boards.{AreCellsKept, ArePostedFor, AreSettled, HoldsFor};
 ghost use Rattle.desk.specs.Posts.{IsPosted, SettlesRight, Posts};
 
 use crate::texts::{BoardTexts, CellRange};
@@ -59,7 +59,7 @@ fn post<J: Naming, K: StoreName, X: BoardTexts>(
         (X.cells (fold X.after X.none press.old.all)) k
         → IsPosted X.net (cells_of X.verdict_of X.outcome_in X.from_scratch X.reaches) bench.now
         (X.cells (fold X.after X.none press.new.all)) k }
-    ensures stays { AreKept (X.cells (fold X.after X.none press.old.all))
+    ensures stays { AreCellsKept (X.cells (fold X.after X.none press.old.all))
         (X.cells (fold X.after X.none press.new.all)) }
 {
     let made = match press.board() {
@@ -88,7 +88,7 @@ fn post_range<J: Naming, K: StoreName, X: BoardTexts>(
     ensures posted { IsTrue result → (k : ℕ) → range.first ≤ k → k < range.end
         → IsPosted X.net (cells_of X.verdict_of X.outcome_in X.from_scratch X.reaches) bench.now
         (X.cells (fold X.after X.none press.new.all)) k }
-    ensures stays { AreKept (X.cells (fold X.after X.none press.old.all))
+    ensures stays { AreCellsKept (X.cells (fold X.after X.none press.old.all))
         (X.cells (fold X.after X.none press.new.all)) }
 {
     for index in range.first..range.end {
@@ -141,7 +141,7 @@ pub(crate) fn post_settled<J: Naming, K: StoreName, X: BoardTexts>(
     ensures posted { IsTrue result
         → ArePostedFor X.net (cells_of X.verdict_of X.outcome_in X.from_scratch X.reaches) bench.now
         above (X.cells (fold X.after X.none press.new.all)) }
-    ensures stays { AreKept (X.cells (fold X.after X.none press.old.all))
+    ensures stays { AreCellsKept (X.cells (fold X.after X.none press.old.all))
         (X.cells (fold X.after X.none press.new.all)) }
 {
     press.catch_up();

@@ -7,7 +7,7 @@ ghost use Rattle.memo_core.specs.Run.{Claim as Claimed, NoClaim, Returned, Lose 
 ghost use Rattle.cells.specs.Cells.{cells as cells_of};
 ghost use Rattle.cells.specs.Views.{IsRightBench};
 ghost use Rattle.desk.specs.Boards.{ArePosted, ArePostedBut, AreSettled};
-ghost use Rattle.desk.specs.Held.{IsMade, IsRefusedBy, IsClaimRefusedBy, IsClosing, ShowsAllOrAsBefore};
+ghost use Rattle.desk.specs.Held.{IsEditAppended, IsRefusedBy, IsClaimRefusedBy, IsClosing, ShowsAllOrAsBefore};
 
 use crate::answer::{Accepted, Posted, Settling, Taken};
 use crate::fault::DeskFault;
@@ -83,7 +83,7 @@ fn make_edit<J: Naming + StoreName, X: BoardTexts>(
     ensures after { X.are_after bench.new.texts ledger.new.all }
     ensures last { X.last_number ledger.new.all ≤ bench.new.taken }
     ensures published { ledger.new.published ≡ ledger.old.published }
-    ensures made { IfOk result (λ number. IsMade
+    ensures made { IfOk result (λ number. IsEditAppended
         (meaning X.net X.is_valid X.since X.makes X.keeps X.edited X.last) X.is_edit edit
         bench.old bench.new ledger.old.all ledger.new.all number) }
     ensures unspent { OnOk result (bench.old.taken < LAST) }
@@ -105,7 +105,7 @@ fn make_edit<J: Naming + StoreName, X: BoardTexts>(
 }
 
 impl<J: Naming + StoreName, X: BoardTexts, R: Wait + Drop> DeskState<J, X, R> {
-    ghost use Rattle.desk.specs.Held.{held, number_of, Appends, IsEditTurn, IsRefusedTurn, IsShownOrOwed, Publishes, PublishesOr, Settles, Tells};
+    ghost use Rattle.desk.specs.Held.{held, accepted_number, AppendsSettles, IsEditTurn, IsRefusedTurn, IsShownOrOwed, Publishes, PublishesOr, IsSettlingTurn, TellsEdit};
 
     /// A bench without texts, and a board that shows nothing.
     pub fn new(
@@ -177,10 +177,10 @@ impl<J: Naming + StoreName, X: BoardTexts, R: Wait + Drop> DeskState<J, X, R> {
         ensures unspent { OnOk result (self.old.bench.taken < LAST) }
         ensures turn { IfOk result (λ a. IsEditTurn
             (meaning X.net X.is_valid X.since X.makes X.keeps X.edited X.last) X.is_edit
-            X.is_settle edit self.old self.new (number_of a)) }
+            X.is_settle edit self.old self.new (accepted_number a)) }
         ensures published { IfOk result (λ a. Publishes self.old self.new me.old me.new a) }
         ensures told { IfOk result (λ a.
-            Tells X.is_legal X.is_edit X.is_settle edit me.old me.new a) }
+            TellsEdit X.is_legal X.is_edit X.is_settle edit me.old me.new a) }
         ensures shown { OnOk result (IsShownOrOwed
             (λ bench ops. ArePosted X.net
             (cells_of X.verdict_of X.outcome_in X.from_scratch X.reaches) bench
@@ -211,7 +211,7 @@ impl<J: Naming + StoreName, X: BoardTexts, R: Wait + Drop> DeskState<J, X, R> {
             (cells_of X.verdict_of X.outcome_in X.from_scratch X.reaches) self.old.bench node
             (X.cells (fold X.after X.none self.old.all))) }
         ensures bench { self.new.bench ≡ self.old.bench }
-        ensures appends { Appends X.is_settle self.old.all self.old self.new }
+        ensures appends { AppendsSettles X.is_settle self.old.all self.old self.new }
         ensures grows { IsPrefix self.old.published self.new.published }
         ensures posted { PublishesOr
             (λ bench ops. ArePosted X.net
@@ -233,7 +233,7 @@ impl<J: Naming + StoreName, X: BoardTexts, R: Wait + Drop> DeskState<J, X, R> {
     #[tactic(auto, using(crate::proofs::Growing::prefix_same))]
     fn try_again<W: Wait>(&mut self, rt: &W)
         ensures bench { self.new.bench ≡ self.old.bench }
-        ensures appends { Appends X.is_settle self.old.all self.old self.new }
+        ensures appends { AppendsSettles X.is_settle self.old.all self.old self.new }
         ensures grows { IsPrefix self.old.published self.new.published }
         ensures whole { ShowsAllOrAsBefore self.old self.new }
         ensures shown { IsShownOrOwed
@@ -251,7 +251,7 @@ impl<J: Naming + StoreName, X: BoardTexts, R: Wait + Drop> DeskState<J, X, R> {
     // settled cell among them.
     fn show_all<W: Wait>(&mut self, rt: &W) -> bool
         ensures bench { self.new.bench ≡ self.old.bench }
-        ensures appends { Appends X.is_settle self.old.all self.old self.new }
+        ensures appends { AppendsSettles X.is_settle self.old.all self.old self.new }
         ensures grows { IsPrefix self.old.published self.new.published }
         ensures whole { ShowsAllOrAsBefore self.old self.new }
         ensures owes { result ≡ not self.new.owes }
@@ -281,7 +281,7 @@ impl<J: Naming + StoreName, X: BoardTexts, R: Wait + Drop> DeskState<J, X, R> {
         ensures none { IfOk result (λ r. IfNone r (Step
             (meaning X.net X.is_valid X.since X.makes X.keeps X.edited X.last)
             self.old.bench NoClaim self.new.bench)) }
-        ensures appends { OnOk result (Appends X.is_settle self.old.all self.old self.new) }
+        ensures appends { OnOk result (AppendsSettles X.is_settle self.old.all self.old self.new) }
         ensures grows { OnOk result (IsPrefix self.old.published self.new.published) }
         ensures whole { OnOk result (ShowsAllOrAsBefore self.old self.new) }
         ensures shown { OnOk result (IsShownOrOwed
@@ -320,7 +320,7 @@ impl<J: Naming + StoreName, X: BoardTexts, R: Wait + Drop> DeskState<J, X, R> {
         ensures step { IfOk result (λ r. Step
             (meaning X.net X.is_valid X.since X.makes X.keeps X.edited X.last) self.old.bench
             (Returned done r.finish) self.new.bench) }
-        ensures appends { OnOk result (Appends X.is_settle self.old.all self.old self.new) }
+        ensures appends { OnOk result (AppendsSettles X.is_settle self.old.all self.old self.new) }
         ensures grows { OnOk result (IsPrefix self.old.published self.new.published) }
         ensures posted { IfOk result (λ r. PublishesOr
             (λ bench ops. ArePosted X.net
@@ -345,7 +345,7 @@ impl<J: Naming + StoreName, X: BoardTexts, R: Wait + Drop> DeskState<J, X, R> {
         ensures step { IfOk result (λ r. Step
             (meaning X.net X.is_valid X.since X.makes X.keeps X.edited X.last) self.old.bench
             (Lost claim r) self.new.bench) }
-        ensures appends { OnOk result (Appends X.is_settle self.old.all self.old self.new) }
+        ensures appends { OnOk result (AppendsSettles X.is_settle self.old.all self.old self.new) }
         ensures grows { OnOk result (IsPrefix self.old.published self.new.published) }
         ensures whole { OnOk result (ShowsAllOrAsBefore self.old self.new) }
         ensures shown { OnOk result (IsShownOrOwed
@@ -370,7 +370,7 @@ impl<J: Naming + StoreName, X: BoardTexts, R: Wait + Drop> DeskState<J, X, R> {
         ensures step { OnOk result (Step
             (meaning X.net X.is_valid X.since X.makes X.keeps X.edited X.last) self.old.bench
             Renewed self.new.bench) }
-        ensures appends { OnOk result (Appends X.is_settle self.old.all self.old self.new) }
+        ensures appends { OnOk result (AppendsSettles X.is_settle self.old.all self.old self.new) }
         ensures grows { OnOk result (IsPrefix self.old.published self.new.published) }
         ensures whole { OnOk result (ShowsAllOrAsBefore self.old self.new) }
         ensures shown { OnOk result (IsShownOrOwed
@@ -402,10 +402,10 @@ impl<J: Naming + StoreName, X: BoardTexts, R: Wait + Drop> DeskState<J, X, R> {
             → length self.old.all < length me.old) }
         ensures err { OnErr result ((self.new ≡ self.old) × (me.new ≡ me.old)) }
         ensures bench { self.new.bench ≡ self.old.bench }
-        ensures appends { OnOk result (Appends X.is_settle self.old.all self.old self.new) }
+        ensures appends { OnOk result (AppendsSettles X.is_settle self.old.all self.old self.new) }
         ensures grows { OnOk result (IsPrefix self.old.published self.new.published) }
         ensures whole { OnOk result (ShowsAllOrAsBefore self.old self.new) }
-        ensures settles { IfOk result (λ r. Settles X.is_legal
+        ensures settles { IfOk result (λ r. IsSettlingTurn X.is_legal
             (λ ops. AreSettled (X.cells (fold X.after X.none ops)))
             (λ bench ops. ArePosted X.net
             (cells_of X.verdict_of X.outcome_in X.from_scratch X.reaches) bench

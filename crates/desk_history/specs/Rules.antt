@@ -4,8 +4,8 @@ use Rattle.logbook.specs.Pages.{Cell, Step, View, Book, Named}
 
 -- The first word is the length of the history. A book has two words, of which this one leaves the
 -- second at 0.
-abbrev pub IsCounted : {O : Type 0} → List Cell → List O → Type 0
-IsCounted cells log = cells ≡ (length log, true) ∷ (0, true) ∷ []
+abbrev pub HasLengthOf : {O : Type 0} → List Cell → List O → Type 0
+HasLengthOf cells log = cells ≡ (length log, true) ∷ (0, true) ∷ []
 
 -- where the length was as expected, the operation was added to all that had been seen
 abbrev pub Adds : {O : Type 0} → Step O → View O ℕ → ℕ → View O ℕ → Type 0

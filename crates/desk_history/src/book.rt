@@ -15,9 +15,9 @@ pub struct Law;
 impl<O> Rule<O, u64> for Law {
     ghost use Rattle.std.specs.Prelude.{[]};
     ghost use base.Fml.{ftrue};
-    ghost use Rattle.desk_history.specs.Rules.{IsCounted};
+    ghost use Rattle.desk_history.specs.Rules.{HasLengthOf};
 
-    ghost holds = { λ cells log. IsCounted cells log };
+    ghost holds = { λ cells log. HasLengthOf cells log };
 
     ghost first = { [] };
 

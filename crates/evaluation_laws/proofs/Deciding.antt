@@ -12,7 +12,7 @@ use Rattle.verdict.specs.declared.answer.Evaluation.{Evaluation}
 use Rattle.bench_texts.specs.declared.model.NamedModel.{NamedModel}
 use Rattle.bench_texts.specs.declared.reading.Reading.{Reading}
 use Rattle.bench_texts.specs.declared.reading.Reading.TheVariants as readings
-use Rattle.bench_texts.specs.Readings.{predefined_names, AreSound, IsReading}
+use Rattle.bench_texts.specs.Readings.{predefined_names, AreSoundItems, IsModelReading}
 use Rattle.bench_slices.specs.Slices.{slice_by}
 use Rattle.from_scratch.specs.Answers.{IsRisingRole}
 use Rattle.from_scratch.specs.FromScratch.{AreItemsOf, IsFaultless, IsEvaluationOf}
@@ -34,14 +34,14 @@ map_reverse f (x ∷ xs) =
     ∙ (ap (λ (l : List _). l ++ f x ∷ []) (map_reverse f xs)
     ∙ sym (reverse-append (f x ∷ []) (map f xs))))
 
-rising_back : (m : NamedModel) (rs : List ResolvedItem) → AreSound m.text.items.items rs
+rising_back : (m : NamedModel) (rs : List ResolvedItem) → AreSoundItems m.text.items.items rs
     → Each (λ r. IsRisingRole r.role) (reverse rs)
 rising_back m rs a =
     all_reverse (λ r. IsRisingRole r.role) rs (resolved_rising predefined_names 0
     (map bare_item m.text.items.items) rs a.no_fault a.as_resolved)
 
 same_evaluation : (test : Test) (m n : NamedModel) (e : Evaluation) (r q : Reading)
-    → IsReading m.text.items.items r → IsReading n.text.items.items q → IsFaultless m.text
+    → IsModelReading m.text.items.items r → IsModelReading n.text.items.items q → IsFaultless m.text
     → IsFaultless n.text
     → slice_by (content_of test) m r ≡ slice_by (content_of test) n q → IsEvaluationOf test m.text e
     → IsEvaluationOf test n.text e

@@ -30,7 +30,7 @@ use Rattle.from_scratch.proofs.Sole.{one_fault, fault_or_none}
 use Rattle.cat_eval_laws.specs.Items.{ItemContent, RoleContent, Group, Check, Silent, role_content, item_content}
 use Rattle.cat_eval_laws.specs.Laws.{AreSame}
 use Rattle.cat_eval_laws.proofs.Keeping.{columns_kept, answers_kept, later}
-use Rattle.evaluation_laws.specs.Laws.{IsCoded, HasOneOutcome}
+use Rattle.evaluation_laws.specs.Laws.{IsCoded, HasOneOutcomeFromScratch}
 use Rattle.evaluation_laws.proofs.Sole.{one_columns, one_answers}
 use Rattle.evaluation_laws.proofs.Resolving.{one_resolution, coded_items}
 use Rattle.from_scratch.proofs.Ordered.{all_reverse}
@@ -251,7 +251,7 @@ result_one test model (Evaluated d) (Refused (refusals.Space s)) h g =
     absurd ((executions.one_outcome test).listed_or_refused h.1.2 s h.1.3 g.1)
 result_one test model (Evaluated d) (Evaluated e) h g = evaluation_one test model d e h.0 h.1 g.1
 
-pub one_outcome : (test : Test) (model : ModelText) → HasOneOutcome test model
+pub one_outcome : (test : Test) (model : ModelText) → HasOneOutcomeFromScratch test model
 one_outcome test model o p h g =
     let kind : o.kind ≡ p.kind = h.kind ∙ sym g.kind in
     let condition : o.condition ≡ p.condition = h.condition ∙ sym g.condition in

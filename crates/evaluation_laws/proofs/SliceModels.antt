@@ -14,8 +14,8 @@ use Rattle.verdict.specs.declared.answer.Refusal.TheVariants as refusals
 use Rattle.bench_texts.specs.declared.model.NamedModel.{NamedModel}
 use Rattle.bench_texts.specs.declared.reading.Reading.{Reading}
 use Rattle.bench_texts.specs.declared.reading.Reading.TheVariants as readings
-use Rattle.bench_texts.specs.Held.{IsRead}
-use Rattle.bench_texts.specs.Readings.{IsReading}
+use Rattle.bench_texts.specs.Held.{IsModelRead}
+use Rattle.bench_texts.specs.Readings.{IsModelReading}
 use Rattle.bench_slices.specs.Slices.{Uses, OfFault, OfItems, slice, slice_by}
 use Rattle.from_scratch.specs.FromScratch.{IsFaultOf, IsFaultless, IsResultOf, IsFromScratch}
 use Rattle.from_scratch.proofs.Sole.{one_fault, fault_or_none}
@@ -54,7 +54,7 @@ faulty test other model under o f g a b same h =
 -- ---- models without fault
 
 sound_result : ItemsDecide → (test : Test) (model under : NamedModel) (r : OutcomeResult)
-    → IsRead model → IsRead under → IsFaultless model.text → IsFaultless under.text
+    → IsModelRead model → IsModelRead under → IsFaultless model.text → IsFaultless under.text
     → slice (content_of test) model ≡ slice (content_of test) under
     → IsResultOf test model.text r → IsResultOf test under.text r
 sound_result decide test model under (Refused (refusals.Model k)) read reads none free same h =
@@ -64,8 +64,8 @@ sound_result decide test model under (Refused (refusals.Space x)) read reads non
 sound_result decide test model under (Evaluated e) read reads none free same h =
     (free, decide test model under e read reads none free same h.1)
 
-sound : ItemsDecide → (test other : Test) (model under : NamedModel) (o : Outcome) → IsRead model
-    → IsRead under → IsFaultless model.text → IsFaultless under.text
+sound : ItemsDecide → (test other : Test) (model under : NamedModel) (o : Outcome) → IsModelRead model
+    → IsModelRead under → IsFaultless model.text → IsFaultless under.text
     → slice (content_of test) model ≡ slice (content_of other) under
     → content_of test ≡ content_of other → IsFromScratch test model.text o
     → IsFromScratch other under.text o
@@ -86,8 +86,8 @@ content_same : (c d : Content) (ns ms : List (Option ℕ)) (cs ds : List (Option
 content_same c d ns ms cs ds us vs e = cc
 
 by_readings : ItemsDecide
-    → (test other : Test) (model under : NamedModel) (o : Outcome) (r q : Reading) → IsRead model
-    → IsRead under → IsReading model.text.items.items r → IsReading under.text.items.items q
+    → (test other : Test) (model under : NamedModel) (o : Outcome) (r q : Reading) → IsModelRead model
+    → IsModelRead under → IsModelReading model.text.items.items r → IsModelReading under.text.items.items q
     → slice (content_of test) model ≡ slice (content_of other) under
     → slice_by (content_of test) model r ≡ slice_by (content_of other) under q
     → IsFromScratch test model.text o → IsFromScratch other under.text o

@@ -11,8 +11,8 @@ use Rattle.binding_graph.specs.Contents.{role_content}
 use Rattle.bench_texts.specs.declared.model.NamedModel.{NamedModel}
 use Rattle.bench_texts.specs.declared.reading.Reading.{Reading}
 use Rattle.bench_texts.specs.declared.reading.Reading.TheVariants as readings
-use Rattle.bench_texts.specs.Held.{IsRead}
-use Rattle.bench_texts.specs.Readings.{IsReading}
+use Rattle.bench_texts.specs.Held.{IsModelRead}
+use Rattle.bench_texts.specs.Readings.{IsModelReading}
 use Rattle.bench_slices.specs.Slices.{Uses, OfItems, uses_of, uses_at, slice, slice_by}
 use Rattle.evaluation_laws.specs.Readings.{read_item, items_read_by, items_read}
 use Rattle.evaluation_laws.proofs.ReadModels.{models_walked}
@@ -59,7 +59,7 @@ uses_same : (c d : Content) (ns ms : List (Option ℕ)) (cs ds : List (Option va
 uses_same c d ns ms cs ds us vs e = cc
 
 by_readings : (test other : Content) (m n : NamedModel) (r q : Reading)
-    → IsReading m.text.items.items r → IsReading n.text.items.items q
+    → IsModelReading m.text.items.items r → IsModelReading n.text.items.items q
     → slice_by test m r ≡ slice_by other n q → items_read_by m r ≡ items_read_by n q
 by_readings test other m n (readings.Faulty f) (readings.Faulty g) a b e = refl
 by_readings test other m n (readings.Faulty f) (readings.Sound resolved used) a b e = cc
@@ -71,6 +71,6 @@ by_readings test other m n (readings.Sound resolved used) (readings.Sound others
     read_all m.numbers.items n.numbers.items rs qs used.items reached.items walked.roles
     (uses_same _ _ _ _ _ _ _ _ e)
 
-pub read_alike : (test other : Content) (m n : NamedModel) → IsRead m → IsRead n
+pub read_alike : (test other : Content) (m n : NamedModel) → IsModelRead m → IsModelRead n
     → slice test m ≡ slice other n → items_read m ≡ items_read n
 read_alike test other m n a b e = by_readings test other m n m.reading n.reading a b e

@@ -68,6 +68,6 @@ HasCodedItems model =
     → AllByRecursion (λ r. IsCoded r.role) items
 
 -- a test has one outcome under a model
-abbrev pub HasOneOutcome : Test → ModelText → Type 0
-HasOneOutcome test model =
+abbrev pub HasOneOutcomeFromScratch : Test → ModelText → Type 0
+HasOneOutcomeFromScratch test model =
     (o p : Outcome) → IsFromScratch test model o → IsFromScratch test model p → o ≡ p

@@ -7,7 +7,7 @@ use Rattle.text_values.specs.declared.model.ModelText.{ModelText}
 use Rattle.verdict.specs.declared.answer.Evaluation.{Evaluation}
 use Rattle.verdict.specs.declared.answer.Outcome.{Outcome}
 use Rattle.bench_texts.specs.declared.model.NamedModel.{NamedModel}
-use Rattle.bench_texts.specs.Held.{IsRead}
+use Rattle.bench_texts.specs.Held.{IsModelRead}
 use Rattle.bench_slices.specs.Slices.{slice}
 use Rattle.from_scratch.specs.FromScratch.{IsFaultless, IsEvaluationOf, IsFromScratch}
 
@@ -20,7 +20,8 @@ GiveTheSame test other model =
 -- what a cell gives from nothing depends on its slice alone
 abbrev pub SlicesDecide : Type 0
 SlicesDecide =
-    (test other : Test) (model under : NamedModel) (outcome : Outcome) → IsRead model → IsRead under
+    (test other : Test) (model under : NamedModel) (outcome : Outcome) → IsModelRead model
+    → IsModelRead under
     → slice (content_of test) model ≡ slice (content_of other) under
     → IsFromScratch test model.text outcome → IsFromScratch other under.text outcome
 
@@ -28,7 +29,8 @@ SlicesDecide =
 -- under the other
 abbrev pub ItemsDecide : Type 0
 ItemsDecide =
-    (test : Test) (model under : NamedModel) (e : Evaluation) → IsRead model → IsRead under
+    (test : Test) (model under : NamedModel) (e : Evaluation) → IsModelRead model
+    → IsModelRead under
     → IsFaultless model.text → IsFaultless under.text
     → slice (content_of test) model ≡ slice (content_of test) under
     → IsEvaluationOf test model.text e → IsEvaluationOf test under.text e

@@ -7,11 +7,11 @@
 //! - What a cell gives from nothing depends on what its slice has: specs/SliceLaws.
 #![tactic(auto)]
 
-ghost use Rattle.evaluation_laws.specs.Laws.{HasOneColumns, HasOneAnswers, HasOneResolution, HasCodedItems, HasOneOutcome};
+ghost use Rattle.evaluation_laws.specs.Laws.{HasOneColumns, HasOneAnswers, HasOneResolution, HasCodedItems, HasOneOutcomeFromScratch};
 ghost use Rattle.std.specs.Prelude.{◌≡◌};
 ghost use Rattle.text_values.specs.TestValue.{Content};
 ghost use Rattle.bench_texts.specs.declared.model.NamedModel.{NamedModel};
-ghost use Rattle.bench_texts.specs.Held.{IsRead};
+ghost use Rattle.bench_texts.specs.Held.{IsModelRead};
 ghost use Rattle.bench_slices.specs.Slices.{slice};
 ghost use Rattle.evaluation_laws.specs.Readings.{items_read};
 ghost use Rattle.evaluation_laws.specs.SliceLaws.{GiveTheSame, ItemsDecide, SlicesDecide};
@@ -53,7 +53,7 @@ pub fn items_are_coded(model: &ModelText)
 /// A test has one outcome under a model: what evaluating from nothing gives is determined by the
 /// two texts.
 pub fn outcome_is_one(test: &Test, model: &ModelText)
-    ensures { HasOneOutcome test.now model.now }
+    ensures { HasOneOutcomeFromScratch test.now model.now }
 {
     let _test = test;
     let _model = model;
@@ -62,7 +62,8 @@ pub fn outcome_is_one(test: &Test, model: &ModelText)
 /// Models without fault that give a test one slice have, in the order of the text, equal items that
 /// checks and flags reach: what they do, which names they use, and which functions they apply.
 pub fn equal_slices_read_alike()
-    ensures { (test other : Content) (model under : NamedModel) → IsRead model → IsRead under
+    ensures { (test other : Content) (model under : NamedModel) → IsModelRead model
+        → IsModelRead under
         → slice test model ≡ slice other under → items_read model ≡ items_read under }
 {}
 

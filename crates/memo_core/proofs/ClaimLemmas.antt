@@ -7,9 +7,9 @@ use Rattle.std.specs.BTreeMap.{is_at, insert_entry}
 use Rattle.std.specs.Map.{lookup, remove_entry}
 use Rattle.std.proofs.lemmas.Bool.{cases_Bool}
 use Rattle.memo_core.specs.declared.claims.Claim.{Claim}
-use Rattle.memo_core.specs.Step.{OpenClaim, open_claim, open_claims, state, claim_of, without_claim, Loses, AreNumbered}
+use Rattle.memo_core.specs.Step.{OpenClaim, open_claim, open_claims, state, claim_of, without_claim, Loses, AreClaimsNumbered}
 use Rattle.memo_core.specs.Graph.{Net}
-use Rattle.memo_core.specs.Views.{Slot}
+use Rattle.memo_core.specs.Views.{MemoEntry}
 
 at_is : (n k : ℕ) → is_at (nat_cmp n) k ≡ (n == k)
 at_is n k = elim (cases_Bool (n == k)) [
@@ -49,7 +49,7 @@ none_closed n (c ∷ cs) h = elim (cases_Bool (n == c.number)) [
     clash : Some c ≡ None → ⊥
     clash e = cc
 
-pub losing : {V G : Type 0} (net : Net G) (memos : List (Slot V)) (cs left : List (ℕ × Claim))
+pub losing : {V G : Type 0} (net : Net G) (memos : List (MemoEntry V)) (cs left : List (ℕ × Claim))
     (taken n : ℕ) (o : Option Claim) → o ≡ lookup (is_at (nat_cmp n)) cs
     → left ≡ remove_entry (is_at (nat_cmp n)) cs
     → Loses (state net memos cs taken) n (is_some o) (state net memos left taken)
@@ -63,7 +63,7 @@ losing net memos cs left taken n (Some k) is e = (
 )
 
 -- a claim of a new number comes last
-pub opened : (taken : ℕ) (k : Claim) (cs : List (ℕ × Claim)) → AreNumbered taken (open_claims cs)
+pub opened : (taken : ℕ) (k : Claim) (cs : List (ℕ × Claim)) → AreClaimsNumbered taken (open_claims cs)
     → open_claims (insert_entry nat_cmp cs (taken + 1) k)
     ≡ open_claims cs ++ open_claim (taken + 1, k) ∷ []
 opened taken k [] a = refl
@@ -72,13 +72,13 @@ opened taken k (d ∷ cs) a =
     rw (sym (nat_cmp_is (taken + 1) d.0 Greater below)) (ap
     (λ (os : List OpenClaim). open_claim d ∷ os) (opened taken k cs a.1))
 
-pub numbered_later : (taken : ℕ) (cs : List OpenClaim) → AreNumbered taken cs
-    → AreNumbered (taken + 1) cs
+pub numbered_later : (taken : ℕ) (cs : List OpenClaim) → AreClaimsNumbered taken cs
+    → AreClaimsNumbered (taken + 1) cs
 numbered_later taken [] a = tt
 numbered_later taken (c ∷ cs) a = (omega (arith, a.0), numbered_later taken cs a.1)
 
-pub numbered_closed : (taken n : ℕ) (cs : List OpenClaim) → AreNumbered taken cs
-    → AreNumbered taken (without_claim n cs)
+pub numbered_closed : (taken n : ℕ) (cs : List OpenClaim) → AreClaimsNumbered taken cs
+    → AreClaimsNumbered taken (without_claim n cs)
 numbered_closed taken n [] a = tt
 numbered_closed taken n (c ∷ cs) a = elim (cases_Bool (n == c.number)) [
   | inl t ↦ rw t a.1
@@ -86,6 +86,6 @@ numbered_closed taken n (c ∷ cs) a = elim (cases_Bool (n == c.number)) [
 ]
 
 pub numbered_opened : (taken : ℕ) (c : OpenClaim) (cs : List OpenClaim) → c.number ≡ taken + 1
-    → AreNumbered taken cs → AreNumbered (taken + 1) (cs ++ c ∷ [])
+    → AreClaimsNumbered taken cs → AreClaimsNumbered (taken + 1) (cs ++ c ∷ [])
 numbered_opened taken c [] e a = (omega (arith, e), tt)
 numbered_opened taken c (d ∷ cs) e a = (omega (arith, a.0), numbered_opened taken c cs e a.1)

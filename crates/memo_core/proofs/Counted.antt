@@ -5,7 +5,7 @@ use Rattle.memo_core.specs.declared.keys.Key.{Key}
 use Rattle.memo_core.specs.declared.keys.Key.TheVariants.{Part, Output}
 use Rattle.memo_core.specs.declared.keys.Input.{Input}
 use Rattle.memo_core.specs.Graph.{Memo, Net, present_inputs, HasPartStamp, AreAsNow}
-use Rattle.memo_core.specs.Right.{Making, IsMadeNow, IsCounted, IsSamePart}
+use Rattle.memo_core.specs.Right.{Making, IsMadeNow, CountsAsComputed, IsSamePart}
 use Rattle.memo_core.specs.Laws.{GivenStays}
 
 -- the present inputs are as now
@@ -45,21 +45,21 @@ module _ {T V G : Type 0} (is_valid : T → Type 0) (since : T → T → Type 0)
   pub counted_now : (t : T) → since t t
       → (n : Node) (is : List Input) (vs : List V) (os : List (ℕ × V))
       → AreAsNow (net t) is ((net t).inputs n) → IsMadeNow makes (net t) n vs os
-      → IsCounted since net makes t n is vs os
+      → CountsAsComputed since net makes t n is vs os
   counted_now t same n is vs os as_now made =
       record { before = t; came = same; as_then = as_now; then = made }
 
   -- what counted still does on later texts
   pub counted_later : (t u : T) → ((w : T) → since w t → since w u)
       → (n : Node) (is : List Input) (vs : List V) (os : List (ℕ × V))
-      → IsCounted since net makes t n is vs os → IsCounted since net makes u n is vs os
+      → CountsAsComputed since net makes t n is vs os → CountsAsComputed since net makes u n is vs os
   counted_later t u on n is vs os c =
       record { before = c.before; came = on c.before c.came; as_then = c.as_then; then = c.then }
 
   -- what counts, from inputs that are as now, is made now
   pub counted_made : GivenStays is_valid since net → (t : T) → is_valid t
       → (n : Node) (is : List Input) (vs : List V) (os : List (ℕ × V))
-      → IsCounted since net makes t n is vs os → AreAsNow (net t) is ((net t).inputs n)
+      → CountsAsComputed since net makes t n is vs os → AreAsNow (net t) is ((net t).inputs n)
       → IsMadeNow makes (net t) n vs os
   counted_made stays t valid n is vs os c as_now =
       let both = as_both (net c.before) (net t) is ((net c.before).inputs n) ((net t).inputs n) c.as_then as_now in

@@ -7,8 +7,8 @@ use Rattle.memo_core.specs.declared.claims.Finish.{Finish}
 use Rattle.memo_core.specs.declared.claims.Finish.TheVariants.{Unknown, Stale, Same, Stored}
 use Rattle.memo_core.specs.Graph.{Memo, Net, present_inputs, input_nodes, IsSettled, IsSettledBy, put_memo}
 use Rattle.memo_core.specs.Tests.{is_match, all_nodes}
-use Rattle.memo_core.specs.Step.{OpenClaim, State, Return, Has, claim_of, without_claim, AreNumbered, Accepts, Finishes, Gives, Loses, Edits}
-use Rattle.memo_core.specs.Run.{Bench, Event, Edit, Claim, NoClaim, Returned, Lose, Renew, Refused, Meaning, state_in, Step, Run, IsStart, IsKept, IsFreshFrom, count_unsettled}
+use Rattle.memo_core.specs.Step.{OpenClaim, MemoState, Return, Has, claim_of, without_claim, AreClaimsNumbered, Accepts, FinishesReturn, Gives, Loses, Edits}
+use Rattle.memo_core.specs.Run.{Bench, Event, Edit, Claim, NoClaim, Returned, Lose, Renew, Refused, Meaning, state_in, Step, Run, IsNewBench, IsLawfulMeaning, IsFreshFrom, count_unsettled}
 use Rattle.memo_core.specs.Laws.{DecidesSettled, Falls, IsUsedClosed}
 use Rattle.memo_core.specs.Work.{IsJobEvent, numbers_given, has_number, is_accepted, accepted_by, accepted_count, ReturnsLowerInRuns, WorkIsBounded, WorkUnsettlesNone, SettledIsDecided, QuietRunIsSettled}
 use Rattle.memo_core.proofs.Tests.{and_true}
@@ -64,11 +64,11 @@ module _ {V G : Type 0} (net : Net G) (ms : List (Memo V)) where
   )
 
 -- open claims stay apart, and their numbers were given
-pub record AreApart {V G : Type 0} (s : State V G) : Type 0 where
+pub record AreApart {V G : Type 0} (s : MemoState V G) : Type 0 where
   pub fresh : IsFreshFrom s.memos s.claims
-  pub numbered : AreNumbered s.taken s.claims
+  pub numbered : AreClaimsNumbered s.taken s.claims
 
-accepts_apart : {V G : Type 0} (old new : State V G) (r : Return V G) → AreApart old
+accepts_apart : {V G : Type 0} (old new : MemoState V G) (r : Return V G) → AreApart old
     → Accepts old r new → AreApart new
 accepts_apart {V} {G} old new r w a = record {
   fresh = accepts_fresh old new r w.fresh a;
@@ -78,26 +78,26 @@ accepts_apart {V} {G} old new r w a = record {
 }
 
 closed_apart : {V G : Type 0} (net : Net G) (ms : List (Memo V)) (cs : List OpenClaim) (taken n : ℕ)
-    → IsFreshFrom ms cs → AreNumbered taken cs
+    → IsFreshFrom ms cs → AreClaimsNumbered taken cs
     → AreApart (record { net = net; memos = ms; claims = without_claim n cs; taken = taken })
 closed_apart net ms cs taken n f a =
     record { fresh = fresh_closed ms n cs f; numbered = numbered_closed taken n cs a }
 
-finish_apart : {V G : Type 0} (old new : State V G) (r : Return V G) (f : Finish) → AreApart old
-    → Finishes old r f new → AreApart new
+finish_apart : {V G : Type 0} (old new : MemoState V G) (r : Return V G) (f : Finish) → AreApart old
+    → FinishesReturn old r f new → AreApart new
 finish_apart old new r Unknown w h = rw h.1 w
 finish_apart old new r (Stale stamp) w h =
     rw h.3 (closed_apart old.net old.memos old.claims old.taken r.claim w.fresh w.numbered)
 finish_apart old new r Same w h = accepts_apart old new r w h.0
 finish_apart old new r (Stored names) w h = accepts_apart old new r w h.0
 
-lose_apart : {V G : Type 0} (old new : State V G) (n : ℕ) (b : Bool) → AreApart old
+lose_apart : {V G : Type 0} (old new : MemoState V G) (n : ℕ) (b : Bool) → AreApart old
     → Loses old n b new → AreApart new
 lose_apart old new n true w h =
     rw h.2 (closed_apart old.net old.memos old.claims old.taken n w.fresh w.numbered)
 lose_apart old new n false w h = rw h.1 w
 
-gives_apart : {V G : Type 0} (old new : State V G) (number : ℕ) (n : Node) (given : G)
+gives_apart : {V G : Type 0} (old new : MemoState V G) (number : ℕ) (n : Node) (given : G)
     (keys : List Key) (values : List V) → AreApart old
     → Gives old number n given keys values new → AreApart new
 gives_apart old new number n given keys values w g = record {
@@ -112,14 +112,14 @@ gives_apart old new number n given keys values w g = record {
       w.numbered);
 }
 
-edits_apart : {V G : Type 0} (keep : Node → Bool) (old new : State V G) → AreApart old
+edits_apart : {V G : Type 0} (keep : Node → Bool) (old new : MemoState V G) → AreApart old
     → Edits keep old new → AreApart new
 edits_apart keep old new w h = record {
   fresh = rw (h.memos, h.claims) (keep_fresh keep old.memos old.claims w.fresh);
   numbered = rw (h.claims, h.taken) (numbered_later old.taken old.claims w.numbered);
 }
 
-renew_apart : {V G : Type 0} (old new : State V G)
+renew_apart : {V G : Type 0} (old new : MemoState V G)
     → new ≡ record { net = old.net; memos = []; claims = []; taken = old.taken } → AreApart new
 renew_apart old new h = rw h (record { fresh = tt; numbered = tt })
 
@@ -187,7 +187,7 @@ found_each P n (d ∷ cs) c e h = elim (cases_Bool (n == d.number)) [
     some_inj x y h = cc
 
 -- an accepted return unsettles none
-accept_others : {V G : Type 0} (old new : State V G) (r : Return V G)
+accept_others : {V G : Type 0} (old new : MemoState V G) (r : Return V G)
     → IsFreshFrom old.memos old.claims → Accepts old r new → (k : Node)
     → IsSettled old.net old.memos k → IsSettled new.net new.memos k
 accept_others {V} old new r fresh a k s =
@@ -196,12 +196,12 @@ accept_others {V} old new r fresh a k s =
     rw a.after (s.0, settled_stays old.net old.memos m before s.0 k s.1)
 
 -- a state in which the claims above the first number have settled inputs
-pub record IsWorking {V G : Type 0} (first : ℕ) (s : State V G) : Type 0 where
+pub record IsWorking {V G : Type 0} (first : ℕ) (s : MemoState V G) : Type 0 where
   pub apart : AreApart s
   pub low : first ≤ s.taken
   pub ready : AreReady first s.net s.memos s.claims
 
-accepts_ready : {V G : Type 0} (first : ℕ) (old new : State V G) (r : Return V G)
+accepts_ready : {V G : Type 0} (first : ℕ) (old new : MemoState V G) (r : Return V G)
     → IsFreshFrom old.memos old.claims → AreReady first old.net old.memos old.claims
     → Accepts old r new → AreReady first new.net new.memos new.claims
 accepts_ready {V} {G} first old new r fresh ready a =
@@ -216,7 +216,7 @@ accepts_ready {V} {G} first old new r fresh ready a =
     (each_on (HasSettledInputs first old.net old.memos)
     (HasSettledInputs first old.net (put_memo m old.memos)) one old.claims ready))
 
-accepts_works : {V G : Type 0} (first : ℕ) (old new : State V G) (r : Return V G)
+accepts_works : {V G : Type 0} (first : ℕ) (old new : MemoState V G) (r : Return V G)
     → IsWorking first old → Accepts old r new → IsWorking first new
 accepts_works first old new r w a = record {
   apart = accepts_apart old new r w.apart a;
@@ -224,7 +224,7 @@ accepts_works first old new r w a = record {
   ready = accepts_ready first old new r (w.apart).fresh w.ready a;
 }
 
-closed_works : {V G : Type 0} (first : ℕ) (old : State V G) (n : ℕ) → IsWorking first old
+closed_works : {V G : Type 0} (first : ℕ) (old : MemoState V G) (n : ℕ) → IsWorking first old
     → IsWorking first (record {
       net = old.net;
       memos = old.memos;
@@ -237,19 +237,19 @@ closed_works first old n w = record {
   ready = each_closed (HasSettledInputs first old.net old.memos) n old.claims w.ready;
 }
 
-finish_works : {V G : Type 0} (first : ℕ) (old new : State V G) (r : Return V G) (f : Finish)
-    → IsWorking first old → Finishes old r f new → IsWorking first new
+finish_works : {V G : Type 0} (first : ℕ) (old new : MemoState V G) (r : Return V G) (f : Finish)
+    → IsWorking first old → FinishesReturn old r f new → IsWorking first new
 finish_works first old new r Unknown w h = rw h.1 w
 finish_works first old new r (Stale stamp) w h = rw h.3 (closed_works first old r.claim w)
 finish_works first old new r Same w h = accepts_works first old new r w h.0
 finish_works first old new r (Stored names) w h = accepts_works first old new r w h.0
 
-lose_works : {V G : Type 0} (first : ℕ) (old new : State V G) (n : ℕ) (b : Bool)
+lose_works : {V G : Type 0} (first : ℕ) (old new : MemoState V G) (n : ℕ) (b : Bool)
     → IsWorking first old → Loses old n b new → IsWorking first new
 lose_works first old new n true w h = rw h.2 (closed_works first old n w)
 lose_works first old new n false w h = rw h.1 w
 
-gives_ready : {V G : Type 0} (first : ℕ) (old new : State V G) (number : ℕ) (n : Node) (given : G)
+gives_ready : {V G : Type 0} (first : ℕ) (old new : MemoState V G) (number : ℕ) (n : Node) (given : G)
     (keys : List Key) (values : List V) → AreReady first old.net old.memos old.claims
     → Gives old number n given keys values new → AreReady first new.net new.memos new.claims
 gives_ready first old new number n given keys values ready g =
@@ -261,7 +261,7 @@ gives_ready first old new number n given keys values ready g =
     }) ready
     (λ lt. g.work.inputs_settled))
 
-gives_works : {V G : Type 0} (first : ℕ) (old new : State V G) (number : ℕ) (n : Node) (given : G)
+gives_works : {V G : Type 0} (first : ℕ) (old new : MemoState V G) (number : ℕ) (n : Node) (given : G)
     (keys : List Key) (values : List V) → IsWorking first old
     → Gives old number n given keys values new → IsWorking first new
 gives_works first old new number n given keys values w g = record {
@@ -271,24 +271,24 @@ gives_works first old new number n given keys values w g = record {
 }
 
 -- what was settled still is, and by so many the number of unsettled used nodes falls
-pub record Lowers {V G : Type 0} (by : ℕ) (old new : State V G) (p q : Node → Bool) : Type 0 where
+pub record Lowers {V G : Type 0} (by : ℕ) (old new : MemoState V G) (p q : Node → Bool) : Type 0 where
   pub still : (n : Node) → p n ≡ true → q n ≡ true
   pub fewer : by + count_unsettled q new.net.used ≤ count_unsettled p old.net.used
 
-same_lowers : {V G : Type 0} (old new : State V G) (p q : Node → Bool) → new.net ≡ old.net
+same_lowers : {V G : Type 0} (old new : MemoState V G) (p q : Node → Bool) → new.net ≡ old.net
     → new.memos ≡ old.memos → DecidesSettled old p → DecidesSettled new q → Lowers 0 old new p q
 same_lowers {V} {G} old new p q net memos before after =
     let still : (n : Node) → p n ≡ true → q n ≡ true = λ n t. (after n).1 (rw (net, memos) ((before n).0 t)) in
     let fewer = count_no_more p q still old.net.used in
     record { still = still; fewer = rw net (omega (arith, fewer)) }
 
-accept_lowers : {V G : Type 0} (first : ℕ) (numbers : List ℕ) (old new : State V G) (r : Return V G)
+accept_lowers : {V G : Type 0} (first : ℕ) (numbers : List ℕ) (old new : MemoState V G) (r : Return V G)
     (p q : Node → Bool) → (has_number r.claim numbers ≡ true → first < r.claim)
     → IsWorking first old → Accepts old r new
     → DecidesSettled old p → DecidesSettled new q
     → Lowers (if has_number r.claim numbers then 1 else 0) old new p q
 accept_lowers {V} {G} first numbers old new r p q above w a before after =
-    let net : new.net ≡ old.net = ap (λ (s : State V G). s.net) a.after in
+    let net : new.net ≡ old.net = ap (λ (s : MemoState V G). s.net) a.after in
     let still : (n : Node) → p n ≡ true → q n ≡ true = λ n t. (after n).1 (accept_others old new r (w.apart).fresh a n ((before n).0 t)) in
     elim (cases_Bool (has_number r.claim numbers)) [
       | inl t ↦ (let c =
@@ -301,38 +301,38 @@ accept_lowers {V} {G} first numbers old new r p q above w a before after =
           record { still = still; fewer = rw (f, net) (omega (arith, fewer)) })
     ]
 
-finish_lowers : {V G : Type 0} (first : ℕ) (numbers : List ℕ) (old new : State V G) (r : Return V G)
+finish_lowers : {V G : Type 0} (first : ℕ) (numbers : List ℕ) (old new : MemoState V G) (r : Return V G)
     (f : Finish) (p q : Node → Bool) → (has_number r.claim numbers ≡ true → first < r.claim)
-    → IsWorking first old → Finishes old r f new
+    → IsWorking first old → FinishesReturn old r f new
     → DecidesSettled old p → DecidesSettled new q
     → Lowers (if is_accepted f && has_number r.claim numbers then 1 else 0) old new p q
 finish_lowers {V} {G} first numbers old new r Unknown p q above w h before after =
-    same_lowers old new p q (ap (λ (s : State V G). s.net) h.1)
-    (ap (λ (s : State V G). s.memos) h.1) before after
+    same_lowers old new p q (ap (λ (s : MemoState V G). s.net) h.1)
+    (ap (λ (s : MemoState V G). s.memos) h.1) before after
 finish_lowers {V} {G} first numbers old new r (Stale stamp) p q above w h before after =
-    same_lowers old new p q (ap (λ (s : State V G). s.net) h.3)
-    (ap (λ (s : State V G). s.memos) h.3) before after
+    same_lowers old new p q (ap (λ (s : MemoState V G). s.net) h.3)
+    (ap (λ (s : MemoState V G). s.memos) h.3) before after
 finish_lowers first numbers old new r Same p q above w h before after =
     accept_lowers first numbers old new r p q above w h.0 before after
 finish_lowers first numbers old new r (Stored names) p q above w h before after =
     accept_lowers first numbers old new r p q above w h.0 before after
 
-lose_lowers : {V G : Type 0} (old new : State V G) (n : ℕ) (b : Bool) (p q : Node → Bool)
+lose_lowers : {V G : Type 0} (old new : MemoState V G) (n : ℕ) (b : Bool) (p q : Node → Bool)
     → Loses old n b new → DecidesSettled old p → DecidesSettled new q → Lowers 0 old new p q
 lose_lowers {V} {G} old new n true p q h before after =
-    same_lowers old new p q (ap (λ (s : State V G). s.net) h.2)
-    (ap (λ (s : State V G). s.memos) h.2) before after
+    same_lowers old new p q (ap (λ (s : MemoState V G). s.net) h.2)
+    (ap (λ (s : MemoState V G). s.memos) h.2) before after
 lose_lowers {V} {G} old new n false p q h before after =
-    same_lowers old new p q (ap (λ (s : State V G). s.net) h.1)
-    (ap (λ (s : State V G). s.memos) h.1) before after
+    same_lowers old new p q (ap (λ (s : MemoState V G). s.net) h.1)
+    (ap (λ (s : MemoState V G). s.memos) h.1) before after
 
-gives_lowers : {V G : Type 0} (old new : State V G) (number : ℕ) (n : Node) (given : G)
+gives_lowers : {V G : Type 0} (old new : MemoState V G) (number : ℕ) (n : Node) (given : G)
     (keys : List Key) (values : List V) (p q : Node → Bool)
     → Gives old number n given keys values new → DecidesSettled old p → DecidesSettled new q
     → Lowers 0 old new p q
 gives_lowers {V} {G} old new number n given keys values p q g before after =
-    same_lowers old new p q (ap (λ (s : State V G). s.net) g.after)
-    (ap (λ (s : State V G). s.memos) g.after) before after
+    same_lowers old new p q (ap (λ (s : MemoState V G). s.net) g.after)
+    (ap (λ (s : MemoState V G). s.memos) g.after) before after
 
 -- a number that is given is in the rest or is the event's
 either_number : (n : ℕ) (m : ℕ) (ms : List ℕ) → has_number n (m ∷ ms) ≡ true
@@ -457,22 +457,22 @@ module _ {T E V G : Type 0} (means : Meaning T E V G) (rank : T → Node → ℕ
       let rest = run_lowers first numbers es mid new (decision mid) q above later jobs.1 (step_works means first old mid e jobs.0 w h.1) h.2 now after in
       record { still = λ n t. rest.still n (one.still n t); fewer = omega (arith, one.fewer, rest.fewer) }
 
-module _ {T E V G : Type 0} (means : Meaning T E V G) (keeps : IsKept means) (rank : T → Node → ℕ)
+module _ {T E V G : Type 0} (means : Meaning T E V G) (keeps : IsLawfulMeaning means) (rank : T → Node → ℕ)
     (ranks : HasRanks means rank) where
   valid_after : (es : List (Event E V G)) (first end : Bench T V)
-      → IsStart means.is_valid means.net first → Run means first es end → means.is_valid end.texts
+      → IsNewBench means.is_valid means.net first → Run means first es end → means.is_valid end.texts
   valid_after es first end s h =
       (run_since means keeps es first end first.texts
       (s.valid, keeps.since_same first.texts s.valid) h).0
 
   works_after : (es : List (Event E V G)) (first end : Bench T V)
-      → IsStart means.is_valid means.net first → Run means first es end
+      → IsNewBench means.is_valid means.net first → Run means first es end
       → IsWorking end.taken (state_in means end)
   works_after es first end s h =
       let apart = run_apart means es first end (record { fresh = rw s.no_claims tt; numbered = rw s.no_claims tt }) h in
       record { apart = apart; low = omega arith; ready = none_above end.claims apart.numbered }
     where
-      none_above : (cs : List OpenClaim) → AreNumbered end.taken cs
+      none_above : (cs : List OpenClaim) → AreClaimsNumbered end.taken cs
           → AreReady end.taken (means.net end.texts) end.memos cs
       none_above [] a = tt
       none_above (c ∷ cs) a = ((λ lt. absurd (omega (arith, lt, a.0))), none_above cs a.1)
@@ -511,7 +511,7 @@ module _ {T E V G : Type 0} (means : Meaning T E V G) (keeps : IsKept means) (ra
 
   finish_less : (old new : Bench T V) (r : Return V G) (answer : Finish) (p q : Node → Bool)
       → IsFreshFrom old.memos old.claims
-      → Finishes (state_in means old) r answer (state_in means new) → is_accepted answer ≡ true
+      → FinishesReturn (state_in means old) r answer (state_in means new) → is_accepted answer ≡ true
       → Each (IsSettled (means.net old.texts) old.memos)
       (input_nodes ((means.net old.texts).inputs r.node))
       → DecidesSettled (state_in means old) p → DecidesSettled (state_in means new) q

@@ -11,10 +11,10 @@ use Rattle.memo_core.specs.declared.keys.Output.{Output as Made}
 use Rattle.memo_core.specs.declared.claims.Finish.{Finish}
 use Rattle.memo_core.specs.declared.claims.Finish.TheVariants.{Unknown, Stale, Same, Stored}
 use Rattle.memo_core.specs.Names.{same_node}
-use Rattle.memo_core.specs.Graph.{Memo, Net, memo_of, output_at, stored_at, at, stamp_in, present_inputs, outputs_among, put_memo, IsRestamped}
+use Rattle.memo_core.specs.Graph.{Memo, Net, memo_of, output_at, stored_output, at, stamp_or_zero, present_inputs, outputs_among, put_memo, IsRestamped}
 use Rattle.memo_core.specs.Right.{ArePresent, AreAsPresent}
-use Rattle.memo_core.specs.Step.{State, Return, Accepts, Finishes, Loses}
-use Rattle.memo_core.specs.Run.{Bench, Event, Edit, Claim, NoClaim, Returned, Lose, Renew, Refused, IsKept, Meaning, Run, Step, state_in}
+use Rattle.memo_core.specs.Step.{MemoState, Return, Accepts, FinishesReturn, Loses}
+use Rattle.memo_core.specs.Run.{Bench, Event, Edit, Claim, NoClaim, Returned, Lose, Renew, Refused, IsLawfulMeaning, Meaning, Run, Step, state_in}
 use Rattle.memo_core.proofs.Runs.{matching_holds}
 use Rattle.memo_core.proofs.Theory.{memo_found}
 use Rattle.memo_core.specs.Laws.{MatchingIsSolved}
@@ -60,10 +60,10 @@ output_stamped {V} x (o ∷ os) s v all h = elim (cases_Bool (x == o.name)) [
 ]
   where
     high : (o : Made V) → stamped_value o ≡ Some (s, v) → 0 < o.stamp → 0 < s
-    high o q l = let e : o.stamp ≡ s = ap stamp_in q in rw e at l
+    high o q l = let e : o.stamp ≡ s = ap stamp_or_zero q in rw e at l
 
 stored_stamped : {V : Type 0} (x : ℕ) (n : Node) (ms : List (Memo V)) (o : Option (Memo V))
-    → memo_of n ms ≡ o → AreStamped ms → (s : ℕ) (v : V) → stored_at x o ≡ Some (s, v) → 0 < s
+    → memo_of n ms ≡ o → AreStamped ms → (s : ℕ) (v : V) → stored_output x o ≡ Some (s, v) → 0 < s
 stored_stamped x n ms None found all s v h = cc
 stored_stamped {V} x n ms (Some m) found all s v h =
     output_stamped x m.outputs s v ((memo_found (IsStampedMemo {V = V}) n ms m all found).0).outputs
@@ -78,13 +78,13 @@ present_stamped net ms [] (v ∷ vs) all p = absurd p
 present_stamped net ms (Part a b ∷ ks) vs all p = present_stamped net ms ks vs all p
 present_stamped net ms (Output n x ∷ ks) [] all p = absurd p
 present_stamped net ms (Output n x ∷ ks) (v ∷ vs) all p =
-    let stored : stored_at x (memo_of n ms) ≡ Some ((p.0).0, v) = (p.0).1 in
+    let stored : stored_output x (memo_of n ms) ≡ Some ((p.0).0, v) = (p.0).1 in
     let high : 0 < (p.0).0 = stored_stamped x n ms (memo_of n ms) refl all (p.0).0 v stored in
-    (subst (λ (s : ℕ). 0 < s) (sym (ap stamp_in stored)) high, present_stamped net ms ks vs all p.1)
+    (subst (λ (s : ℕ). 0 < s) (sym (ap stamp_or_zero stored)) high, present_stamped net ms ks vs all p.1)
 
 -- and what has a stamp has a value
 value_there : {V : Type 0} (o : Option (ℕ × V)) (v : V)
-    → ((s : ℕ) (w : V) → o ≡ Some (s, w) → w ≡ v) → 0 < stamp_in o → (s : ℕ) × (o ≡ Some (s, v))
+    → ((s : ℕ) (w : V) → o ≡ Some (s, w) → w ≡ v) → 0 < stamp_or_zero o → (s : ℕ) × (o ≡ Some (s, v))
 value_there None v same high = absurd (omega (arith, high))
 value_there {V} (Some q) v same high =
     (q.0, ap (λ (w : V). let r : Option (ℕ × V) = Some (q.0, w) in r) (same q.0 q.1 refl))
@@ -97,7 +97,7 @@ all_present net ms [] (v ∷ vs) p high = absurd p
 all_present net ms (Part a b ∷ ks) vs p high = all_present net ms ks vs p high
 all_present net ms (Output n x ∷ ks) [] p high = absurd p
 all_present net ms (Output n x ∷ ks) (v ∷ vs) p high =
-    (value_there (stored_at x (memo_of n ms)) v p.0 high.0, all_present net ms ks vs p.1 high.1)
+    (value_there (stored_output x (memo_of n ms)) v p.0 high.0, all_present net ms ks vs p.1 high.1)
 
 -- ---- any list of events
 
@@ -110,7 +110,7 @@ made_stamped {V} taken n ms (o ∷ os) all made = (one made.0, made_stamped take
     one (inl kept) = stored_stamped o.name n ms (memo_of n ms) refl all o.stamp o.value kept
     one (inr new) = let e : o.stamp ≡ taken + 1 = new.0 in omega (arith, e)
 
-accepts_stamped : {V G : Type 0} (old new : State V G) (r : Return V G) → AreStamped old.memos
+accepts_stamped : {V G : Type 0} (old new : MemoState V G) (r : Return V G) → AreStamped old.memos
     → Accepts old r new → AreStamped new.memos
 accepts_stamped {V} {G} old new r all a =
     let e : a.claim.node ≡ r.node = a.out.same in
@@ -123,17 +123,17 @@ accepts_stamped {V} {G} old new r all a =
           a.of_present.values);
       outputs = made_stamped old.taken r.node old.memos a.outputs all a.stamps;
     } in
-    subst (λ (s : State V G). AreStamped s.memos) (sym a.after) (each_put (IsStampedMemo {V = V})
+    subst (λ (s : MemoState V G). AreStamped s.memos) (sym a.after) (each_put (IsStampedMemo {V = V})
     memo old.memos stamped all)
 
-finish_stamped : {V G : Type 0} (old new : State V G) (r : Return V G) (f : Finish)
-    → AreStamped old.memos → Finishes old r f new → AreStamped new.memos
+finish_stamped : {V G : Type 0} (old new : MemoState V G) (r : Return V G) (f : Finish)
+    → AreStamped old.memos → FinishesReturn old r f new → AreStamped new.memos
 finish_stamped old new r Unknown all h = rw h.1 all
 finish_stamped old new r (Stale stamp) all h = rw h.3 all
 finish_stamped old new r Same all h = accepts_stamped old new r all h.0
 finish_stamped old new r (Stored names) all h = accepts_stamped old new r all h.0
 
-lose_stamped : {V G : Type 0} (old new : State V G) (n : ℕ) (b : Bool) → AreStamped old.memos
+lose_stamped : {V G : Type 0} (old new : MemoState V G) (n : ℕ) (b : Bool) → AreStamped old.memos
     → Loses old n b new → AreStamped new.memos
 lose_stamped old new n true all h = rw h.2 all
 lose_stamped old new n false all h = rw h.1 all
@@ -145,13 +145,13 @@ module _ {T E V G : Type 0} (means : Meaning T E V G) where
       subst (λ (ms : List (Memo V)). AreStamped ms) (sym h.1.memos) (each_filter
       (IsStampedMemo {V = V}) (λ m. means.keeps new.texts m.node) old.memos all)
   step_stamped old new (Claim number n given keys values) all h =
-      subst (λ (s : State V G). AreStamped s.memos) (sym h.1.after) all
+      subst (λ (s : MemoState V G). AreStamped s.memos) (sym h.1.after) all
   step_stamped old new NoClaim all h = rw h.1 all
   step_stamped old new (Returned r answer) all h =
       finish_stamped (state_in means old) (state_in means new) r answer all h.2
   step_stamped old new (Lose n answer) all h =
       lose_stamped (state_in means old) (state_in means new) n answer all h.1
-  step_stamped old new Renew all h = subst (λ (s : State V G). AreStamped s.memos) (sym h.1) tt
+  step_stamped old new Renew all h = subst (λ (s : MemoState V G). AreStamped s.memos) (sym h.1) tt
   step_stamped old new Refused all h =
       subst (λ (ms : List (Memo V)). AreStamped ms) (sym h.memos) all
 
@@ -160,7 +160,7 @@ module _ {T E V G : Type 0} (means : Meaning T E V G) where
   run_stamped [] old new all h = rw h all
   run_stamped (e ∷ es) old new all h = run_stamped es h.0 new (step_stamped old h.0 e all h.1) h.2
 
-  pub matching_solved : IsKept means → MatchingIsSolved means
+  pub matching_solved : IsLawfulMeaning means → MatchingIsSolved means
   matching_solved kept events start end s run n same =
       let made = matching_holds means kept events start end s run n same in
       let all = run_stamped events start end (subst (λ (ms : List (Memo V)). AreStamped ms) (sym s.no_memos) tt) run in

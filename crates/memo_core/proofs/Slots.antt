@@ -10,11 +10,11 @@ use Rattle.memo_core.specs.declared.table.Kept.{Kept}
 use Rattle.memo_core.specs.Names.{same_node}
 use Rattle.memo_core.specs.Lemmas.Equality.{same_node_exact, same_node_refl}
 use Rattle.memo_core.specs.Graph.{Memo, memo_of, put_memo}
-use Rattle.memo_core.specs.Views.{Slot, as_memo, as_memos, tokens_of}
+use Rattle.memo_core.specs.Views.{MemoEntry, as_memo, as_memos, tokens_of}
 use Rattle.memo_core.specs.Marks.{mark_in, mark_of, with_mark_at, without_mark}
 
 -- what is found at a node is its memo
-pub memo_found_at : {V : Type 0} (n : Node) (ks : List (Slot V))
+pub memo_found_at : {V : Type 0} (n : Node) (ks : List (MemoEntry V))
     → option_map (λ k. as_memo (n, k)) (lookup (same_node n) ks) ≡ memo_of n (as_memos ks)
 memo_found_at n [] = refl
 memo_found_at {V} n (k ∷ ks) = elim (cases_Bool (same_node n k.0)) [
@@ -23,14 +23,14 @@ memo_found_at {V} n (k ∷ ks) = elim (cases_Bool (same_node n k.0)) [
   | inr f ↦ rw f (memo_found_at n ks)
 ]
 
-pub mark_found_at : {V : Type 0} (n : Node) (ks : List (Slot V))
+pub mark_found_at : {V : Type 0} (n : Node) (ks : List (MemoEntry V))
     → mark_in (lookup (same_node n) ks) ≡ mark_of ks n
 mark_found_at n [] = refl
 mark_found_at n (k ∷ ks) =
     elim (cases_Bool (same_node n k.0)) [ inl t ↦ rw t refl | inr f ↦ rw f (mark_found_at n ks) ]
 
 -- a found share of what is kept shows its memo
-pub found_memo : {V : Type 0} (n : Node) (ks : List (Slot V)) (o : Option (Bor (Kept (Shown V))))
+pub found_memo : {V : Type 0} (n : Node) (ks : List (MemoEntry V)) (o : Option (Bor (Kept (Shown V))))
     → option_copied o ≡ lookup (same_node n) ks
     → option_map (λ k. as_memo (n, k.now)) o ≡ memo_of n (as_memos ks)
 found_memo {V} n ks o h =
@@ -43,7 +43,7 @@ found_memo {V} n ks o h =
     go (Some k) = refl
 
 -- what is found at a node holds its tokens
-pub tokens_found : {V : Type 0} (n : Node) (ks : List (Slot V)) (k : Kept (Shown V))
+pub tokens_found : {V : Type 0} (n : Node) (ks : List (MemoEntry V)) (k : Kept (Shown V))
     → Some k ≡ lookup (same_node n) ks → k.outputs.items ≡ tokens_of n ks
 tokens_found n [] k h = cc
 tokens_found {V} n (x ∷ ks) k h = elim (cases_Bool (same_node n x.0)) [
@@ -51,7 +51,7 @@ tokens_found {V} n (x ∷ ks) k h = elim (cases_Bool (same_node n x.0)) [
   | inr f ↦ rw f (tokens_found n ks k (rw f at h))
 ]
 
-pub no_tokens : {V : Type 0} (n : Node) (ks : List (Slot V)) → None ≡ lookup (same_node n) ks
+pub no_tokens : {V : Type 0} (n : Node) (ks : List (MemoEntry V)) → None ≡ lookup (same_node n) ks
     → tokens_of n ks ≡ []
 no_tokens n [] h = refl
 no_tokens {V} n (x ∷ ks) h = elim (cases_Bool (same_node n x.0)) [
@@ -63,7 +63,7 @@ no_tokens {V} n (x ∷ ks) h = elim (cases_Bool (same_node n x.0)) [
     none_some k h = cc
 
 -- what is written at a node is its mark
-pub mark_written : {V : Type 0} (n : Node) (ks : List (Slot V)) (k : Kept (Shown V))
+pub mark_written : {V : Type 0} (n : Node) (ks : List (MemoEntry V)) (k : Kept (Shown V))
     → Some k ≡ lookup (same_node n) ks
     → set_value (same_node n) ks (record { inputs = k.inputs; outputs = k.outputs; settled = true })
     ≡ with_mark_at n ks
@@ -72,26 +72,26 @@ mark_written {V} n (x ∷ ks) k h = elim (cases_Bool (same_node n x.0)) [
   | inl t ↦ (let q : Some k ≡ Some x.1 = rw t at h in
       rw t (ap
       (λ (k : Kept (Shown V)).
-      let s : Slot V =
+      let s : MemoEntry V =
       (x.0, record { inputs = k.inputs; outputs = k.outputs; settled = true }) in
       s ∷ ks)
       (same_Some k x.1 q)))
-  | inr f ↦ rw f (ap (λ (r : List (Slot V)). x ∷ r) (mark_written n ks k (rw f at h)))
+  | inr f ↦ rw f (ap (λ (r : List (MemoEntry V)). x ∷ r) (mark_written n ks k (rw f at h)))
 ]
 
-pub nothing_marked : {V : Type 0} (n : Node) (ks : List (Slot V)) → None ≡ lookup (same_node n) ks
+pub nothing_marked : {V : Type 0} (n : Node) (ks : List (MemoEntry V)) → None ≡ lookup (same_node n) ks
     → ks ≡ with_mark_at n ks
 nothing_marked n [] h = refl
 nothing_marked {V} n (x ∷ ks) h = elim (cases_Bool (same_node n x.0)) [
   | inl t ↦ absurd (none_some x.1 (rw t at h))
-  | inr f ↦ rw f (ap (λ (r : List (Slot V)). x ∷ r) (nothing_marked n ks (rw f at h)))
+  | inr f ↦ rw f (ap (λ (r : List (MemoEntry V)). x ∷ r) (nothing_marked n ks (rw f at h)))
 ]
   where
     none_some : (k : Kept (Shown V)) → None ≡ Some k → ⊥
     none_some k h = cc
 
 -- what is inserted is put
-pub memo_inserted : {V : Type 0} (n : Node) (k : Kept (Shown V)) (ks : List (Slot V))
+pub memo_inserted : {V : Type 0} (n : Node) (k : Kept (Shown V)) (ks : List (MemoEntry V))
     → as_memos (insert_entry same_node ks n k) ≡ put_memo (as_memo (n, k)) (as_memos ks)
 memo_inserted n k [] = refl
 memo_inserted {V} n k (x ∷ ks) = elim (cases_Bool (same_node n x.0)) [
@@ -99,7 +99,7 @@ memo_inserted {V} n k (x ∷ ks) = elim (cases_Bool (same_node n x.0)) [
   | inr f ↦ rw f (ap (λ (r : List (Memo V)). as_memo x ∷ r) (memo_inserted n k ks))
 ]
 
-pub mark_inserted : {V : Type 0} (n : Node) (k : Kept (Shown V)) (ks : List (Slot V)) (m : Node)
+pub mark_inserted : {V : Type 0} (n : Node) (k : Kept (Shown V)) (ks : List (MemoEntry V)) (m : Node)
     → mark_of (insert_entry same_node ks n k) m
     ≡ (if same_node m n then k.settled else mark_of ks m)
 mark_inserted n k [] m = refl
@@ -137,18 +137,18 @@ module _ {V F : Type 0} (S : F → Node → Kept (Shown V) → Bool → Kept (Sh
     (keep : Node → Bool) (f : F)
     (says : (n : Node) (k : Kept (Shown V)) (b : Bool) (w : Kept (Shown V)) (g : F) → S f n k b w g
     → (b ≡ keep n) × (w ≡ without_mark k) × (g ≡ f)) where
-  abbrev cleared : List (Slot V) → List (Slot V)
+  abbrev cleared : List (MemoEntry V) → List (MemoEntry V)
   cleared [] = []
   cleared (k ∷ ks) = if keep k.0 then (k.0, without_mark k.1) ∷ cleared ks else cleared ks
 
-  retained_cleared : (ks kept : List (Slot V)) → RetainsPairs S f ks kept → kept ≡ cleared ks
+  retained_cleared : (ks kept : List (MemoEntry V)) → RetainsPairs S f ks kept → kept ≡ cleared ks
   retained_cleared [] kept h = h
   retained_cleared (k ∷ ks) kept h =
       let s = says k.0 k.1 h.0 h.1 h.2 h.4 in
       let rest = retained_cleared ks h.3 (subst (λ g. RetainsPairs S g ks h.3) s.2 h.5) in
       h.6 ∙ rw (s.0, s.1, rest) refl
 
-  cleared_memos : (ks : List (Slot V))
+  cleared_memos : (ks : List (MemoEntry V))
       → as_memos (cleared ks) ≡ filter (λ m. keep m.node) (as_memos ks)
   cleared_memos [] = refl
   cleared_memos (k ∷ ks) = elim (cases_Bool (keep k.0)) [
@@ -156,7 +156,7 @@ module _ {V F : Type 0} (S : F → Node → Kept (Shown V) → Bool → Kept (Sh
     | inr g ↦ rw g (cleared_memos ks)
   ]
 
-  cleared_marks : (ks : List (Slot V)) (n : Node) → mark_of (cleared ks) n ≡ false
+  cleared_marks : (ks : List (MemoEntry V)) (n : Node) → mark_of (cleared ks) n ≡ false
   cleared_marks [] n = refl
   cleared_marks (k ∷ ks) n = elim (cases_Bool (keep k.0)) [
     | inl t ↦ rw t (elim (cases_Bool (same_node n k.0))
@@ -164,11 +164,11 @@ module _ {V F : Type 0} (S : F → Node → Kept (Shown V) → Bool → Kept (Sh
     | inr g ↦ rw g (cleared_marks ks n)
   ]
 
-  pub retained_memos : (ks kept : List (Slot V)) → RetainsPairs S f ks kept
+  pub retained_memos : (ks kept : List (MemoEntry V)) → RetainsPairs S f ks kept
       → as_memos kept ≡ filter (λ m. keep m.node) (as_memos ks)
   retained_memos ks kept h = ap as_memos (retained_cleared ks kept h) ∙ cleared_memos ks
 
-  pub retained_marks : (ks kept : List (Slot V)) → RetainsPairs S f ks kept → (n : Node)
+  pub retained_marks : (ks kept : List (MemoEntry V)) → RetainsPairs S f ks kept → (n : Node)
       → mark_of kept n ≡ false
   retained_marks ks kept h n =
-      ap (λ (ks : List (Slot V)). mark_of ks n) (retained_cleared ks kept h) ∙ cleared_marks ks n
+      ap (λ (ks : List (MemoEntry V)). mark_of ks n) (retained_cleared ks kept h) ∙ cleared_marks ks n

@@ -5,9 +5,9 @@ use Rattle.std.specs.List.{AllByRecursion as Each}
 use Rattle.memo_core.specs.declared.keys.Node.{Node}
 use Rattle.memo_core.specs.declared.keys.Key.{Key}
 use Rattle.memo_core.specs.Graph.{Net, Matches, IsSettled, at, input_nodes, memo_of, present_inputs, outputs_among}
-use Rattle.memo_core.specs.Right.{Making, ArePresent, IsPinned, IsSolved, IsMadeOfPresent, IsSamePart, IsUntouchedBy}
-use Rattle.memo_core.specs.Step.{State, Return, Has, IsWork, Accepts, Gives, Edits}
-use Rattle.memo_core.specs.Run.{Bench, Event, Meaning, Run, IsStart, IsFreshFrom, IsProgress, count_unsettled}
+use Rattle.memo_core.specs.Right.{Making, ArePresent, IsPinned, IsSolvedNode, IsMadeOfPresent, IsSamePart, IsUntouchedBy}
+use Rattle.memo_core.specs.Step.{MemoState, Return, Has, IsWork, Accepts, Gives, Edits}
+use Rattle.memo_core.specs.Run.{Bench, Event, Meaning, Run, IsNewBench, IsFreshFrom, IsProgress, count_unsettled}
 
 -- the inputs of a used node are used
 abbrev pub IsUsedClosed : {G : Type 0} → Net G → Type 0
@@ -46,16 +46,18 @@ meaning net is_valid since makes keeps edited last = record {
 -- the present values of its present inputs
 abbrev pub SettledIsSolved : {T E V G : Type 0} → Meaning T E V G → (T → Node → Type 0) → Type 0
 SettledIsSolved {T} {E} {V} {G} means is_there =
-    (events : List (Event E V G)) (start end : Bench T V) → IsStart means.is_valid means.net start
+    (events : List (Event E V G)) (start end : Bench T V)
+    → IsNewBench means.is_valid means.net start
     → Run means start events end
     → (n : Node) → is_there end.texts n → IsSettled (means.net end.texts) end.memos n
-    → IsSolved means.makes (means.net end.texts) end.memos n
+    → IsSolvedNode means.makes (means.net end.texts) end.memos n
 
 -- so does a node that is not settled, where its memo's inputs and stamps are the present ones, as
 -- far as its inputs have values
 abbrev pub MatchingIsMade : {T E V G : Type 0} → Meaning T E V G → Type 0
 MatchingIsMade {T} {E} {V} {G} means =
-    (events : List (Event E V G)) (start end : Bench T V) → IsStart means.is_valid means.net start
+    (events : List (Event E V G)) (start end : Bench T V)
+    → IsNewBench means.is_valid means.net start
     → Run means start events end
     → (n : Node) → Matches (means.net end.texts) end.memos n
     → IsMadeOfPresent means.makes (means.net end.texts) end.memos n
@@ -64,26 +66,29 @@ MatchingIsMade {T} {E} {V} {G} means =
 -- node does
 abbrev pub MatchingIsSolved : {T E V G : Type 0} → Meaning T E V G → Type 0
 MatchingIsSolved {T} {E} {V} {G} means =
-    (events : List (Event E V G)) (start end : Bench T V) → IsStart means.is_valid means.net start
+    (events : List (Event E V G)) (start end : Bench T V)
+    → IsNewBench means.is_valid means.net start
     → Run means start events end
     → (n : Node) → Matches (means.net end.texts) end.memos n
-    → IsSolved means.makes (means.net end.texts) end.memos n
+    → IsSolvedNode means.makes (means.net end.texts) end.memos n
 
 -- a return that is taken at a node with settled inputs settles that node, and unsettles none
 abbrev pub ReturnsSettle : (V G : Type 0) → Type 0
 ReturnsSettle V G =
-    (old new : State V G) (r : Return V G) → IsFreshFrom old.memos old.claims → Accepts old r new
+    (old new : MemoState V G) (r : Return V G) → IsFreshFrom old.memos old.claims
+    → Accepts old r new
     → Each (IsSettled old.net old.memos) (input_nodes (old.net.inputs r.node))
     → IsProgress old new r.node
 
 -- whether each node is settled
-abbrev pub DecidesSettled : {V G : Type 0} → State V G → (Node → Bool) → Type 0
+abbrev pub DecidesSettled : {V G : Type 0} → MemoState V G → (Node → Bool) → Type 0
 DecidesSettled s settled = (n : Node) → (settled n ≡ true) ↔ IsSettled s.net s.memos n
 
 -- such a return lowers the number of used nodes that are not settled
 abbrev pub ReturnsLower : (V G : Type 0) → Type 0
 ReturnsLower V G =
-    (old new : State V G) (r : Return V G) (before after : Node → Bool) → DecidesSettled old before
+    (old new : MemoState V G) (r : Return V G) (before after : Node → Bool)
+    → DecidesSettled old before
     → DecidesSettled new after → IsFreshFrom old.memos old.claims → Accepts old r new
     → Each (IsSettled old.net old.memos) (input_nodes (old.net.inputs r.node))
     → count_unsettled after old.net.used < count_unsettled before old.net.used
@@ -91,27 +96,29 @@ ReturnsLower V G =
 -- a return that is taken keeps the open claims apart
 abbrev pub ReturnsKeepApart : (V G : Type 0) → Type 0
 ReturnsKeepApart V G =
-    (old new : State V G) (r : Return V G) → IsFreshFrom old.memos old.claims → Accepts old r new
+    (old new : MemoState V G) (r : Return V G) → IsFreshFrom old.memos old.claims
+    → Accepts old r new
     → IsFreshFrom new.memos new.claims
 
 -- so does a claim that is given
 abbrev pub ClaimsKeepApart : (V G : Type 0) → Type 0
 ClaimsKeepApart V G =
-    (old new : State V G) (number : ℕ) (n : Node) (given : G) (keys : List Key) (values : List V)
+    (old new : MemoState V G) (number : ℕ) (n : Node) (given : G) (keys : List Key)
+    (values : List V)
     → IsFreshFrom old.memos old.claims → Gives old number n given keys values new
     → IsFreshFrom new.memos new.claims
 
 -- an edit that touches nothing under a settled node leaves it settled
 abbrev pub UntouchedStaysSettled : (V G : Type 0) → Type 0
 UntouchedStaysSettled V G =
-    (keep : Node → Bool) (old new : State V G) (n : Node) → Edits keep old new
+    (keep : Node → Bool) (old new : MemoState V G) (n : Node) → Edits keep old new
     → ((d : ℕ) → IsUntouchedBy d keep old.net new.net n) → IsSettled old.net old.memos n
     → IsSettled new.net new.memos n
 
 -- an edit leaves the memo of each node that is kept
 abbrev pub KeptIsSame : (V G : Type 0) → Type 0
 KeptIsSame V G =
-    (keep : Node → Bool) (old new : State V G) (n : Node) → Edits keep old new → keep n ≡ true
+    (keep : Node → Bool) (old new : MemoState V G) (n : Node) → Edits keep old new → keep n ≡ true
     → memo_of n new.memos ≡ memo_of n old.memos
 
 -- what a job held stays the present values as long as the stamps are the present ones
@@ -138,5 +145,5 @@ GivenStaysPresent {T} {E} {V} {G} means =
 -- where no node has work and no claim is open, each used node is settled
 abbrev pub QuietIsSettled : (V G : Type 0) → Type 0
 QuietIsSettled V G =
-    (s : State V G) (rank : Node → ℕ) → Falls s.net rank → IsUsedClosed s.net → s.claims ≡ []
+    (s : MemoState V G) (rank : Node → ℕ) → Falls s.net rank → IsUsedClosed s.net → s.claims ≡ []
     → ((n : Node) → IsWork s n → ⊥) → (n : Node) → Has s.net.used n → IsSettled s.net s.memos n

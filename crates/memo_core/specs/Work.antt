@@ -7,7 +7,7 @@ use Rattle.memo_core.specs.declared.claims.Finish.{Finish}
 use Rattle.memo_core.specs.declared.claims.Finish.TheVariants.{Unknown, Stale, Same, Stored}
 use Rattle.memo_core.specs.Graph.{IsSettled, input_nodes}
 use Rattle.memo_core.specs.Step.{Return, Has}
-use Rattle.memo_core.specs.Run.{Bench, Event, Edit, Claim, NoClaim, Returned, Lose, Renew, Refused, Meaning, state_in, Step, Run, IsStart, count_unsettled}
+use Rattle.memo_core.specs.Run.{Bench, Event, Edit, Claim, NoClaim, Returned, Lose, Renew, Refused, Meaning, state_in, Step, Run, IsNewBench, count_unsettled}
 use Rattle.memo_core.specs.Laws.{DecidesSettled}
 
 -- a claim, a return, a loss or a refused call
@@ -65,7 +65,7 @@ accepted_count claims (e ∷ es) = accepted_by claims e + accepted_count claims 
 abbrev pub ReturnsLowerInRuns : {T E V G : Type 0} → Meaning T E V G → Type 0
 ReturnsLowerInRuns {T} {E} {V} {G} means =
     (events : List (Event E V G)) (first old new : Bench T V) (r : Return V G) (answer : Finish)
-    (before after : Node → Bool) → IsStart means.is_valid means.net first
+    (before after : Node → Bool) → IsNewBench means.is_valid means.net first
     → Run means first events old → Step means old (Returned r answer) new
     → is_accepted answer ≡ true
     → Each (IsSettled (means.net old.texts) old.memos)
@@ -79,7 +79,7 @@ ReturnsLowerInRuns {T} {E} {V} {G} means =
 abbrev pub WorkIsBounded : {T E V G : Type 0} → Meaning T E V G → Type 0
 WorkIsBounded {T} {E} {V} {G} means =
     (earlier events : List (Event E V G)) (first start end : Bench T V) (before after : Node → Bool)
-    → IsStart means.is_valid means.net first → Run means first earlier start
+    → IsNewBench means.is_valid means.net first → Run means first earlier start
     → Run means start events end
     → Each IsJobEvent events → DecidesSettled (state_in means start) before
     → DecidesSettled (state_in means end) after
@@ -91,7 +91,7 @@ WorkIsBounded {T} {E} {V} {G} means =
 abbrev pub WorkUnsettlesNone : {T E V G : Type 0} → Meaning T E V G → Type 0
 WorkUnsettlesNone {T} {E} {V} {G} means =
     (earlier events : List (Event E V G)) (first start end : Bench T V)
-    → IsStart means.is_valid means.net first → Run means first earlier start
+    → IsNewBench means.is_valid means.net first → Run means first earlier start
     → Run means start events end → Each IsJobEvent events
     → (n : Node) → IsSettled (means.net start.texts) start.memos n
     → IsSettled (means.net end.texts) end.memos n
@@ -99,7 +99,8 @@ WorkUnsettlesNone {T} {E} {V} {G} means =
 -- after any list of events it is decided which nodes are settled
 abbrev pub SettledIsDecided : {T E V G : Type 0} → Meaning T E V G → Type 0
 SettledIsDecided {T} {E} {V} {G} means =
-    (events : List (Event E V G)) (first end : Bench T V) → IsStart means.is_valid means.net first
+    (events : List (Event E V G)) (first end : Bench T V)
+    → IsNewBench means.is_valid means.net first
     → Run means first events end
     → (settled : Node → Bool) × DecidesSettled (state_in means end) settled
 
@@ -107,6 +108,6 @@ SettledIsDecided {T} {E} {V} {G} means =
 abbrev pub QuietRunIsSettled : {T E V G : Type 0} → Meaning T E V G → Type 0
 QuietRunIsSettled {T} {E} {V} {G} means =
     (events : List (Event E V G)) (first before end : Bench T V)
-    → IsStart means.is_valid means.net first → Run means first events before
+    → IsNewBench means.is_valid means.net first → Run means first events before
     → Step means before NoClaim end → before.claims ≡ []
     → (n : Node) → Has (means.net end.texts).used n → IsSettled (means.net end.texts) end.memos n

@@ -5,13 +5,13 @@ use Rattle.memo_core.specs.declared.keys.Key.{Key}
 use Rattle.memo_core.specs.declared.keys.Input.{Input}
 use Rattle.memo_core.specs.declared.keys.Key.TheVariants.{Output}
 use Rattle.memo_core.specs.declared.keys.Output.{Output as Made}
-use Rattle.memo_core.specs.Graph.{Memo, Net, memo_of, output_at, stored_at, stamp_in, named_values, put_memo, IsRestamped, AreAsNow}
+use Rattle.memo_core.specs.Graph.{Memo, Net, memo_of, output_at, stored_output, stamp_or_zero, named_values, put_memo, IsRestamped, AreAsNow}
 use Rattle.memo_core.specs.Right.{IsRight}
 use Rattle.memo_core.specs.Tests.{holds_value, stamped_output, stamped_outputs, changed_names, outputs_of}
 use Rattle.memo_core.specs.declared.claims.Finish.{Finish}
 use Rattle.memo_core.specs.declared.claims.Finish.TheVariants.{Unknown, Stale, Same, Stored}
-use Rattle.memo_engine.specs.Clauses.{TellsNames}
-use Rattle.memo_core.specs.Step.{OpenClaim, State, Return, open_claim, open_claims, return_of, IsCurrent, IsJudged, Accepts, Finishes, names_stamped}
+use Rattle.memo_engine.specs.Clauses.{TellsChangedNames}
+use Rattle.memo_core.specs.Step.{OpenClaim, MemoState, Return, open_claim, open_claims, return_of, IsCurrent, IsJudgementOf, Accepts, FinishesReturn, names_stamped}
 use Rattle.memo_core.proofs.Counted.{as_now_present}
 use Rattle.memo_core.proofs.Headline.{at_low, store_right}
 use Rattle.std.specs.Ordering.{nat_cmp}
@@ -24,7 +24,7 @@ use Rattle.memo_core.specs.declared.claims.Claim.{Claim}
 use Rattle.memo_core.specs.declared.claims.Judgement.TheVariants.{Due}
 
 module _ {V : Type 0} (same : V → V → Bool) (exact : (a b : V) → (same a b ≡ true) ↔ (a ≡ b)) where
-  holds_yes : (o : Option (ℕ × V)) (v : V) → holds_value same o v ≡ true → o ≡ Some (stamp_in o, v)
+  holds_yes : (o : Option (ℕ × V)) (v : V) → holds_value same o v ≡ true → o ≡ Some (stamp_or_zero o, v)
   holds_yes None v h = cc
   holds_yes (Some p) v h =
       ap (λ (w : V). let r : Option (ℕ × V) = Some (p.0, w) in r) ((exact p.1 v).0 h)
@@ -32,7 +32,7 @@ module _ {V : Type 0} (same : V → V → Bool) (exact : (a b : V) → (same a b
   holds_no : (o : Option (ℕ × V)) (v : V) → holds_value same o v ≡ false → (s : ℕ) → o ≢ Some (s, v)
   holds_no o v h s e = let t : true ≡ false = sym ((exact v v).1 refl) ∙ rw e at h in cc
 
-  stored_outputs : (x : ℕ) (o : Option (Memo V)) → stored_at x o ≡ output_at x (outputs_of o)
+  stored_outputs : (x : ℕ) (o : Option (Memo V)) → stored_output x o ≡ output_at x (outputs_of o)
   stored_outputs x None = refl
   stored_outputs x (Some m) = refl
 
@@ -69,7 +69,7 @@ module _ {V : Type 0} (same : V → V → Bool) (exact : (a b : V) → (same a b
   names_are old number low (o ∷ os) =
       elim (cases_Bool (holds_value same (output_at o.name old) o.value)) [
         | inl t ↦ (let below = low o.name _ o.value (holds_yes (output_at o.name old) o.value t) in
-            let other : stamp_in (output_at o.name old) ≢ number = omega arith in
+            let other : stamp_or_zero (output_at o.name old) ≢ number = omega arith in
             rw t (rw (ne_eqb _ _ other) (names_are old number low os)))
         | inr f ↦ rw f (rw (eq-eqb number number refl) (ap (λ (ns : List ℕ). o.name ∷ ns)
             (names_are old number low os)))
@@ -80,9 +80,9 @@ low_in : {V G : Type 0} (compute : Node → List Input → List V → List (ℕ 
     → (o : Option (Memo V)) → memo_of node ms ≡ o → (x s : ℕ) (v : V)
     → output_at x (outputs_of o) ≡ Some (s, v) → s < taken + 1
 low_in {V} compute net ms taken node right o e x s v h =
-    let l = at_low compute net ms taken right (Output node x) s v (ap (stored_at x) e ∙ same_there o ∙ h) in omega arith
+    let l = at_low compute net ms taken right (Output node x) s v (ap (stored_output x) e ∙ same_there o ∙ h) in omega arith
   where
-    same_there : (o : Option (Memo V)) → stored_at x o ≡ output_at x (outputs_of o)
+    same_there : (o : Option (Memo V)) → stored_output x o ≡ output_at x (outputs_of o)
     same_there None = refl
     same_there (Some m) = refl
 
@@ -91,7 +91,7 @@ module _ {V G : Type 0} (same : V → V → Bool) (exact : (a b : V) → (same a
     (net : Net G) (ms : List (Memo V)) (cs : List (ℕ × Claim)) (taken : ℕ)
     (claim : ℕ) (node : Node) (given : G) (keys : List Key) (values : List V) (os : List (Made V))
     (k : Claim) (is : Some k ≡ lookup (is_at (nat_cmp claim)) cs)
-    (due : IsJudged (of_all net ms cs taken) (return_of claim node given keys values os) Due)
+    (due : IsJudgementOf (of_all net ms cs taken) (return_of claim node given keys values os) Due)
     (right : IsRight compute net ms taken)
     (computed : (is : List Input) → AreAsNow net is (net.inputs node)
     → compute node is values (named_values os)) where
@@ -144,9 +144,9 @@ module _ {V G : Type 0} (same : V → V → Bool) (exact : (a b : V) → (same a
       some_out : (c d : OpenClaim) → Some c ≡ Some d → c ≡ d
       some_out c d h = cc
 
-pub finishes : {V G : Type 0} (old new : State V G) (r : Return V G) (names : List ℕ) (f : Finish)
-    → TellsNames names f → (a : Accepts old r new) → names ≡ names_stamped (old.taken + 1) a.outputs
-    → Finishes old r f new
+pub finishes : {V G : Type 0} (old new : MemoState V G) (r : Return V G) (names : List ℕ) (f : Finish)
+    → TellsChangedNames names f → (a : Accepts old r new) → names ≡ names_stamped (old.taken + 1) a.outputs
+    → FinishesReturn old r f new
 finishes old new r names Same t a e = (a, sym e ∙ t)
 finishes old new r names (Stored told) t a e = (a, t.0 ∙ e, λ h. t.1 (sym t.0 ∙ h))
 finishes old new r names Unknown t a e = absurd t

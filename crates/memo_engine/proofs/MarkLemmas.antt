@@ -5,7 +5,7 @@ use Rattle.memo_core.specs.declared.keys.Node.{Node}
 use Rattle.memo_core.specs.declared.keys.Input.{Input}
 use Rattle.memo_core.specs.Names.{same_node}
 use Rattle.memo_core.specs.Graph.{Memo, Net, memo_of, present_inputs, Matches, input_nodes, IsSettled, IsSettledBy}
-use Rattle.memo_core.specs.Views.{Slot, as_memo, as_memos}
+use Rattle.memo_core.specs.Views.{MemoEntry, as_memo, as_memos}
 use Rattle.memo_core.specs.declared.claims.Claim.{Claim}
 use Rattle.memo_core.specs.Tests.{is_match, all_nodes, is_out}
 use Rattle.memo_core.specs.Graph.{put_memo}
@@ -19,7 +19,7 @@ use Rattle.memo_core.proofs.Headline.{settled_stays, same_present}
 use Rattle.memo_engine.proofs.WorkLemmas.{not_out_yes, not_out_is}
 use Rattle.memo_core.proofs.Progress.{one_depth}
 
-pub as_memos-with_mark_at : {V : Type 0} (n : Node) (ks : List (Slot V))
+pub as_memos-with_mark_at : {V : Type 0} (n : Node) (ks : List (MemoEntry V))
     → as_memos (with_mark_at n ks) ≡ as_memos ks
 as_memos-with_mark_at n [] = refl
 as_memos-with_mark_at {V} n (k ∷ ks) = elim (cases_Bool (same_node n k.0)) [
@@ -27,7 +27,7 @@ as_memos-with_mark_at {V} n (k ∷ ks) = elim (cases_Bool (same_node n k.0)) [
   | inr f ↦ rw f (ap (λ (ms : List (Memo V)). as_memo k ∷ ms) (as_memos-with_mark_at n ks))
 ]
 
-pub mark_of-other : {V : Type 0} (n m : Node) (ks : List (Slot V)) → same_node m n ≡ false
+pub mark_of-other : {V : Type 0} (n m : Node) (ks : List (MemoEntry V)) → same_node m n ≡ false
     → mark_of (with_mark_at n ks) m ≡ mark_of ks m
 mark_of-other n m [] h = refl
 mark_of-other {V} n m (k ∷ ks) h = elim (cases_Bool (same_node n k.0)) [
@@ -39,7 +39,7 @@ mark_of-other {V} n m (k ∷ ks) h = elim (cases_Bool (same_node n k.0)) [
       (mark_of-other n m ks h))
 ]
 
-pub mark_of-same : {V : Type 0} (n : Node) (ks : List (Slot V)) (is : List Input)
+pub mark_of-same : {V : Type 0} (n : Node) (ks : List (MemoEntry V)) (is : List Input)
     → option_map (λ m. m.inputs) (memo_of n (as_memos ks)) ≡ Some is
     → mark_of (with_mark_at n ks) n ≡ true
 mark_of-same n [] is h = cc
@@ -48,7 +48,7 @@ mark_of-same {V} n (k ∷ ks) is h = elim (cases_Bool (same_node n k.0)) [
   | inr f ↦ rw f (rw f (mark_of-same n ks is (rw f at h)))
 ]
 
-pub unmarked_count-less : {V : Type 0} (n : Node) (ks : List (Slot V)) (is : List Input)
+pub unmarked_count-less : {V : Type 0} (n : Node) (ks : List (MemoEntry V)) (is : List Input)
     → option_map (λ m. m.inputs) (memo_of n (as_memos ks)) ≡ Some is → mark_of ks n ≡ false
     → unmarked_count (with_mark_at n ks) < unmarked_count ks
 unmarked_count-less n [] is h f = cc
@@ -75,7 +75,7 @@ ready_parts false true true h = (refl, refl, refl)
 ready_whole : (a b c : Bool) → a ≡ false → b ≡ true → c ≡ true → (not a && b && c) ≡ true
 ready_whole a b c p q r = rw (p, q, r) refl
 
-module _ {V G : Type 0} (net : Net G) (ks : List (Slot V)) (n : Node) where
+module _ {V G : Type 0} (net : Net G) (ks : List (MemoEntry V)) (n : Node) where
   pub ready_there : is_ready net ks n ≡ true
       → (mark_of ks n ≡ false) × (Matches net (as_memos ks) n)
       × Each (λ m. mark_of ks m ≡ true) (input_nodes (net.inputs n))
@@ -163,7 +163,7 @@ module _ {V G : Type 0} (net : Net G) (ks : List (Slot V)) (n : Node) where
     }
 
 -- where nothing is pending, the marks are what is settled
-module _ {V G : Type 0} (net : Net G) (ks : List (Slot V))
+module _ {V G : Type 0} (net : Net G) (ks : List (MemoEntry V))
     (without_claim : (n : Node) → Has net.used n → Each (Has net.used) (input_nodes (net.inputs n)))
     (p : IsMarkedTo net ks []) where
   pub settled_marked : (d : ℕ) (n : Node) → Has net.used n → IsSettledBy d net (as_memos ks) n
@@ -181,13 +181,13 @@ module _ {V G : Type 0} (net : Net G) (ks : List (Slot V))
       all go [] h t = tt
       all go (m ∷ ns) h t = (go m h.0 t.0, all go ns h.1 t.1)
 
-pub cleared_marked : {V G : Type 0} (net : Net G) (ks : List (Slot V))
+pub cleared_marked : {V G : Type 0} (net : Net G) (ks : List (MemoEntry V))
     → ((n : Node) → mark_of ks n ≡ false) → IsMarkedTo net ks net.used
 cleared_marked net ks none =
     record { sound = λ n h. absurd (true_false _ h (none n)); left = λ n has f m e. has }
 
 -- an accepted return leaves its node pending, and nothing else
-pub put_pending : {V G : Type 0} (net : Net G) (ks next : List (Slot V)) (m : Memo V)
+pub put_pending : {V G : Type 0} (net : Net G) (ks next : List (MemoEntry V)) (m : Memo V)
     → IsMarkedTo net ks [] → as_memos next ≡ put_memo m (as_memos ks)
     → ((n : Node) → mark_of next n ≡ (if same_node n m.node then false else mark_of ks n))
     → (IsSettled net (as_memos ks) m.node → ⊥) → IsMarkedTo net next (m.node ∷ [])
@@ -253,7 +253,7 @@ at_has (m ∷ ns) n h = elim h [
 ]
 
 -- the used node of an index that has work
-pub work_at : {V G : Type 0} (net : Net G) (ks : List (Slot V)) (cs : List (ℕ × Claim)) (i : ℕ)
+pub work_at : {V G : Type 0} (net : Net G) (ks : List (MemoEntry V)) (cs : List (ℕ × Claim)) (i : ℕ)
     → IsWorkAt net ks cs i → (n : Node) → slice_get net.used i ≡ Some n
     → can_work net ks cs n ≡ true
 work_at net ks cs i w n at =
@@ -263,7 +263,7 @@ work_at net ks cs i w n at =
     some_node m n h = cc
 
 -- work by marks is work
-module _ {V G : Type 0} (net : Net G) (ks : List (Slot V))
+module _ {V G : Type 0} (net : Net G) (ks : List (MemoEntry V))
     (without_claim : (n : Node) → Has net.used n → Each (Has net.used) (input_nodes (net.inputs n)))
     (p : IsMarkedTo net ks []) (cs : List (ℕ × Claim)) (taken : ℕ) where
   to_settled : (ns : List Node) → Each (λ m. mark_of ks m ≡ true) ns
@@ -310,7 +310,7 @@ module _ {V G : Type 0} (net : Net G) (ks : List (Slot V))
       let there = at_has net.used n w.used in
       true_false _ (can_work_of n w) (idle there.0 n (omega arith) there.1 there.2)
 
-module _ {V G : Type 0} (net : Net G) (ks : List (Slot V))
+module _ {V G : Type 0} (net : Net G) (ks : List (MemoEntry V))
     (without_claim : (n : Node) → Has net.used n → Each (Has net.used) (input_nodes (net.inputs n)))
     (p : IsMarkedTo net ks []) where
   pub all_marked : AreMarked net ks (length net.used) → (n : Node) → Has net.used n
@@ -329,7 +329,7 @@ module _ {V G : Type 0} (net : Net G) (ks : List (Slot V))
       )
 
 -- a marked node has no work
-pub marked_idle : {V G : Type 0} (net : Net G) (ks : List (Slot V)) (cs : List (ℕ × Claim))
+pub marked_idle : {V G : Type 0} (net : Net G) (ks : List (MemoEntry V)) (cs : List (ℕ × Claim))
     (n : Node) → IsMarkedTo net ks [] → mark_of ks n ≡ true → can_work net ks cs n ≡ false
 marked_idle {V} net ks cs n p h = let s = p.sound n h in go s.0 s.1
   where

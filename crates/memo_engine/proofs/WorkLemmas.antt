@@ -8,8 +8,8 @@ use Rattle.memo_core.specs.declared.keys.Input.{Input}
 use Rattle.memo_core.specs.declared.keys.Output.{Output as Made}
 use Rattle.memo_core.specs.declared.claims.Claim.{Claim}
 use Rattle.memo_core.specs.Names.{same_node}
-use Rattle.memo_core.specs.Graph.{Memo, Net, at, stored_at, input_nodes, IsSettled, named_values}
-use Rattle.memo_core.specs.Right.{Making, Counting, ArePresent, IsRight, HasValue, IsSolved, IsSound}
+use Rattle.memo_core.specs.Graph.{Memo, Net, at, stored_output, input_nodes, IsSettled, named_values}
+use Rattle.memo_core.specs.Right.{Making, Counting, ArePresent, IsRight, HasOutputValue, IsSolvedNode, IsSoundNet}
 use Rattle.memo_core.specs.Tests.{is_out, values_at, same_inputs}
 use Rattle.memo_core.specs.Step.{open_claims, Has}
 use Rattle.memo_core.proofs.Tests.{and_true, same_node_exact, same_node_refl}
@@ -82,7 +82,7 @@ values_left {V} now n x ks s v e r h = go (values_at now ks) refl (rw e at h)
     go (Some ws) f g = clash (v ∷ ws) (rw f at g)
 
 values_in : {V G : Type 0} (makes : Making V G) (net : Net G) (ms : List (Memo V)) (ks : List Key)
-    → Each (HasValue makes net) ks → Each (IsSolved makes net ms) (input_nodes ks)
+    → Each (HasOutputValue makes net) ks → Each (IsSolvedNode makes net ms) (input_nodes ks)
     → values_at (at ms) ks ≢ None
 values_in {V} makes net ms [] h e c = clash [] c
 values_in {V} makes net ms (Part a b ∷ ks) h e c = values_in makes net ms ks h.1 e c
@@ -90,12 +90,12 @@ values_in {V} makes net ms (Output n x ∷ ks) h e c =
     let m = (e.0).made in
     let there = h.0 m.given (e.0).values (named_values ((e.0).memo).outputs) m.gives m.made in
     let found = plain_at x ((e.0).memo).outputs there.0 there.1 in
-    values_left (at ms) n x ks found.0 there.0 (ap (stored_at x) (e.0).found ∙ found.1)
+    values_left (at ms) n x ks found.0 there.0 (ap (stored_output x) (e.0).found ∙ found.1)
     (values_in makes net ms ks h.1 e.1) c
 
 pub values_there : {V G : Type 0} (compute : Counting V) (makes : Making V G) (net : Net G)
     (ms : List (Memo V)) (taken : ℕ) (IsThere : Node → Type 0) → IsRead compute makes net
-    → IsRight compute net ms taken → IsSound makes net IsThere → (n : Node) → IsThere n
+    → IsRight compute net ms taken → IsSoundNet makes net IsThere → (n : Node) → IsThere n
     → Each (IsSettled net ms) (input_nodes (net.inputs n))
     → values_at (at ms) (net.inputs n) ≢ None
 values_there {V} compute makes net ms taken IsThere reads right sound n there e =
@@ -103,7 +103,7 @@ values_there {V} compute makes net ms taken IsThere reads right sound n there e 
     (input_nodes (net.inputs n)) (sound.inputs_there n there) e)
   where
     each_solved : (ns : List Node) → Each IsThere ns → Each (IsSettled net ms) ns
-        → Each (IsSolved makes net ms) ns
+        → Each (IsSolvedNode makes net ms) ns
     each_solved [] t s = tt
     each_solved (m ∷ ns) t s = (
       settled_solved compute makes net ms taken IsThere reads right sound (s.0).0 m t.0 (s.0).1,

@@ -10,18 +10,18 @@ use Rattle.memo_engine.specs.declared.graph.Graph.{Graph}
 use Rattle.memo_engine.specs.declared.job.Job.{Job}
 use Rattle.memo_engine.specs.declared.job.Done.{Done}
 use Rattle.memo_core.specs.Graph.{at, memo_of, named_values, IsSettled}
-use Rattle.memo_core.specs.Right.{Making, ArePresent, IsRight, IsCounted, IsMadeNow}
+use Rattle.memo_core.specs.Right.{Making, ArePresent, IsRight, CountsAsComputed, IsMadeNow}
 use Rattle.memo_core.specs.Views.{as_memos, shown_outputs, shown_values}
 use Rattle.memo_core.specs.declared.claims.Finish.{Finish}
 use Rattle.memo_core.specs.declared.claims.Finish.TheVariants.{Unknown, Stale, Same, Stored}
-use Rattle.memo_core.specs.Step.{State, Return, state, return_of, Gives, Finishes, open_claims, AreNumbered}
-use Rattle.memo_core.specs.Run.{Bench, IsFreshFrom, Refuses}
+use Rattle.memo_core.specs.Step.{MemoState, Return, state, return_of, Gives, FinishesReturn, open_claims, AreClaimsNumbered}
+use Rattle.memo_core.specs.Run.{Bench, IsFreshFrom, RefusesCall}
 use Rattle.memo_core.specs.Laws.{meaning}
 use Rattle.memo_core.specs.Marks.{IsMarkedTo}
 
 module _ {K T V G E P F : Type 0} {k : NameGhosts K} {t : Ghosts T V G E P F} where
   -- what the texts say, what is kept, what is out, and how many numbers are taken
-  abbrev pub state_of : Graph K T V G E P F k t → State V G
+  abbrev pub state_of : Graph K T V G E P F k t → MemoState V G
   state_of g = state (t.net g.texts) g.memos.entries g.claims.entries g.taken
 
   -- the graph as lists of events see it
@@ -37,7 +37,7 @@ module _ {K T V G E P F : Type 0} {k : NameGhosts K} {t : Ghosts T V G E P F} wh
   -- the call is refused: all is as it was, but that the texts may have more room
   abbrev pub IsRefused : Graph K T V G E P F k t → Graph K T V G E P F k t → Type 0
   IsRefused old new =
-      Refuses (meaning t.net t.is_valid t.since t.makes t.keeps t.edited t.last) (bench_of old)
+      RefusesCall (meaning t.net t.is_valid t.since t.makes t.keeps t.edited t.last) (bench_of old)
       (bench_of new)
 
   -- the texts are valid, and each memo was computed from values that its inputs have as long as
@@ -45,14 +45,15 @@ module _ {K T V G E P F : Type 0} {k : NameGhosts K} {t : Ghosts T V G E P F} wh
   abbrev pub HasRightMemos : Graph K T V G E P F k t → Type 0
   HasRightMemos g =
       t.is_valid g.texts
-      × IsRight (IsCounted t.since t.net t.makes g.texts) (t.net g.texts) (as_memos g.memos.entries)
+      × IsRight (CountsAsComputed t.since t.net t.makes g.texts) (t.net g.texts)
+      (as_memos g.memos.entries)
       g.taken
 
   -- no claim that is out repeats another, or what a memo holds, and its number was given
   abbrev pub HasFreshClaims : Graph K T V G E P F k t → Type 0
   HasFreshClaims g =
       IsFreshFrom (as_memos g.memos.entries) (open_claims g.claims.entries)
-      × AreNumbered g.taken (open_claims g.claims.entries)
+      × AreClaimsNumbered g.taken (open_claims g.claims.entries)
 
   -- the marks say which used nodes are settled
   abbrev pub IsMarked : Graph K T V G E P F k t → Type 0
@@ -103,16 +104,17 @@ module _ {K T V G E P F : Type 0} where
 
 module _ {K T V G E P F : Type 0} {k : NameGhosts K} {t : Ghosts T V G E P F} where
   -- the return was taken, so answered, and what holds between calls holds again
-  pub record IsTaken (old : Graph K T V G E P F k t) (d : Done K T V G E P F) (finish : Finish)
+  pub record IsReturnTaken (old : Graph K T V G E P F k t) (d : Done K T V G E P F)
+      (finish : Finish)
       (new : Graph K T V G E P F k t) : Type 0 where
     pub right : HasRightMemos new
     pub fresh : HasFreshClaims new
     pub marks : IsMarked new
-    pub step : Finishes (state_of old) (return_from d) finish (state_of new)
+    pub step : FinishesReturn (state_of old) (return_from d) finish (state_of new)
 
 -- these are the names that the answer to an accepted return tells
-abbrev pub TellsNames : List ℕ → Finish → Type 0
-TellsNames names Same = names ≡ []
-TellsNames names (Stored told) = (told.items ≡ names) × (names ≢ [])
-TellsNames names Unknown = ⊥
-TellsNames names (Stale stamp) = ⊥
+abbrev pub TellsChangedNames : List ℕ → Finish → Type 0
+TellsChangedNames names Same = names ≡ []
+TellsChangedNames names (Stored told) = (told.items ≡ names) × (names ≢ [])
+TellsChangedNames names Unknown = ⊥
+TellsChangedNames names (Stale stamp) = ⊥

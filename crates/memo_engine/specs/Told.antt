@@ -8,7 +8,7 @@ OnNone (Ok None) P = P
 OnNone (Err fault) P = P
 
 -- the edit was prepared, told to the witness under its number, and then put in place
-pub record IsTold {T E P W : Type 0} (prepares : T → E → P → T → Type 0)
+pub record IsEditTold {T E P W : Type 0} (prepares : T → E → P → T → Type 0)
     (commits : T → P → ℕ → T → Type 0) (told : W → T → P → ℕ → W → Type 0) (old : T) (e : E)
     (number : ℕ) (new : T) (before after : W) : Type 0 where
   pub ready : T

@@ -7,7 +7,7 @@ ghost use Rattle.memo_core.specs.Marks.{IsMarkedTo};
 ghost use Rattle.memo_core.specs.Views.{as_memos, tokens_of};
 ghost use Rattle.memo_core.specs.Step.{Has, Loses, Renews, Edits, IsWork};
 ghost use Rattle.memo_engine.specs.Clauses.{state_of, HasRightMemos, HasFreshClaims, IsMarked, GivesJob, IsSettledIn, IsRefused, ShowsStored, ShowsSolved};
-ghost use Rattle.memo_engine.specs.Told.{IsTold, OnNone};
+ghost use Rattle.memo_engine.specs.Told.{IsEditTold, OnNone};
 
 use crate::graph::{Graph, LAST};
 use crate::job::{Job, job_of};
@@ -127,7 +127,7 @@ impl<K: StoreName, T: Texts> Graph<K, T> {
         ensures unspent { OnOk result (self.old.taken < LAST) }
         ensures step { IfOk result (λ r. IfSome r (λ _.
             Edits (T.keeps self.new.texts) (state_of self.old) (state_of self.new))) }
-        ensures told { IfOk result (λ r. IfSome r (λ number. IsTold T.prepares T.commits W.told
+        ensures told { IfOk result (λ r. IfSome r (λ number. IsEditTold T.prepares T.commits W.told
             self.old.texts edit number self.new.texts witness.old witness.new)) }
         ensures held { IfOk result (λ r. IfNone r (W.held witness.old witness.new)) }
         ensures fault { IfErr result (λ fault.

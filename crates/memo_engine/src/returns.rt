@@ -1,8 +1,8 @@
 //! What becomes of a return.
 
 ghost use Rattle.std.specs.Prelude.{◌≡◌, ◌≤◌, length, vec_len, vec_capacity};
-ghost use Rattle.memo_core.specs.Step.{IsJudged, Finishes};
-ghost use Rattle.memo_engine.specs.Clauses.{state_of, return_from, IsComputed, HasRightMemos, HasFreshClaims, IsMarked, IsTaken, TellsNames};
+ghost use Rattle.memo_core.specs.Step.{IsJudgementOf, FinishesReturn};
+ghost use Rattle.memo_engine.specs.Clauses.{state_of, return_from, IsComputed, HasRightMemos, HasFreshClaims, IsMarked, IsReturnTaken, TellsChangedNames};
 
 use crate::finds::{first_stale, keys_are, values_are};
 use crate::graph::Graph;
@@ -17,7 +17,7 @@ use value_store::StoreName;
 
 /// What an accepted return comes to, by the names of its outputs that are new or changed.
 fn finish_of(names: Vec<u64>) -> Finish
-    ensures { TellsNames names.items result }
+    ensures { TellsChangedNames names.items result }
 {
     if names.is_empty() {
         Finish::Same
@@ -30,7 +30,7 @@ impl<K: StoreName, T: Texts> Graph<K, T> {
     /// What a return is, before anything is done.
     fn judge(&self, done: &Done<K, T>) -> Judgement
         requires { HasRightMemos self.now }
-        ensures { IsJudged (state_of self.now) (return_from done.now) result }
+        ensures { IsJudgementOf (state_of self.now) (return_from done.now) result }
     {
         let claim = match self.claims.get(&done.claim) {
             Some(claim) => claim,
@@ -68,9 +68,9 @@ impl<K: StoreName, T: Texts> Graph<K, T> {
         requires computed { IsComputed T.makes done }
         requires empty { vec_len done.names ≡ 0 }
         requires room { length done.outputs.items ≤ vec_capacity done.names }
-        requires due { IsJudged (state_of self.old) (return_from done) Judgement.Due }
+        requires due { IsJudgementOf (state_of self.old) (return_from done) Judgement.Due }
         ensures texts { self.new.texts ≡ self.old.texts }
-        ensures taken { IsTaken self.old done result self.new }
+        ensures taken { IsReturnTaken self.old done result self.new }
     {
         let claim = match self.claims.remove(&done.claim) {
             Some(claim) => claim,
@@ -111,7 +111,8 @@ impl<K: StoreName, T: Texts> Graph<K, T> {
         ensures right { HasRightMemos self.new }
         ensures fresh { HasFreshClaims self.new }
         ensures marks { IsMarked self.new }
-        ensures step { Finishes (state_of self.old) (return_from done) result (state_of self.new) }
+        ensures step { FinishesReturn (state_of self.old) (return_from done) result
+            (state_of self.new) }
     {
         match self.judge(&done) {
             Judgement::Undue => Finish::Unknown,

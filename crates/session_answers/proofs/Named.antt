@@ -4,11 +4,11 @@ use Rattle.std.specs.Prelude.{option_map}
 use Rattle.text_values.specs.declared.model.Item.{Item}
 use Rattle.text_values.specs.declared.model.ModelText.{ModelText}
 use Rattle.text_values.specs.ModelValues.{clauses_of}
-use Rattle.bench_texts.specs.BenchTexts.{PlainModel, items_of}
+use Rattle.bench_texts.specs.BenchTexts.{PlainModel, items_with_numbers}
 
 -- what the items of a model say is what its numbered items say
 pub clauses_of-items : (ns : List ℕ) (is : List Item) → length ns ≡ length is
-    → clauses_of is ≡ map (λ i. i.clause) (items_of ns is)
+    → clauses_of is ≡ map (λ i. i.clause) (items_with_numbers ns is)
 clauses_of-items [] [] e = refl
 clauses_of-items [] (i ∷ is) e = absurd (omega arith)
 clauses_of-items (n ∷ ns) [] e = absurd (omega arith)

@@ -19,30 +19,32 @@ test_named t name = slice_get t.tests (test_index name t.tests)
 abbrev pub model_named : BenchTexts → List ℕ → Option PlainModel
 model_named t name = slice_get t.models (model_index name t.models)
 
-abbrev pub behind : Option PlainModel → Option (List PlainModel) → Option (List PlainModel)
-behind None models = None
-behind (Some m) None = None
-behind (Some m) (Some models) = Some (m ∷ models)
+abbrev pub with_first_model : Option PlainModel → Option (List PlainModel)
+    → Option (List PlainModel)
+with_first_model None models = None
+with_first_model (Some m) None = None
+with_first_model (Some m) (Some models) = Some (m ∷ models)
 
 -- the models of these names, if all are there
 abbrev pub models_named : BenchTexts → List (List ℕ) → Option (List PlainModel)
 models_named t [] = Some []
-models_named t (name ∷ names) = behind (model_named t name) (models_named t names)
+models_named t (name ∷ names) = with_first_model (model_named t name) (models_named t names)
 
 -- the outcome of evaluating the test under the model from nothing
-pub record IsOutcome (content : Content) (plain : PlainModel) (outcome : Outcome) : Type 0 where
+pub record IsPlainOutcome (content : Content) (plain : PlainModel) (outcome : Outcome)
+    : Type 0 where
   pub test : Test
   pub model : ModelText
   pub test_is : content_of test ≡ content
   pub model_is : clauses_of model.items.items ≡ map (λ i. i.clause) plain.items
   pub said : IsFromScratch test model outcome
 
-abbrev pub IsCell : Content → PlainModel → Cell → Type 0
-IsCell test model NoCell = ⊥
-IsCell test model Open = ⊥
-IsCell test model (Settled outcome) = IsOutcome test model outcome
+abbrev pub IsPlainCell : Content → PlainModel → Cell → Type 0
+IsPlainCell test model NoCell = ⊥
+IsPlainCell test model Open = ⊥
+IsPlainCell test model (Settled outcome) = IsPlainOutcome test model outcome
 
 -- the row of a test under these models
-pub record IsRow (models : List PlainModel) (test : Content) (row : Row) : Type 0 where
+pub record IsPlainRow (models : List PlainModel) (test : Content) (row : Row) : Type 0 where
   pub name : row.name ≡ test.name
-  pub cells : AllZip (IsCell test) models row.cells
+  pub cells : AllZip (IsPlainCell test) models row.cells

@@ -2,24 +2,25 @@
 use Rattle.std.specs.Prelude.{◌≡◌, ℕ, List, [], ◌∷◌, ◌++◌, Bool, false, ◌||◌}
 use Rattle.session_script.specs.declared.command.Command.{Command}
 use Rattle.session_script.specs.declared.command.Command.TheVariants as commands
-use Rattle.session_script.specs.Rules.{number_of}
+use Rattle.session_script.specs.Rules.{script_rule_number}
 use Rattle.bench_texts.specs.BenchTexts.{BenchTexts}
-use Rattle.session_edits.specs.Answer.{Said, denied, refusal_line}
-use Rattle.session_edits.specs.Edits.{IsEdited}
-use Rattle.session_edits.specs.Requests.{Asked, Editing, Asking, asked_in}
+use Rattle.session_edits.specs.Answer.{SessionAnswer, denied, refusal_line}
+use Rattle.session_edits.specs.Edits.{IsEditAnswer}
+use Rattle.session_edits.specs.Requests.{RequestAsked, Editing, Asking, asked_in}
 use Rattle.session_answers.specs.Questions.{IsReply}
 
 -- an edit may change the texts, a question leaves them
-abbrev pub IsAsked : BenchTexts → Asked → Said → BenchTexts → Type 0
-IsAsked t (Editing edit) said after = IsEdited t edit said after
-IsAsked t (Asking question) said after = IsReply t question said × (after ≡ t)
+abbrev pub IsRequestAnswer : BenchTexts → RequestAsked → SessionAnswer → BenchTexts → Type 0
+IsRequestAnswer t (Editing edit) said after = IsEditAnswer t edit said after
+IsRequestAnswer t (Asking question) said after = IsReply t question said × (after ≡ t)
 
 -- over these texts this is said to the command, and those are the texts after it: what is no
 -- command is refused by `Q` and a number
-abbrev pub IsAnswered : BenchTexts → Command → Said → BenchTexts → Type 0
-IsAnswered t (commands.Refused rule) said after =
-    (said ≡ denied (refusal_line 81 (number_of rule))) × (after ≡ t)
-IsAnswered t (commands.Asked request text) said after = IsAsked t (asked_in request text) said after
+abbrev pub IsCommandAnswer : BenchTexts → Command → SessionAnswer → BenchTexts → Type 0
+IsCommandAnswer t (commands.Refused rule) said after =
+    (said ≡ denied (refusal_line 81 (script_rule_number rule))) × (after ≡ t)
+IsCommandAnswer t (commands.Asked request text) said after =
+    IsRequestAnswer t (asked_in request text) said after
 
 -- a session begins without texts
 abbrev pub no_texts : BenchTexts
@@ -29,6 +30,6 @@ no_texts = record { tests = []; models = []; next = 1 }
 pub data IsOutput : List Command → List ℕ → Bool → BenchTexts → Type 0 where
   Nothing : IsOutput [] [] false no_texts
   OneMore : (front : List Command) (text : List ℕ) (refused : Bool) (before : BenchTexts)
-      (command : Command) (said : Said) (after : BenchTexts)
-      → IsOutput front text refused before → IsAnswered before command said after
+      (command : Command) (said : SessionAnswer) (after : BenchTexts)
+      → IsOutput front text refused before → IsCommandAnswer before command said after
       → IsOutput (front ++ command ∷ []) (text ++ said.text) (refused || said.refused) after

@@ -2,7 +2,7 @@
 use Rattle.std.specs.Prelude.{ℕ, List, ◌∷◌, ◌++◌, [], Bool, true, false, decimal, codes}
 
 -- the bytes, and whether the command is refused
-pub record Said : Type 0 where
+pub record SessionAnswer : Type 0 where
   pub text : List ℕ
   pub refused : Bool
 
@@ -20,8 +20,8 @@ refused_line letter number offset =
     codes "refused " ++ letter ∷ decimal number ++ codes " " ++ decimal offset ++ line_end
 
 -- an answer that is no refusal, and one that is
-abbrev pub told : List ℕ → Said
+abbrev pub told : List ℕ → SessionAnswer
 told text = record { text = text; refused = false }
 
-abbrev pub denied : List ℕ → Said
+abbrev pub denied : List ℕ → SessionAnswer
 denied text = record { text = text; refused = true }

@@ -1,16 +1,16 @@
 -- What a session says to an edit, and the texts that it then holds.
 use Rattle.std.specs.Prelude.{◌≡◌, false, codes}
 use Rattle.bench_texts.specs.BenchTexts.{BenchTexts}
-use Rattle.bench_texts.specs.Edits.{Edit, Applies, Refuses}
+use Rattle.bench_texts.specs.Edits.{Edit, Applies, RefusesEdit}
 use Rattle.bench_texts.specs.declared.fault.EditFault.{EditFault}
-use Rattle.session_edits.specs.Answer.{Said, told, denied}
-use Rattle.session_edits.specs.Faults.{fault_line, IsAnswer}
+use Rattle.session_edits.specs.Answer.{SessionAnswer, told, denied}
+use Rattle.session_edits.specs.Faults.{fault_line, HasFaultLine}
 
 -- `ok` and the texts that the edit makes, or the line of its refusal and the same texts: the
 -- numbers of edits are never spent
-pub data IsEdited (texts : BenchTexts) (edit : Edit) (said : Said) (after : BenchTexts)
+pub data IsEditAnswer (texts : BenchTexts) (edit : Edit) (said : SessionAnswer) (after : BenchTexts)
     : Type 0 where
   IsAccepted : Applies texts false edit after → said ≡ told (codes "ok\n")
-      → IsEdited texts edit said after
-  IsRefused : (fault : EditFault) → IsAnswer fault → Refuses texts false edit fault
-      → said ≡ denied (fault_line fault) → after ≡ texts → IsEdited texts edit said after
+      → IsEditAnswer texts edit said after
+  IsRefused : (fault : EditFault) → HasFaultLine fault → RefusesEdit texts false edit fault
+      → said ≡ denied (fault_line fault) → after ≡ texts → IsEditAnswer texts edit said after

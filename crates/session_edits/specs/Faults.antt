@@ -6,7 +6,7 @@ use Rattle.litmus_ppc.specs.declared.fault.LitmusFault.TheVariants as litmus
 use Rattle.cat_tokens.specs.Tokens.{number_of as model_rule_number}
 use Rattle.cat_syntax.specs.declared.fault.CatFault.{CatFault}
 use Rattle.cat_syntax.specs.declared.fault.CatFault.TheVariants as cat
-use Rattle.bench_texts.specs.Numbers.{number_of}
+use Rattle.bench_texts.specs.Numbers.{edit_fault_number}
 use Rattle.bench_texts.specs.declared.fault.EditFault.{EditFault}
 use Rattle.bench_texts.specs.declared.fault.EditFault.TheVariants as faults
 use Rattle.session_edits.specs.Answer.{refusal_line, refused_line}
@@ -29,11 +29,11 @@ bench_line (Some number) = refusal_line 88 number
 abbrev pub fault_line : EditFault → List ℕ
 fault_line (faults.Test f) = test_line f
 fault_line (faults.Model f) = model_line f
-fault_line fault = bench_line (number_of fault)
+fault_line fault = bench_line (edit_fault_number fault)
 
 -- want of memory is no answer, nor is it where a text was read
-abbrev pub IsAnswer : EditFault → Type 0
-IsAnswer (faults.OutOfMemory e) = ⊥
-IsAnswer (faults.Test (litmus.OutOfMemory e)) = ⊥
-IsAnswer (faults.Model (cat.OutOfMemory e)) = ⊥
-IsAnswer fault = Unit {0}
+abbrev pub HasFaultLine : EditFault → Type 0
+HasFaultLine (faults.OutOfMemory e) = ⊥
+HasFaultLine (faults.Test (litmus.OutOfMemory e)) = ⊥
+HasFaultLine (faults.Model (cat.OutOfMemory e)) = ⊥
+HasFaultLine fault = Unit {0}

@@ -9,16 +9,16 @@ use Rattle.session_edits.specs.declared.request.Question.{Question}
 use Rattle.session_edits.specs.declared.request.Question.TheVariants as questions
 
 -- an edit, without where it lies in memory, or a question
-pub data Asked : Type 0 where
-  Editing : Edit → Asked
-  Asking : Question → Asked
+pub data RequestAsked : Type 0 where
+  Editing : Edit → RequestAsked
+  Asking : Question → RequestAsked
 
-abbrev pub asked_by : code.Asked → Asked
+abbrev pub asked_by : code.Asked → RequestAsked
 asked_by (variants.Edit edit) = Editing (edit_of edit)
 asked_by (variants.Question question) = Asking question
 
 -- what a request with this text behind it asks for
-abbrev pub asked_in : Request → List ℕ → Asked
+abbrev pub asked_in : Request → List ℕ → RequestAsked
 asked_in requests.PutTest text = Editing (PutTest text)
 asked_in (requests.PutModel model) text = Editing (PutModel model text)
 asked_in (requests.SetInit test) text = Editing (SetInit test text)

@@ -12,9 +12,9 @@ pub struct Answer {
 }
 
 impl Model for Answer {
-    ghost use Rattle.session_edits.specs.Answer.{Said};
+    ghost use Rattle.session_edits.specs.Answer.{SessionAnswer};
 
-    ghost Value = { Said };
+    ghost Value = { SessionAnswer };
 
     ghost view = { λ a. record { text = a.text.items; refused = a.is_refused } };
 }
@@ -22,7 +22,7 @@ impl Model for Answer {
 impl Answer {
     ghost use Rattle.std.specs.Prelude.{◌≡◌, ◌+◌, ◌-◌, ◌<◌, ◌^◌, IfOk, OnOk, OnErr, codes};
     ghost use Rattle.std.specs.Io.KnownBytes.{Appends};
-    ghost use Rattle.session_script.specs.Written.{WritesFront};
+    ghost use Rattle.session_script.specs.Written.{WritesPrefix};
     ghost use Rattle.session_edits.specs.Answer.{told, denied};
 
     /// What is told.
@@ -71,7 +71,7 @@ impl Answer {
         requires { S.failed_calls sink.old < 2 ^ 64 - 1 }
         ensures ok { OnOk result (Appends (S.contents sink.old) (S.contents sink.new)
             self.now.text) }
-        ensures front { WritesFront (S.contents sink.old) (S.contents sink.new) self.now.text }
+        ensures front { WritesPrefix (S.contents sink.old) (S.contents sink.new) self.now.text }
         ensures err { OnErr result (S.failed_calls sink.new ≡ S.failed_calls sink.old + 1) }
         ensures same { OnOk result (S.failed_calls sink.new ≡ S.failed_calls sink.old) }
     {

@@ -3,7 +3,7 @@
 ghost use Rattle.std.specs.Prelude.{◌≡◌, IfOk, OnErr};
 ghost use Rattle.bench_texts.specs.Edits.{edit_of};
 ghost use Rattle.bench_texts.specs.Held.{texts_of};
-ghost use Rattle.session_edits.specs.Edits.{IsEdited};
+ghost use Rattle.session_edits.specs.Edits.{IsEditAnswer};
 
 use crate::answer::Answer;
 use crate::refusal::refused_edit;
@@ -14,7 +14,7 @@ use std::alloc::{AllocError, Global};
 /// then the texts are as before.
 pub fn answer_edit(alloc: Global, texts: &mut Texts, edit: &Edit) -> Result<Answer, AllocError>
     ensures edited { IfOk result (λ said.
-        IsEdited (texts_of texts.old) (edit_of edit.now) said (texts_of texts.new)) }
+        IsEditAnswer (texts_of texts.old) (edit_of edit.now) said (texts_of texts.new)) }
     ensures kept { OnErr result (texts_of texts.new ≡ texts_of texts.old) }
 {
     match texts.prepare(alloc, edit, false) {

@@ -2,7 +2,7 @@
 
 ghost use Rattle.std.specs.Prelude.{◌≡◌, ◌++◌, ◌∷◌, OnOk, IfOk, codes, decimal};
 ghost use Rattle.session_edits.specs.Answer.{refusal_line, refused_line, denied};
-ghost use Rattle.session_edits.specs.Faults.{test_line, model_line, fault_line, IsAnswer};
+ghost use Rattle.session_edits.specs.Faults.{test_line, model_line, fault_line, HasFaultLine};
 
 use crate::answer::Answer;
 use bench_texts::EditFault;
@@ -67,7 +67,7 @@ fn refused_at(alloc: Global, letter: u8, number: u8, offset: usize) -> Result<An
 
 fn refused_test(alloc: Global, fault: LitmusFault) -> Result<Answer, AllocError>
     ensures line { IfOk result (λ a. a ≡ denied (test_line fault)) }
-    ensures answer { OnOk result (IsAnswer (EditFault.Test fault)) }
+    ensures answer { OnOk result (HasFaultLine (EditFault.Test fault)) }
 {
     match fault {
         LitmusFault::Refused { rule, offset } => refused_at(alloc, b'L', rule.number(), offset),
@@ -77,7 +77,7 @@ fn refused_test(alloc: Global, fault: LitmusFault) -> Result<Answer, AllocError>
 
 fn refused_model(alloc: Global, fault: CatFault) -> Result<Answer, AllocError>
     ensures line { IfOk result (λ a. a ≡ denied (model_line fault)) }
-    ensures answer { OnOk result (IsAnswer (EditFault.Model fault)) }
+    ensures answer { OnOk result (HasFaultLine (EditFault.Model fault)) }
 {
     match fault {
         CatFault::Refused { rule, offset } => refused_at(alloc, b'C', rule.number(), offset),
@@ -89,7 +89,7 @@ fn refused_model(alloc: Global, fault: CatFault) -> Result<Answer, AllocError>
 /// for want of it.
 pub fn refused_edit(alloc: Global, fault: EditFault) -> Result<Answer, AllocError>
     ensures line { IfOk result (λ a. a ≡ denied (fault_line fault)) }
-    ensures answer { IfOk result (λ a. IsAnswer fault) }
+    ensures answer { IfOk result (λ a. HasFaultLine fault) }
 {
     match fault {
         EditFault::NoTest => refused_by(alloc, b'X', 1),

@@ -13,7 +13,7 @@ use Rattle.text_values.specs.ModelValue.{Clause}
 use Rattle.bench_texts.specs.declared.fault.EditFault.{EditFault}
 use Rattle.bench_texts.specs.declared.fault.EditFault.TheVariants as faults
 use Rattle.bench_texts.specs.BenchTexts.{BenchTexts, NumberedItem, test_index, model_index, put_at, changed_at, with_init, with_thread, with_condition, with_observed, with_items, with_tests, with_models, numbered_items}
-use Rattle.bench_texts.specs.Edits.{Edit, PutTest, DropTest, SetInit, SetThread, SetCond, SetLocations, PutModel, DropModel, SetItem, InsertItem, RemoveItem, Makes, missing, unless, has_test, thread_count, index_in, index_before}
+use Rattle.bench_texts.specs.Edits.{Edit, PutTest, DropTest, SetInit, SetThread, SetCond, SetLocations, PutModel, DropModel, SetItem, InsertItem, RemoveItem, EditMakes, missing_fault, unless, has_test, thread_count, index_in, index_before}
 use Rattle.text_reading_laws.proofs.Meanings.{one_test, one_init, one_thread, one_condition, one_list, one_model, few_threads}
 
 -- ---- tests have few threads
@@ -69,15 +69,15 @@ second_there true false f g e = absurd (let h : Some g ≡ None = e in cc)
 second_there false b f g e = absurd (let h : Some f ≡ None = e in cc)
 
 thread_there : (t : BenchTexts) (test text : List ℕ) (thread : ℕ)
-    → missing t (SetThread test thread text) ≡ None → thread < thread_count t test
+    → missing_fault t (SetThread test thread text) ≡ None → thread < thread_count t test
 thread_there t test text thread e =
     ltb-true thread (thread_count t test) (second_there (has_test t test)
     (nat_lt thread (thread_count t test)) faults.NoTest faults.NoThread e)
 
 -- ---- an edit
 
-pub few_made : (t : BenchTexts) (e : Edit) (new : BenchTexts) → missing t e ≡ None → AreFew t.tests
-    → Makes t e new → AreFew new.tests
+pub few_made : (t : BenchTexts) (e : Edit) (new : BenchTexts) → missing_fault t e ≡ None → AreFew t.tests
+    → EditMakes t e new → AreFew new.tests
 few_made t (PutTest text) new there few h =
     subst (λ (u : BenchTexts). AreFew u.tests) (sym h.2) (few_put (test_index h.0.name t.tests) h.0
     t.tests (few_threads text h.0 h.1) few)
@@ -114,8 +114,8 @@ few_made t (RemoveItem model item) new there few h =
 alone : (c d : Clause) → (c ∷ []) ≡ (d ∷ []) → c ≡ d
 alone c d e = cc
 
-pub one_made : (t : BenchTexts) (e : Edit) (new other : BenchTexts) → AreFew t.tests → Makes t e new
-    → Makes t e other → new ≡ other
+pub one_made : (t : BenchTexts) (e : Edit) (new other : BenchTexts) → AreFew t.tests → EditMakes t e new
+    → EditMakes t e other → new ≡ other
 one_made t (PutTest text) new other few h g =
     h.2 ∙ (ap (λ (c : Content). with_tests (put_at (test_index c.name t.tests) c) t)
     (one_test text h.0 g.0 h.1 g.1) ∙ sym g.2)

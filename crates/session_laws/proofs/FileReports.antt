@@ -7,7 +7,7 @@ use Rattle.outcome_texts.specs.Columns.{Row, table_of}
 use Rattle.outcome_texts.specs.Differences.{difference_of}
 use Rattle.command_answers.specs.declared.file.TextFile.{TextFile}
 use Rattle.command_answers.specs.declared.reading.NamedModel.{NamedModel}
-use Rattle.command_answers.specs.Reports.{IsCellUnder, IsRow, AreRead, names_of, IsTable, difference_under, IsDifference}
+use Rattle.command_answers.specs.Reports.{IsCellUnder, IsReportRow, AreFilesRead, model_names, IsTableReport, difference_under, IsDifferenceReport}
 use Rattle.session_answers.specs.Rows.{pair_in}
 use Rattle.text_values.specs.declared.test.Test.{Test}
 use Rattle.text_values.specs.ModelValue.{Clause}
@@ -38,8 +38,8 @@ one_cells models others e test other cells also same h g =
     others cells also e h g
 
 one_row : (models others : List NamedModel) → map said_of models ≡ map said_of others
-    → (test other : Test) (r q : Row) → content_of test ≡ content_of other → IsRow models test r
-    → IsRow others other q → r ≡ q
+    → (test other : Test) (r q : Row) → content_of test ≡ content_of other → IsReportRow models test r
+    → IsReportRow others other q → r ≡ q
 one_row models others e test other r q same h g =
     let name : r.name ≡ q.name = h.name ∙ ap (λ (c : Content). c.name) same ∙ sym g.name in
     let cells = one_cells models others e test other r.cells q.cells same h.cells g.cells in
@@ -55,8 +55,8 @@ record AreReadAlike (models others : List NamedModel) (rows also : List Row)
 
 module _ {models same_models tests same_tests : List TextFile} {known others : List NamedModel}
     {rows also : List Row} {faults lines : List ℕ} (same : AreSameFiles models same_models)
-    (alike : AreSameFiles tests same_tests) (h : AreRead models tests known rows faults)
-    (g : AreRead same_models same_tests others also lines) where
+    (alike : AreSameFiles tests same_tests) (h : AreFilesRead models tests known rows faults)
+    (g : AreFilesRead same_models same_tests others also lines) where
   of_models : AreModelsAlike known others h.model_faults g.model_faults
   of_models =
       all_models models known h.model_faults h.models_read same_models others g.model_faults
@@ -71,7 +71,7 @@ module _ {models same_models tests same_tests : List TextFile} {known others : L
   one_reading = record {
     said = of_models.said;
     one_rows =
-        one_by_images content_of (IsRow known) (IsRow others) (one_row known others of_models.said)
+        one_by_images content_of (IsReportRow known) (IsReportRow others) (one_row known others of_models.said)
         h.tests g.tests rows also of_tests.said h.rows_said g.rows_said;
     told = of_tests.told;
   }
@@ -79,13 +79,13 @@ module _ {models same_models tests same_tests : List TextFile} {known others : L
 -- ---- tables
 
 one_names : (models others : List NamedModel) → map said_of models ≡ map said_of others
-    → names_of models ≡ names_of others
+    → model_names models ≡ model_names others
 one_names models others e =
     sym (map-map (λ (x : List ℕ × List Clause). x.0) said_of models)
     ∙ (ap (map (λ (x : List ℕ × List Clause). x.0)) e
     ∙ map-map (λ (x : List ℕ × List Clause). x.0) said_of others)
 
-pub one_table : HasOneReport IsTable
+pub one_table : HasOneReport IsTableReport
 one_table models same_models tests same_tests text other faults lines same alike h g =
     let read = one_reading same alike h.read g.read in
     let names = one_names h.models g.models read.said in
@@ -107,7 +107,7 @@ same_difference (m ∷ []) rows = refl
 same_difference (m ∷ n ∷ []) rows = refl
 same_difference (m ∷ n ∷ o ∷ ms) rows = refl
 
-pub one_difference : HasOneReport IsDifference
+pub one_difference : HasOneReport IsDifferenceReport
 one_difference models same_models tests same_tests text other faults lines same alike h g =
     let read = one_reading same alike h.read g.read in
     let here = h.text_is ∙ same_difference h.models h.rows in

@@ -22,7 +22,7 @@ use Rattle.from_scratch.specs.FromScratch.{outermost, IsResultOf, IsFromScratch}
 use Rattle.bench_texts.specs.BenchTexts.{PlainModel}
 use Rattle.evaluation_laws.proofs.Saying.{one_outcome}
 use Rattle.evaluation_laws.proofs.Tests.{equal_tests}
-use Rattle.session_laws.specs.Laws.{HasOneOutcome}
+use Rattle.session_laws.specs.Laws.{HasOnePlainOutcome}
 
 -- ---- what an item binds and checks, from what it says
 
@@ -146,7 +146,7 @@ one_outcome_alike test other model under same alike o p h g =
     let here = equal_models model under alike other o there in
     one_outcome other under o p here g
 
-pub one_outcome_said : (test : Content) (model : PlainModel) → HasOneOutcome test model
+pub one_outcome_said : (test : Content) (model : PlainModel) → HasOnePlainOutcome test model
 one_outcome_said test model o p h g =
     one_outcome_alike h.test g.test h.model g.model (h.test_is ∙ sym g.test_is)
     (h.model_is ∙ sym g.model_is) o p h.said g.said

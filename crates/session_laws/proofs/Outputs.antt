@@ -6,11 +6,11 @@ use Rattle.session_script.specs.declared.command.Command.TheVariants as commands
 use Rattle.bench_texts.specs.BenchTexts.{BenchTexts}
 use Rattle.bench_texts.specs.Edits.{Edit}
 use Rattle.bench_texts.specs.declared.fault.EditFault.{EditFault}
-use Rattle.session_edits.specs.Answer.{Said, denied}
+use Rattle.session_edits.specs.Answer.{SessionAnswer, denied}
 use Rattle.session_edits.specs.Faults.{fault_line}
-use Rattle.session_edits.specs.Edits.{IsEdited, IsAccepted, IsRefused}
-use Rattle.session_edits.specs.Requests.{Asked, Editing, Asking, asked_in}
-use Rattle.session_answers.specs.Sessions.{IsAsked, IsAnswered, IsOutput, Nothing, OneMore, no_texts}
+use Rattle.session_edits.specs.Edits.{IsEditAnswer, IsAccepted, IsRefused}
+use Rattle.session_edits.specs.Requests.{RequestAsked, Editing, Asking, asked_in}
+use Rattle.session_answers.specs.Sessions.{IsRequestAnswer, IsCommandAnswer, IsOutput, Nothing, OneMore, no_texts}
 use Rattle.session_laws.specs.Laws.{HasOneOutput, BeginsAlike}
 use Rattle.session_laws.proofs.Edits.{AreFew, few_made, one_made}
 use Rattle.session_laws.proofs.Lists.{not_empty, last_one}
@@ -20,12 +20,12 @@ use Rattle.session_laws.proofs.Replies.{one_reply}
 -- ---- one command
 
 -- the same answer, and the same texts after it
-record AreOne (a b : Said) (after later : BenchTexts) : Type 0 where
+record AreOne (a b : SessionAnswer) (after later : BenchTexts) : Type 0 where
   answer : a ≡ b
   texts : after ≡ later
 
-one_edited : (t : BenchTexts) (e : Edit) (a b : Said) (after later : BenchTexts) → AreFew t.tests
-    → IsEdited t e a after → IsEdited t e b later → AreOne a b after later
+one_edited : (t : BenchTexts) (e : Edit) (a b : SessionAnswer) (after later : BenchTexts) → AreFew t.tests
+    → IsEditAnswer t e a after → IsEditAnswer t e b later → AreOne a b after later
 one_edited t e a b after later few (IsAccepted h x) (IsAccepted k y) =
     record { answer = x ∙ sym y; texts = one_made t e after later few h.makes k.makes }
 one_edited t e a b after later few (IsAccepted h x) (IsRefused fault is k y z) =
@@ -35,32 +35,32 @@ one_edited t e a b after later few (IsRefused fault is k y z) (IsAccepted h x) =
 one_edited t e a b after later few (IsRefused fault is h x w) (IsRefused other so k y z) =
     record { answer = x ∙ ap (λ (f : EditFault). denied (fault_line f)) (one_refusal t few e fault other is so h k) ∙ sym y; texts = w ∙ sym z }
 
-one_asked : (t : BenchTexts) (q : Asked) (a b : Said) (after later : BenchTexts) → AreFew t.tests
-    → IsAsked t q a after → IsAsked t q b later → AreOne a b after later
+one_asked : (t : BenchTexts) (q : RequestAsked) (a b : SessionAnswer) (after later : BenchTexts) → AreFew t.tests
+    → IsRequestAnswer t q a after → IsRequestAnswer t q b later → AreOne a b after later
 one_asked t (Editing e) a b after later few h k = one_edited t e a b after later few h k
 one_asked t (Asking q) a b after later few h k =
     record { answer = one_reply t q a b h.0 k.0; texts = h.1 ∙ sym k.1 }
 
-one_answered : (t : BenchTexts) (c : Command) (a b : Said) (after later : BenchTexts)
-    → AreFew t.tests → IsAnswered t c a after → IsAnswered t c b later → AreOne a b after later
+one_answered : (t : BenchTexts) (c : Command) (a b : SessionAnswer) (after later : BenchTexts)
+    → AreFew t.tests → IsCommandAnswer t c a after → IsCommandAnswer t c b later → AreOne a b after later
 one_answered t (commands.Refused rule) a b after later few h k =
     record { answer = h.0 ∙ sym k.0; texts = h.1 ∙ sym k.1 }
 one_answered t (commands.Asked request text) a b after later few h k =
     one_asked t (asked_in request text) a b after later few h k
 
-few_edited : (t : BenchTexts) (e : Edit) (a : Said) (after : BenchTexts) → AreFew t.tests
-    → IsEdited t e a after → AreFew after.tests
+few_edited : (t : BenchTexts) (e : Edit) (a : SessionAnswer) (after : BenchTexts) → AreFew t.tests
+    → IsEditAnswer t e a after → AreFew after.tests
 few_edited t e a after few (IsAccepted h x) = few_made t e after h.all_there few h.makes
 few_edited t e a after few (IsRefused fault is k y z) =
     subst (λ (u : BenchTexts). AreFew u.tests) (sym z) few
 
-few_asked : (t : BenchTexts) (q : Asked) (a : Said) (after : BenchTexts) → AreFew t.tests
-    → IsAsked t q a after → AreFew after.tests
+few_asked : (t : BenchTexts) (q : RequestAsked) (a : SessionAnswer) (after : BenchTexts) → AreFew t.tests
+    → IsRequestAnswer t q a after → AreFew after.tests
 few_asked t (Editing e) a after few h = few_edited t e a after few h
 few_asked t (Asking q) a after few h = subst (λ (u : BenchTexts). AreFew u.tests) (sym h.1) few
 
-few_answered : (t : BenchTexts) (c : Command) (a : Said) (after : BenchTexts) → AreFew t.tests
-    → IsAnswered t c a after → AreFew after.tests
+few_answered : (t : BenchTexts) (c : Command) (a : SessionAnswer) (after : BenchTexts) → AreFew t.tests
+    → IsCommandAnswer t c a after → AreFew after.tests
 few_answered t (commands.Refused rule) a after few h =
     subst (λ (u : BenchTexts). AreFew u.tests) (sym h.1) few
 few_answered t (commands.Asked request text) a after few h =
@@ -79,17 +79,17 @@ record IsOne (a b : List ℕ) (p q : Bool) (t u : BenchTexts) : Type 0 where
   refused : p ≡ q
   texts : t ≡ u
 
-one_more : (c d : Command) (a b : List ℕ) (p q : Bool) (t u : BenchTexts) (s z : Said)
+one_more : (c d : Command) (a b : List ℕ) (p q : Bool) (t u : BenchTexts) (s z : SessionAnswer)
     (after later : BenchTexts) → c ≡ d → AreFew t.tests → IsOne a b p q t u
-    → IsAnswered t c s after → IsAnswered u d z later
+    → IsCommandAnswer t c s after → IsCommandAnswer u d z later
     → IsOne (a ++ s.text) (b ++ z.text) (p || s.refused) (q || z.refused) after later
 one_more c d a b p q t u s z after later ends few same h k =
-    let moved : IsAnswered t c z later = subst (λ (e : Command). IsAnswered t e z later) (sym ends) (subst (λ (v : BenchTexts). IsAnswered v d z later) (sym same.texts) k) in
+    let moved : IsCommandAnswer t c z later = subst (λ (e : Command). IsCommandAnswer t e z later) (sym ends) (subst (λ (v : BenchTexts). IsCommandAnswer v d z later) (sym same.texts) k) in
     let one = one_answered t c s z after later few h moved in
     record {
-      text = ap (λ (l : List ℕ). l ++ s.text) same.text ∙ ap (λ (x : Said). b ++ x.text) one.answer;
+      text = ap (λ (l : List ℕ). l ++ s.text) same.text ∙ ap (λ (x : SessionAnswer). b ++ x.text) one.answer;
       refused =
-          ap (λ (r : Bool). r || s.refused) same.refused ∙ ap (λ (x : Said). q || x.refused)
+          ap (λ (r : Bool). r || s.refused) same.refused ∙ ap (λ (x : SessionAnswer). q || x.refused)
           one.answer;
       texts = one.texts;
     }

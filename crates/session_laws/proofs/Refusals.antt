@@ -8,8 +8,8 @@ use Rattle.cat_syntax.specs.declared.fault.CatFault.TheVariants as cat
 use Rattle.bench_texts.specs.declared.fault.EditFault.{EditFault}
 use Rattle.bench_texts.specs.declared.fault.EditFault.TheVariants as faults
 use Rattle.bench_texts.specs.BenchTexts.{BenchTexts, test_index}
-use Rattle.bench_texts.specs.Edits.{Edit, PutTest, DropTest, SetInit, SetThread, SetCond, SetLocations, PutModel, DropModel, SetItem, InsertItem, RemoveItem, Makes, missing, thread_count, limit_fault, IsTestRefused, IsModelRefused, IsOverLimit, Applies, Refuses}
-use Rattle.session_edits.specs.Faults.{IsAnswer}
+use Rattle.bench_texts.specs.Edits.{Edit, PutTest, DropTest, SetInit, SetThread, SetCond, SetLocations, PutModel, DropModel, SetItem, InsertItem, RemoveItem, EditMakes, missing_fault, thread_count, limit_fault, IsTestEditRefused, IsModelEditRefused, IsOverLimit, Applies, RefusesEdit}
+use Rattle.session_edits.specs.Faults.{HasFaultLine}
 use Rattle.text_reading_laws.proofs.Faults.{one_test_fault, test_apart, one_thread_fault, thread_apart, one_init_fault, init_apart, one_condition_fault, condition_apart, one_locations_fault, locations_apart, one_model_fault, model_apart}
 use Rattle.session_laws.proofs.Edits.{AreFew, few_at, one_made}
 
@@ -26,7 +26,7 @@ module _ (t : BenchTexts) (few : AreFew t.tests) where
   -- ---- a refused text has one fault
 
   test_fault_one : (e : Edit) (rule other : LitmusRule) (offset again : ℕ)
-      → IsTestRefused t e rule offset → IsTestRefused t e other again
+      → IsTestEditRefused t e rule offset → IsTestEditRefused t e other again
       → (rule ≡ other) × (offset ≡ again)
   test_fault_one (PutTest text) rule other offset again h g =
       one_test_fault text rule other offset again h g
@@ -46,7 +46,7 @@ module _ (t : BenchTexts) (few : AreFew t.tests) where
   test_fault_one (RemoveItem model item) rule other offset again h g = absurd h
 
   model_fault_one : (e : Edit) (rule other : CatRule) (offset again : ℕ)
-      → IsModelRefused t e rule offset → IsModelRefused t e other again
+      → IsModelEditRefused t e rule offset → IsModelEditRefused t e other again
       → (rule ≡ other) × (offset ≡ again)
   model_fault_one (PutModel model text) rule other offset again h g =
       one_model_fault forms.Model text rule other offset again h g
@@ -71,7 +71,7 @@ module _ (t : BenchTexts) (few : AreFew t.tests) where
 
   -- a text is one of a test, or one of a model
   not_both_kinds : (e : Edit) (rule : LitmusRule) (other : CatRule) (offset again : ℕ)
-      → IsTestRefused t e rule offset → IsModelRefused t e other again → ⊥
+      → IsTestEditRefused t e rule offset → IsModelEditRefused t e other again → ⊥
   not_both_kinds (PutTest text) rule other offset again h g = g
   not_both_kinds (SetInit test text) rule other offset again h g = g
   not_both_kinds (SetThread test thread text) rule other offset again h g = g
@@ -86,8 +86,8 @@ module _ (t : BenchTexts) (few : AreFew t.tests) where
 
   -- ---- nothing is made of a refused text
 
-  test_not_made : (e : Edit) (new : BenchTexts) (rule : LitmusRule) (offset : ℕ) → Makes t e new
-      → IsTestRefused t e rule offset → ⊥
+  test_not_made : (e : Edit) (new : BenchTexts) (rule : LitmusRule) (offset : ℕ) → EditMakes t e new
+      → IsTestEditRefused t e rule offset → ⊥
   test_not_made (PutTest text) new rule offset h g = test_apart text h.0 rule offset h.1 g
   test_not_made (SetInit test text) new rule offset h g =
       init_apart (thread_count t test) text (few_in test) h.0 rule offset h.1 g
@@ -104,8 +104,8 @@ module _ (t : BenchTexts) (few : AreFew t.tests) where
   test_not_made (InsertItem model before text) new rule offset h g = g
   test_not_made (RemoveItem model item) new rule offset h g = g
 
-  model_not_made : (e : Edit) (new : BenchTexts) (rule : CatRule) (offset : ℕ) → Makes t e new
-      → IsModelRefused t e rule offset → ⊥
+  model_not_made : (e : Edit) (new : BenchTexts) (rule : CatRule) (offset : ℕ) → EditMakes t e new
+      → IsModelEditRefused t e rule offset → ⊥
   model_not_made (PutModel model text) new rule offset h g =
       model_apart forms.Model text h.0 rule offset h.1 g
   model_not_made (SetItem model item text) new rule offset h g =
@@ -129,14 +129,14 @@ module _ (t : BenchTexts) (few : AreFew t.tests) where
 
   -- what it names is not there, its text is refused, or it is over a limit
   data Reason (e : Edit) (f : EditFault) : Type 0 where
-    Absent : missing t e ≡ Some f → Reason e f
+    Absent : missing_fault t e ≡ Some f → Reason e f
     OfTest : (rule : LitmusRule) (offset : ℕ) → f ≡ faults.Test (litmus.Refused rule offset)
-        → missing t e ≡ None → IsTestRefused t e rule offset → Reason e f
+        → missing_fault t e ≡ None → IsTestEditRefused t e rule offset → Reason e f
     OfModel : (rule : CatRule) (offset : ℕ) → f ≡ faults.Model (cat.Refused rule offset)
-        → missing t e ≡ None → IsModelRefused t e rule offset → Reason e f
-    OverLimit : missing t e ≡ None → IsOverLimit t false e f → Reason e f
+        → missing_fault t e ≡ None → IsModelEditRefused t e rule offset → Reason e f
+    OverLimit : missing_fault t e ≡ None → IsOverLimit t false e f → Reason e f
 
-  reason : (e : Edit) (f : EditFault) → IsAnswer f → Refuses t false e f → Reason e f
+  reason : (e : Edit) (f : EditFault) → HasFaultLine f → RefusesEdit t false e f → Reason e f
   reason e (faults.Test (litmus.Refused rule offset)) is h = OfTest rule offset refl h.0 h.1
   reason e (faults.Test (litmus.OutOfMemory x)) is h = absurd is
   reason e (faults.Model (cat.Refused rule offset)) is h = OfModel rule offset refl h.0 h.1
@@ -149,7 +149,7 @@ module _ (t : BenchTexts) (few : AreFew t.tests) where
   reason e faults.NoThread is h = Absent h
   reason e faults.NoItem is h = Absent h
 
-  absent_first : (e : Edit) (f : EditFault) → missing t e ≡ Some f → missing t e ≡ None → ⊥
+  absent_first : (e : Edit) (f : EditFault) → missing_fault t e ≡ Some f → missing_fault t e ≡ None → ⊥
   absent_first e f a b = none_is_not f (sym b ∙ a)
 
   limit_one : (e : Edit) (f g : EditFault) → IsOverLimit t false e f → IsOverLimit t false e g
@@ -196,10 +196,10 @@ module _ (t : BenchTexts) (few : AreFew t.tests) where
       none_is_not f (sym a.within ∙ ap (limit_fault t false)
       (one_made t e new h.new few a.makes h.makes) ∙ h.limit)
 
-  pub one_refusal : (e : Edit) (f g : EditFault) → IsAnswer f → IsAnswer g → Refuses t false e f
-      → Refuses t false e g → f ≡ g
+  pub one_refusal : (e : Edit) (f g : EditFault) → HasFaultLine f → HasFaultLine g → RefusesEdit t false e f
+      → RefusesEdit t false e g → f ≡ g
   one_refusal e f g is so h k = reason_one e f g (reason e f is h) (reason e g so k)
 
-  pub not_both : (e : Edit) (new : BenchTexts) (f : EditFault) → IsAnswer f → Applies t false e new
-      → Refuses t false e f → ⊥
+  pub not_both : (e : Edit) (new : BenchTexts) (f : EditFault) → HasFaultLine f → Applies t false e new
+      → RefusesEdit t false e f → ⊥
   not_both e new f is a h = not_accepted e new f a (reason e f is h)

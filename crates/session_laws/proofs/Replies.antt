@@ -7,19 +7,19 @@ use Rattle.outcome_texts.specs.Cells.{Cell, NoCell, Open, Settled, cell_log, cel
 use Rattle.outcome_texts.specs.Columns.{Row, table_of}
 use Rattle.outcome_texts.specs.Differences.{difference_of}
 use Rattle.bench_texts.specs.BenchTexts.{BenchTexts, PlainModel}
-use Rattle.session_edits.specs.Answer.{Said, told}
+use Rattle.session_edits.specs.Answer.{SessionAnswer, told}
 use Rattle.session_edits.specs.declared.request.Question.{Question}
 use Rattle.session_edits.specs.declared.request.Question.TheVariants as questions
-use Rattle.session_answers.specs.Cells.{test_named, model_named, models_named, IsCell, IsRow}
-use Rattle.session_answers.specs.Questions.{IsItems, IsLog, IsCounts, AreRows, IsTable, IsDifference}
+use Rattle.session_answers.specs.Cells.{test_named, model_named, models_named, IsPlainCell, IsPlainRow}
+use Rattle.session_answers.specs.Questions.{IsItemsReply, IsLogReply, IsCountsReply, ArePlainRows, IsTableReply, IsDifferenceReply}
 use Rattle.session_answers.specs.Rows.{pair_in}
 use Rattle.session_laws.specs.Laws.{HasOneReply}
 use Rattle.session_laws.proofs.Models.{one_outcome_said}
 
 -- ---- a cell, a row and all rows
 
-one_cell : (test : Content) (model : PlainModel) (c d : Cell) → IsCell test model c
-    → IsCell test model d → c ≡ d
+one_cell : (test : Content) (model : PlainModel) (c d : Cell) → IsPlainCell test model c
+    → IsPlainCell test model d → c ≡ d
 one_cell test model NoCell d h g = absurd h
 one_cell test model Open d h g = absurd h
 one_cell test model (Settled o) NoCell h g = absurd g
@@ -39,33 +39,33 @@ one_each R one (x ∷ xs) (y ∷ ys) (z ∷ zs) h g =
     let rest = one_each R one xs ys zs h.1 g.1 in
     λ k. first k ∷ rest k
 
-one_row : (models : List PlainModel) (test : Content) (r q : Row) → IsRow models test r
-    → IsRow models test q → r ≡ q
+one_row : (models : List PlainModel) (test : Content) (r q : Row) → IsPlainRow models test r
+    → IsPlainRow models test q → r ≡ q
 one_row models test r q h g =
     let name : r.name ≡ q.name = h.name ∙ sym g.name in
-    let cells : r.cells ≡ q.cells = one_each (IsCell test) (one_cell test) models r.cells q.cells h.cells g.cells in
+    let cells : r.cells ≡ q.cells = one_each (IsPlainCell test) (one_cell test) models r.cells q.cells h.cells g.cells in
     λ k. record { name = name k; cells = cells k }
 
-all_rows : (t : BenchTexts) (models : List PlainModel) (rs qs : List Row) → AreRows t models rs
-    → AreRows t models qs → rs ≡ qs
-all_rows t models rs qs h g = one_each (IsRow models) (one_row models) t.tests rs qs h g
+all_rows : (t : BenchTexts) (models : List PlainModel) (rs qs : List Row) → ArePlainRows t models rs
+    → ArePlainRows t models qs → rs ≡ qs
+all_rows t models rs qs h g = one_each (IsPlainRow models) (one_row models) t.tests rs qs h g
 
 -- ---- answers
 
-one_items : (model : Option PlainModel) (a b : Said) → IsItems model a → IsItems model b → a ≡ b
+one_items : (model : Option PlainModel) (a b : SessionAnswer) → IsItemsReply model a → IsItemsReply model b → a ≡ b
 one_items None a b h g = h ∙ sym g
 one_items (Some m) a b h g = h ∙ sym g
 
-one_log : (test : Option Content) (model : Option PlainModel) (a b : Said) → IsLog test model a
-    → IsLog test model b → a ≡ b
+one_log : (test : Option Content) (model : Option PlainModel) (a b : SessionAnswer) → IsLogReply test model a
+    → IsLogReply test model b → a ≡ b
 one_log None model a b h g = h ∙ sym g
 one_log (Some t) None a b h g = h ∙ sym g
 one_log (Some t) (Some m) a b h g =
     h.2 ∙ (ap (λ (o : Outcome). told (cell_log t.name (Settled o)))
     (one_outcome_said t m h.0 g.0 h.1 g.1) ∙ sym g.2)
 
-one_counts : (test : Option Content) (model : Option PlainModel) (a b : Said)
-    → IsCounts test model a → IsCounts test model b → a ≡ b
+one_counts : (test : Option Content) (model : Option PlainModel) (a b : SessionAnswer)
+    → IsCountsReply test model a → IsCountsReply test model b → a ≡ b
 one_counts None model a b h g = h ∙ sym g
 one_counts (Some t) None a b h g = h ∙ sym g
 one_counts (Some t) (Some m) a b h g =
@@ -73,14 +73,14 @@ one_counts (Some t) (Some m) a b h g =
     (one_outcome_said t m h.0 g.0 h.1 g.1) ∙ sym g.2)
 
 one_table : (t : BenchTexts) (names : List (List ℕ)) (models : Option (List PlainModel))
-    (a b : Said) → IsTable t names models a → IsTable t names models b → a ≡ b
+    (a b : SessionAnswer) → IsTableReply t names models a → IsTableReply t names models b → a ≡ b
 one_table t names None a b h g = h ∙ sym g
 one_table t names (Some ms) a b h g =
     h.2 ∙ (ap (λ (rows : List Row). told (table_of names rows)) (all_rows t ms h.0 g.0 h.1 g.1) ∙
     sym g.2)
 
-one_difference : (t : BenchTexts) (models : Option (List PlainModel)) (a b : Said)
-    → IsDifference t models a → IsDifference t models b → a ≡ b
+one_difference : (t : BenchTexts) (models : Option (List PlainModel)) (a b : SessionAnswer)
+    → IsDifferenceReply t models a → IsDifferenceReply t models b → a ≡ b
 one_difference t None a b h g = h ∙ sym g
 one_difference t (Some ms) a b h g =
     h.2 ∙ (ap (λ (rows : List Row). told (difference_of (map pair_in rows)))

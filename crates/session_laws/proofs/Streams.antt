@@ -2,10 +2,10 @@
 use Rattle.std.proofs.Common.{◌≡◌, ℕ, ◌+◌, ◌<◌, ◌⊎◌, inl, inr, List, ◌++◌, take, drop, take-append-drop, Bool, Option, Some, None, refl, sym, ap, ◌∙◌, subst, append_assoc}
 use Rattle.std.proofs.lemmas.Bool.{cases_order}
 use Rattle.std.specs.Io.KnownBytes.{Appends}
-use Rattle.command_answers.specs.Answer.{IsAnswer, IsWritten, IsStreamed}
-use Rattle.command_answers.specs.Cut.{IsCutAt, IsCut}
-use Rattle.session_script.specs.Written.{WritesFront}
-use Rattle.session_laws.specs.Answers.{LeaveOne, LeaveFronts}
+use Rattle.command_answers.specs.Answer.{IsEvalAnswer, IsEvalWritten, IsStreamed}
+use Rattle.command_answers.specs.Cut.{IsCutAt, IsInputCut}
+use Rattle.session_script.specs.Written.{WritesPrefix}
+use Rattle.session_laws.specs.Answers.{LeaveOne, LeavePrefixes}
 use Rattle.session_laws.proofs.TextAnswers.{one_answer}
 
 -- ---- cuts
@@ -26,7 +26,7 @@ one_place bytes model other test also i j h g (inl same) =
 one_place bytes model other test also i j h g (inr (inl less)) = absurd (g.first i less h.here)
 one_place bytes model other test also i j h g (inr (inr more)) = absurd (h.first j more g.here)
 
-one_cut : (bytes model other test also : List ℕ) → IsCut bytes model test → IsCut bytes other also
+one_cut : (bytes model other test also : List ℕ) → IsInputCut bytes model test → IsInputCut bytes other also
     → AreTexts model other test also
 one_cut bytes model other test also (inl (i, h)) (inl (j, g)) =
     one_place bytes model other test also i j h g (cases_order i j)
@@ -60,7 +60,7 @@ record IsStop (new other : Option (List ℕ)) : Type 0 where
   whole : other ≡ Some (front ++ rest)
 
 stopped : (old text more : List ℕ) (new other : Option (List ℕ)) → text ≡ more
-    → WritesFront (Some old) new text → Appends (Some old) other more → IsStop new other
+    → WritesPrefix (Some old) new text → Appends (Some old) other more → IsStop new other
 stopped old text more None other e h g = absurd h.2
 stopped old text more (Some x) None e h g = absurd g
 stopped old text more (Some x) (Some y) e h g =
@@ -69,21 +69,21 @@ stopped old text more (Some x) (Some y) e h g =
 
 -- ---- what is written
 
-pub one_writing : (model test written : List ℕ) → LeaveOne (IsWritten model test (Some written))
+pub one_writing : (model test written : List ℕ) → LeaveOne (IsEvalWritten model test (Some written))
 one_writing model test written new other refused also h g =
     let one = one_answer model test h.0 g.0 refused also h.1 g.1 in
     (appended written h.0 g.0 new other one.0 h.2 g.2, one.1)
 
 moved : (model other test more text : List ℕ) (refused : Bool) → AreTexts model other test more
-    → IsAnswer other more text refused → IsAnswer model test text refused
+    → IsEvalAnswer other more text refused → IsEvalAnswer model test text refused
 moved model other test more text refused same h =
-    subst (λ (m : List ℕ). IsAnswer m test text refused) (sym same.models)
-    (subst (λ (t : List ℕ). IsAnswer other t text refused) (sym same.tests) h)
+    subst (λ (m : List ℕ). IsEvalAnswer m test text refused) (sym same.models)
+    (subst (λ (t : List ℕ). IsEvalAnswer other t text refused) (sym same.tests) h)
 
 -- of texts that are one, the answers are one
 one_answer_moved : (model other test more text told : List ℕ) (refused also : Bool)
-    → AreTexts model other test more → IsAnswer model test text refused
-    → IsAnswer other more told also → (text ≡ told) × (refused ≡ also)
+    → AreTexts model other test more → IsEvalAnswer model test text refused
+    → IsEvalAnswer other more told also → (text ≡ told) × (refused ≡ also)
 one_answer_moved model other test more text told refused also same h g =
     one_answer model test text told refused also h (moved model other test more told also same g)
 
@@ -94,14 +94,14 @@ one_stream input written new other refused also h g =
     (appended written h.written.0 g.written.0 new other one.0 h.written.2 g.written.2, one.1)
 
 pub fronts_of_writing : (model test written : List ℕ)
-    → LeaveFronts (IsWritten model test (Some written))
+    → LeavePrefixes (IsEvalWritten model test (Some written))
 fronts_of_writing model test written new other refused h g =
     let one = one_answer model test _ _ _ _ h.2 g.1 in
     let stop = stopped written _ _ new other one.0 h.3 g.2 in
     (stop.front, stop.rest, stop.here, stop.whole)
 
 pub fronts_of_stream : (input written : List ℕ)
-    → LeaveFronts (IsStreamed (Some input) (Some written))
+    → LeavePrefixes (IsStreamed (Some input) (Some written))
 fronts_of_stream input written new other refused h g =
     let same = one_cut input h.model g.model h.test g.test h.cut g.cut in
     let one = one_answer_moved _ _ _ _ _ _ _ _ same h.written.2 g.written.1 in

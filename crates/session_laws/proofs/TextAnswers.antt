@@ -8,7 +8,7 @@ use Rattle.outcome_texts.specs.Log.{log_of}
 use Rattle.litmus_tokens.specs.declared.rule.LitmusRule.{LitmusRule}
 use Rattle.litmus_tokens.specs.Numbers.{number_of as test_rule_number}
 use Rattle.command_answers.specs.declared.fault.EvalFault.TheVariants as faults
-use Rattle.command_answers.specs.Answer.{IsLog, IsModel, IsModelRefused, IsTestRefused, IsAnswer, IsEvaluated, RefusesModel, RefusesTest}
+use Rattle.command_answers.specs.Answer.{IsEvalLog, IsModel, IsModelRefused, IsTestRefused, IsEvalAnswer, IsEvaluated, RefusesModel, RefusesTest}
 use Rattle.command_answers.specs.Pictures.{IsPictureOf, IsPictureAnswer}
 use Rattle.command_answers.specs.Whys.{IsWhyOf, IsWhyAnswer}
 use Rattle.why_forbidden.specs.declared.answer.Asked.{Asked}
@@ -17,13 +17,13 @@ use Rattle.text_reading_laws.proofs.Faults.{one_test_fault, one_model_fault}
 use Rattle.text_reading_laws.proofs.Meanings.{one_test, one_model}
 use Rattle.text_values.specs.ModelValues.{clauses_of}
 use Rattle.text_values.specs.TestValue.{content_of}
-use Rattle.session_laws.specs.Answers.{HasOneAnswer, HasOneEvaluation, HasOneRefusal}
+use Rattle.session_laws.specs.Answers.{HasOneAnswer, HasOneEvaluation, HasOneRefusalLine}
 use Rattle.session_laws.proofs.Models.{one_outcome_alike}
 
 module _ (model test : List ℕ) where
   -- ---- logs and faults
 
-  one_log : (log other : List ℕ) → IsLog model test log → IsLog model test other → log ≡ other
+  one_log : (log other : List ℕ) → IsEvalLog model test log → IsEvalLog model test other → log ≡ other
   one_log log other h g =
       let items = one_model Model model _ _ h.model_read g.model_read in
       let content = one_test test _ _ h.test_read g.test_read in
@@ -42,11 +42,11 @@ module _ (model test : List ℕ) where
 
   -- ---- what is read is not refused
 
-  no_model_fault : (log : List ℕ) (rule : CatRule) (offset : ℕ) → IsLog model test log
+  no_model_fault : (log : List ℕ) (rule : CatRule) (offset : ℕ) → IsEvalLog model test log
       → IsModelRefused model rule offset → ⊥
   no_model_fault log rule offset h g = g.unread (clauses_of h.items.items.items) h.model_read
 
-  no_test_fault : (log : List ℕ) (rule : LitmusRule) (offset : ℕ) → IsLog model test log
+  no_test_fault : (log : List ℕ) (rule : LitmusRule) (offset : ℕ) → IsEvalLog model test log
       → IsTestRefused test rule offset → ⊥
   no_test_fault log rule offset h g = g.unread (content_of h.known) h.test_read
 
@@ -116,14 +116,14 @@ module _ (model test : List ℕ) where
   true_is_not e = absurd cc
 
   why_apart : (asked : Asked) (text other : List ℕ) → IsWhyOf asked model test text
-      → IsAnswer model test other true → ⊥
+      → IsEvalAnswer model test other true → ⊥
   why_apart asked text other h (IsEvaluated e log) = true_is_not e
   why_apart asked text other h (RefusesModel e rule offset fault line) =
       fault.unread (clauses_of h.items.items.items) h.model_read
   why_apart asked text other h (RefusesTest e rule offset read fault line) =
       fault.unread (content_of h.known) h.test_read
 
-  pub one_why_refusal : (asked : Asked) → HasOneRefusal (IsWhyAnswer asked model test)
+  pub one_why_refusal : (asked : Asked) → HasOneRefusalLine (IsWhyAnswer asked model test)
   one_why_refusal asked text other false false h g = (refl, λ e. absurd (false_is_not e))
   one_why_refusal asked text other false true h g = absurd (why_apart asked text other h g)
   one_why_refusal asked text other true false h g = absurd (why_apart asked other text g h)
@@ -131,7 +131,7 @@ module _ (model test : List ℕ) where
       (refl, λ e. (one_answer text other true true h g).0)
 
   picture_apart : (drawn : Drawn) (most : ℕ) (text other : List ℕ)
-      → IsPictureOf drawn most model test text → IsAnswer model test other true → ⊥
+      → IsPictureOf drawn most model test text → IsEvalAnswer model test other true → ⊥
   picture_apart drawn most text other h (IsEvaluated e log) = true_is_not e
   picture_apart drawn most text other h (RefusesModel e rule offset fault line) =
       fault.unread (clauses_of h.items.items.items) h.model_read
@@ -139,7 +139,7 @@ module _ (model test : List ℕ) where
       fault.unread (content_of h.known) h.test_read
 
   pub one_picture_refusal : (drawn : Drawn) (most : ℕ)
-      → HasOneRefusal (IsPictureAnswer drawn most model test)
+      → HasOneRefusalLine (IsPictureAnswer drawn most model test)
   one_picture_refusal drawn most text other false false h g =
       (refl, λ e. absurd (false_is_not e))
   one_picture_refusal drawn most text other false true h g =

@@ -8,7 +8,7 @@ use Rattle.command_line.specs.declared.fault.SessionFault.TheVariants as session
 use Rattle.command_answers.specs.declared.fault.EvalFault.{EvalFault}
 use Rattle.command_answers.specs.declared.fault.EvalFault.TheVariants as eval_faults
 use Rattle.command_answers.specs.declared.file.TextFile.{TextFile}
-use Rattle.command_answers.specs.Answer.{IsLog, IsRefusal, IsAnswer}
+use Rattle.command_answers.specs.Answer.{IsEvalLog, IsEvalRefusal, IsEvalAnswer}
 
 -- ---- a model's text and a test's text
 
@@ -16,28 +16,28 @@ use Rattle.command_answers.specs.Answer.{IsLog, IsRefusal, IsAnswer}
 abbrev pub HasOneAnswer : (model test : List ℕ) → Type 0
 HasOneAnswer model test =
     (text other : List ℕ) (refused also : Bool)
-    → IsAnswer model test text refused → IsAnswer model test other also
+    → IsEvalAnswer model test text refused → IsEvalAnswer model test other also
     → (text ≡ other) × (refused ≡ also)
 
 -- what evaluating the two texts gives where memory is not wanting: the log, or the rule and the
 -- offset of the first text that is refused
-abbrev pub IsEvaluation : (model test : List ℕ) → Result (List ℕ) EvalFault → Type 0
-IsEvaluation model test (Ok log) = IsLog model test log
-IsEvaluation model test (Err (eval_faults.Model rule offset)) =
-    IsRefusal model test (eval_faults.Model rule offset)
-IsEvaluation model test (Err (eval_faults.Test rule offset)) =
-    IsRefusal model test (eval_faults.Test rule offset)
-IsEvaluation model test (Err (eval_faults.Memory e)) = ⊥
+abbrev pub IsEvalResult : (model test : List ℕ) → Result (List ℕ) EvalFault → Type 0
+IsEvalResult model test (Ok log) = IsEvalLog model test log
+IsEvalResult model test (Err (eval_faults.Model rule offset)) =
+    IsEvalRefusal model test (eval_faults.Model rule offset)
+IsEvalResult model test (Err (eval_faults.Test rule offset)) =
+    IsEvalRefusal model test (eval_faults.Test rule offset)
+IsEvalResult model test (Err (eval_faults.Memory e)) = ⊥
 
 -- evaluating the two texts gives one of these
 abbrev pub HasOneEvaluation : (model test : List ℕ) → Type 0
 HasOneEvaluation model test =
     (given other : Result (List ℕ) EvalFault)
-    → IsEvaluation model test given → IsEvaluation model test other → given ≡ other
+    → IsEvalResult model test given → IsEvalResult model test other → given ≡ other
 
 -- two answers both refuse a text or both do not, and where they do they are one
-abbrev pub HasOneRefusal : (List ℕ → Bool → Type 0) → Type 0
-HasOneRefusal is_said =
+abbrev pub HasOneRefusalLine : (List ℕ → Bool → Type 0) → Type 0
+HasOneRefusalLine is_said =
     (text other : List ℕ) (refused also : Bool) → is_said text refused → is_said other also
     → (refused ≡ also) × (refused ≡ true → text ≡ other)
 
@@ -50,8 +50,8 @@ LeaveOne is_left =
     → is_left new (Ok refused) → is_left other (Ok also) → (new ≡ other) × (refused ≡ also)
 
 -- an answer whose write failed leaves a front of what an answer that is written in full leaves
-abbrev pub LeaveFronts : (Option (List ℕ) → Result Bool SessionFault → Type 0) → Type 0
-LeaveFronts is_left =
+abbrev pub LeavePrefixes : (Option (List ℕ) → Result Bool SessionFault → Type 0) → Type 0
+LeavePrefixes is_left =
     (new other : Option (List ℕ)) (refused : Bool)
     → is_left new (Err session_faults.Write) → is_left other (Ok refused)
     → (front rest : List ℕ) × (new ≡ Some front) × (other ≡ Some (front ++ rest))

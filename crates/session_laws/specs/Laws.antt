@@ -4,21 +4,23 @@ use Rattle.std.specs.Prelude.{◌≡◌, ℕ, List, ◌++◌, Bool}
 use Rattle.text_values.specs.TestValue.{Content}
 use Rattle.verdict.specs.declared.answer.Outcome.{Outcome}
 use Rattle.bench_texts.specs.BenchTexts.{BenchTexts, PlainModel}
-use Rattle.session_edits.specs.Answer.{Said}
+use Rattle.session_edits.specs.Answer.{SessionAnswer}
 use Rattle.session_edits.specs.declared.request.Question.{Question}
-use Rattle.session_answers.specs.Cells.{IsOutcome}
+use Rattle.session_answers.specs.Cells.{IsPlainOutcome}
 use Rattle.session_answers.specs.Questions.{IsReply}
 use Rattle.session_answers.specs.Sessions.{IsOutput}
 use Rattle.session_script.specs.declared.command.Command.{Command}
 
 -- a test has one outcome under a model
-abbrev pub HasOneOutcome : Content → PlainModel → Type 0
-HasOneOutcome test model = (o p : Outcome) → IsOutcome test model o → IsOutcome test model p → o ≡ p
+abbrev pub HasOnePlainOutcome : Content → PlainModel → Type 0
+HasOnePlainOutcome test model =
+    (o p : Outcome) → IsPlainOutcome test model o → IsPlainOutcome test model p → o ≡ p
 
 -- over these texts the question has one answer
 abbrev pub HasOneReply : BenchTexts → Question → Type 0
 HasOneReply texts question =
-    (said other : Said) → IsReply texts question said → IsReply texts question other → said ≡ other
+    (said other : SessionAnswer) → IsReply texts question said → IsReply texts question other
+    → said ≡ other
 
 -- two outputs of these commands are one, and so are whether a command is refused and the texts
 -- after them

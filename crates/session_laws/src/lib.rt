@@ -8,20 +8,20 @@ ghost use Rattle.std.specs.Prelude.{ℕ, List, [], Some};
 ghost use Rattle.text_values.specs.TestValue.{Content};
 ghost use Rattle.bench_texts.specs.BenchTexts.{PlainModel, BenchTexts};
 ghost use Rattle.command_line.specs.declared.form.Drawn.{Drawn};
-ghost use Rattle.command_answers.specs.Answer.{IsWritten, IsStreamed};
+ghost use Rattle.command_answers.specs.Answer.{IsEvalWritten, IsStreamed};
 ghost use Rattle.command_answers.specs.Pictures.{IsPictureAnswer};
-ghost use Rattle.command_answers.specs.Reports.{IsTable, IsDifference, IsModelTold, IsTestTold, IsToldOf};
+ghost use Rattle.command_answers.specs.Reports.{IsTableReport, IsDifferenceReport, IsModelTold, IsTestTold, IsToldOf};
 ghost use Rattle.command_answers.specs.Told.{IsFaultTold};
 ghost use Rattle.command_answers.specs.Whys.{IsWhyAnswer};
 ghost use Rattle.why_forbidden.specs.declared.answer.Asked.{Asked};
 ghost use Rattle.session_edits.specs.declared.request.Question.{Question};
 ghost use Rattle.session_script.specs.declared.command.Command.{Command};
-ghost use Rattle.session_laws.specs.Answers.{HasOneAnswer, HasOneEvaluation, HasOneRefusal, LeaveOne, LeaveFronts, HasOneReport, HasOneTelling, HasOneTellingOfBoth};
-ghost use Rattle.session_laws.specs.Laws.{HasOneOutcome, HasOneReply, HasOneOutput, BeginsAlike};
+ghost use Rattle.session_laws.specs.Answers.{HasOneAnswer, HasOneEvaluation, HasOneRefusalLine, LeaveOne, LeavePrefixes, HasOneReport, HasOneTelling, HasOneTellingOfBoth};
+ghost use Rattle.session_laws.specs.Laws.{HasOnePlainOutcome, HasOneReply, HasOneOutput, BeginsAlike};
 
 /// A test has one outcome under a model, wherever the two lie in memory.
 pub fn outcomes_are_one()
-    ensures { (test : Content) (model : PlainModel) → HasOneOutcome test model }
+    ensures { (test : Content) (model : PlainModel) → HasOnePlainOutcome test model }
 {}
 
 /// Over the same texts a question has one answer: the bytes, and whether it is refused.
@@ -50,26 +50,27 @@ pub fn answers_are_one()
 /// one way. What they say of texts that they accept is left to their own definitions.
 pub fn refusals_are_one()
     ensures why { (asked : Asked) (model test : List ℕ)
-        → HasOneRefusal (IsWhyAnswer asked model test) }
+        → HasOneRefusalLine (IsWhyAnswer asked model test) }
     ensures draw { (drawn : Drawn) (most : ℕ) (model test : List ℕ)
-        → HasOneRefusal (IsPictureAnswer drawn most model test) }
+        → HasOneRefusalLine (IsPictureAnswer drawn most model test) }
 {}
 
 /// What `write_answer` writes of two texts, and `eval_stream` of an input, behind the bytes that
 /// stand there, is one where all of it is written. Where a write fails it is a front of that.
 pub fn writings_are_one()
-    ensures texts { (model test old : List ℕ) → LeaveOne (IsWritten model test (Some old)) }
+    ensures texts { (model test old : List ℕ) → LeaveOne (IsEvalWritten model test (Some old)) }
     ensures stream { (input old : List ℕ) → LeaveOne (IsStreamed (Some input) (Some old)) }
     ensures texts_front { (model test old : List ℕ)
-        → LeaveFronts (IsWritten model test (Some old)) }
-    ensures stream_front { (input old : List ℕ) → LeaveFronts (IsStreamed (Some input) (Some old)) }
+        → LeavePrefixes (IsEvalWritten model test (Some old)) }
+    ensures stream_front { (input old : List ℕ)
+        → LeavePrefixes (IsStreamed (Some input) (Some old)) }
 {}
 
 /// The tables and the differences of the same files are one, and so are the lines of the files that
 /// are refused.
 pub fn reports_are_one()
-    ensures table { HasOneReport IsTable }
-    ensures difference { HasOneReport IsDifference }
+    ensures table { HasOneReport IsTableReport }
+    ensures difference { HasOneReport IsDifferenceReport }
 {}
 
 /// What is told of a file that is refused, of the first of two, and of the fault of a model that

@@ -3,19 +3,18 @@ use Rattle.std.proofs.Common.{◌≡◌, ℕ, ◌<◌, ◌-◌, ◌+◌, ◌^◌
 use Rattle.bench_texts.specs.BenchTexts.{BenchTexts}
 use Rattle.bench_texts.specs.declared.edit.Edit as code
 use Rattle.bench_texts.specs.Edits.{Edit, Applies, edit_of}
-use Rattle.session_edits.specs.Answer.{Said}
-use Rattle.session_edits.specs.Edits.{IsEdited, IsAccepted, IsRefused}
+use Rattle.session_edits.specs.Answer.{SessionAnswer}
+use Rattle.session_edits.specs.Edits.{IsEditAnswer, IsAccepted, IsRefused}
 use Rattle.board.specs.declared.operation.BoardOp.{BoardOp}
 use Rattle.board.specs.Histories.{no_contents}
-use Rattle.session_views.specs.Knowing.{KnowsOwn, HasOwnEdit}
-use Rattle.session_run.specs.Ready.{IsReady}
+use Rattle.session_views.specs.Knowing.{KnowsOwn, KnowsTexts, HasOwnEdit}
 
 -- an edit that is accepted makes them
-pub accepted_applies : (t after : BenchTexts) (e : Edit) (said : Said) → IsEdited t e said after
+pub accepted_applies : (t after : BenchTexts) (e : Edit) (said : SessionAnswer) → IsEditAnswer t e said after
     → said.refused ≡ false → Applies t false e after
 accepted_applies t after e said (IsAccepted applies is) accepted = applies
 accepted_applies t after e said (IsRefused fault answer refuses is same) accepted =
-    let wrong : true ≡ false = sym (ap (λ (s : Said). s.refused) is) ∙ accepted in absurd cc
+    let wrong : true ≡ false = sym (ap (λ (s : SessionAnswer). s.refused) is) ∙ accepted in absurd cc
 
 -- ---- who knows its texts
 
@@ -36,9 +35,9 @@ knows_texts seen t k nothing none =
     (subst (λ (x : BenchTexts). KnowsOwn [] 0 x) (sym none) k)
 
 pub accepted_ready : (e : code.Edit) (seen later : List BoardOp) (made : ℕ) (t after : BenchTexts)
-    (said : Said) → EditsAreKnown t → IsReady seen made t → HasOwnEdits e seen later
-    → IsEdited t (edit_of e) said after → said.refused ≡ false → made < 2 ^ 64 - 2
-    → IsReady later (made + 1) after
+    (said : SessionAnswer) → EditsAreKnown t → KnowsTexts seen made t → HasOwnEdits e seen later
+    → IsEditAnswer t (edit_of e) said after → said.refused ≡ false → made < 2 ^ 64 - 2
+    → KnowsTexts later (made + 1) after
 accepted_ready e seen later made t after said law ready has edited accepted few = (
   omega (arith, few),
   law e has.0 seen later made after ready.1 has.1

@@ -4,13 +4,13 @@ use Rattle.std.proofs.lemmas.List.{append-nil}
 use Rattle.std.specs.Io.KnownBytes.{prepend_known, Keeps, Appends}
 use Rattle.session_script.specs.declared.command.Command.{Command}
 use Rattle.session_script.specs.Commands.{commands_of}
-use Rattle.session_script.specs.Reading.{IsNext, IsPaid}
+use Rattle.session_script.specs.Reading.{IsNextCommand, IsPaid}
 use Rattle.bench_texts.specs.BenchTexts.{BenchTexts}
 use Rattle.session_answers.specs.Sessions.{IsOutput, Nothing, OneMore, no_texts}
 use Rattle.command_line.specs.declared.fault.SessionFault.{SessionFault}
 use Rattle.command_line.specs.declared.fault.SessionFault.TheVariants as faults
-use Rattle.session_edits.specs.Answer.{Said}
-use Rattle.session_run.specs.Sessions.{IsWhole, IsFront, IsSession, IsReplied, IsReplyStopped, IsTurnFault}
+use Rattle.session_edits.specs.Answer.{SessionAnswer}
+use Rattle.session_run.specs.Sessions.{IsWholeSession, IsSessionPrefix, IsSession, IsReplied, IsReplyStopped, IsTurnFault}
 use Rattle.command_answers.specs.Answer.{IsReadFault}
 use Rattle.session_script.proofs.Joined.{appends_joined}
 use Rattle.session_run.specs.Faults.{IsOwnFault}
@@ -62,7 +62,7 @@ all_read (Some script) (Some rest) first h = h
 
 -- no command is left
 none_left : (left now next : Option (List ℕ)) (first : List Command) → AreRead left first now
-    → IsNext now next None → IfSome left (λ script. commands_of script ≡ first ++ [])
+    → IsNextCommand now next None → IfSome left (λ script. commands_of script ≡ first ++ [])
 none_left None now next first h read = tt
 none_left (Some script) None next first h read = absurd h
 none_left (Some script) (Some rest) None first h read = absurd read
@@ -71,7 +71,7 @@ none_left (Some script) (Some rest) (Some end) first h read =
 
 -- one is left, and the others
 one_left : (left now next : Option (List ℕ)) (first : List Command) (command : Command)
-    → AreRead left first now → IsNext now next (Some command)
+    → AreRead left first now → IsNextCommand now next (Some command)
     → IfSome left (λ script. commands_of script ≡ first ++ command ∷ others_in next)
 one_left None now next first command h read = tt
 one_left (Some script) None next first command h read = absurd h
@@ -80,7 +80,7 @@ one_left (Some script) (Some rest) (Some end) first command h read =
     h ∙ ap (λ (cs : List Command). first ++ cs) read
 
 one_read : (left now next : Option (List ℕ)) (first : List Command) (command : Command)
-    → AreRead left first now → IsNext now next (Some command)
+    → AreRead left first now → IsNextCommand now next (Some command)
     → AreRead left (first ++ command ∷ []) next
 one_read None now next first command h read = tt
 one_read (Some script) None next first command h read = absurd h
@@ -99,8 +99,8 @@ still_written (Some xs) (Some ys) (Some zs) text h k = k ∙ h
 -- ---- where a session ends
 
 pub ended : (left now next old new : Option (List ℕ)) (texts : BenchTexts) (refused : Bool)
-    → IsUnderWay left now old new texts refused → IsNext now next None
-    → IsWhole left old new refused
+    → IsUnderWay left now old new texts refused → IsNextCommand now next None
+    → IsWholeSession left old new refused
 ended left now next old new texts refused h read = record {
   text = h.text;
   texts = texts;
@@ -114,7 +114,7 @@ ended left now next old new texts refused h read = record {
 }
 
 stands : (left now old new : Option (List ℕ)) (texts : BenchTexts) (refused : Bool)
-    → IsUnderWay left now old new texts refused → IsFront left old new
+    → IsUnderWay left now old new texts refused → IsSessionPrefix left old new
 stands left now old new texts refused h = record {
   others = others_in now;
   text = h.text;
@@ -152,8 +152,8 @@ read_fails left now old new texts refused faults.Write other h = absurd (other r
 -- the next command is not answered
 unanswered : (left now next old mid new : Option (List ℕ)) (texts : BenchTexts) (refused : Bool)
     (command : Command)
-    → IsUnderWay left now old mid texts refused → IsNext now next (Some command) → Keeps mid new
-    → IsFront left old new
+    → IsUnderWay left now old mid texts refused → IsNextCommand now next (Some command) → Keeps mid new
+    → IsSessionPrefix left old new
 unanswered left now next old mid new texts refused command h read kept = record {
   others = command ∷ others_in next;
   text = h.text;
@@ -171,7 +171,7 @@ unanswered left now next old mid new texts refused command h read kept = record 
 -- after a fault of an answer
 pub reply_fails : (left now next old mid new : Option (List ℕ)) (texts : BenchTexts)
     (refused : Bool) (command : Command) (fault : SessionFault)
-    → IsUnderWay left now old mid texts refused → IsNext now next (Some command)
+    → IsUnderWay left now old mid texts refused → IsNextCommand now next (Some command)
     → IsReplyStopped texts command mid new fault → IsSession left old new (Err fault)
 reply_fails left now next old mid new texts refused command faults.Read h read reply = absurd reply
 reply_fails left now next old mid new texts refused command faults.Memory h read reply =
@@ -201,8 +201,8 @@ reply_fails left now next old mid new texts refused command faults.Write h read
 
 -- one command more is answered
 pub goes_on : (left now next old mid new : Option (List ℕ)) (texts after : BenchTexts)
-    (before both : Bool) (command : Command) (said : Said)
-    → IsUnderWay left now old mid texts before → IsNext now next (Some command)
+    (before both : Bool) (command : Command) (said : SessionAnswer)
+    → IsUnderWay left now old mid texts before → IsNextCommand now next (Some command)
     → IsReplied texts after command mid new said → both ≡ (before || said.refused)
     → IsUnderWay left next old new after both
 goes_on left now next old mid new texts after before both command said h read (answer, whole) e =

@@ -1,4 +1,3 @@
 pub mod Sessions
 pub mod Faults
-pub mod Ready
 pub mod Untold

@@ -5,71 +5,74 @@ use Rattle.std.specs.Io.KnownBytes.{Keeps, Appends}
 use Rattle.session_script.specs.declared.command.Command.{Command}
 use Rattle.session_script.specs.Commands.{commands_of}
 use Rattle.bench_texts.specs.BenchTexts.{BenchTexts}
-use Rattle.session_edits.specs.Answer.{Said}
-use Rattle.session_answers.specs.Sessions.{IsAnswered, IsOutput}
+use Rattle.session_edits.specs.Answer.{SessionAnswer}
+use Rattle.session_answers.specs.Sessions.{IsCommandAnswer, IsOutput}
 use Rattle.command_line.specs.declared.fault.SessionFault.{SessionFault}
 use Rattle.command_line.specs.declared.fault.SessionFault.TheVariants as faults
-use Rattle.session_script.specs.Written.{WritesFront}
+use Rattle.session_script.specs.Written.{WritesPrefix}
 
 -- The script, of which these bytes are left, where they are known, begins with some commands of
 -- this output, and goes on with the others.
-pub record IsBegun (left : Option (List ℕ)) (others : List Command) (text : List ℕ) (refused : Bool)
+pub record IsSessionStart (left : Option (List ℕ)) (others : List Command) (text : List ℕ)
+    (refused : Bool)
     (texts : BenchTexts) : Type 0 where
   pub first : List Command
   pub commands : IfSome left (λ script. commands_of script ≡ first ++ others)
   pub output : IsOutput first text refused texts
 
 -- the output of the whole script is written
-pub record IsWhole (left old new : Option (List ℕ)) (refused : Bool) : Type 0 where
+pub record IsWholeSession (left old new : Option (List ℕ)) (refused : Bool) : Type 0 where
   pub text : List ℕ
   pub texts : BenchTexts
-  pub begun : IsBegun left [] text refused texts
+  pub begun : IsSessionStart left [] text refused texts
   pub written : Appends old new text
 
 -- the output of its first commands is written
-pub record IsFront (left old new : Option (List ℕ)) : Type 0 where
+pub record IsSessionPrefix (left old new : Option (List ℕ)) : Type 0 where
   pub others : List Command
   pub text : List ℕ
   pub refused : Bool
   pub texts : BenchTexts
-  pub begun : IsBegun left others text refused texts
+  pub begun : IsSessionStart left others text refused texts
   pub written : Appends old new text
 
 -- the output of its first commands is written, and a front of the answer to the next
-pub record IsCutOff (left old new : Option (List ℕ)) : Type 0 where
+pub record IsSessionCutOff (left old new : Option (List ℕ)) : Type 0 where
   pub command : Command
   pub others : List Command
   pub text : List ℕ
   pub refused : Bool
   pub texts : BenchTexts
-  pub begun : IsBegun left (command ∷ others) text refused texts
-  pub said : Said
+  pub begun : IsSessionStart left (command ∷ others) text refused texts
+  pub said : SessionAnswer
   pub after : BenchTexts
-  pub answer : IsAnswered texts command said after
+  pub answer : IsCommandAnswer texts command said after
   pub count : ℕ
   pub within : count ≤ length said.text
   pub written : Appends old new (text ++ take count said.text)
 
 abbrev pub IsSession : (left old new : Option (List ℕ)) → Result Bool SessionFault → Type 0
-IsSession left old new (Ok refused) = IsWhole left old new refused
-IsSession left old new (Err faults.Read) = IsFront left old new
-IsSession left old new (Err faults.Memory) = IsFront left old new
-IsSession left old new (Err faults.Shared) = IsFront left old new
-IsSession left old new (Err faults.Write) = IsCutOff left old new
+IsSession left old new (Ok refused) = IsWholeSession left old new refused
+IsSession left old new (Err faults.Read) = IsSessionPrefix left old new
+IsSession left old new (Err faults.Memory) = IsSessionPrefix left old new
+IsSession left old new (Err faults.Shared) = IsSessionPrefix left old new
+IsSession left old new (Err faults.Write) = IsSessionCutOff left old new
 
 -- ---- one command
 
 -- its answer over these texts is written, and those are the texts after it
-abbrev pub IsReplied : (t after : BenchTexts) → Command → (old new : Option (List ℕ)) → Said
+abbrev pub IsReplied : (t after : BenchTexts) → Command → (old new : Option (List ℕ))
+    → SessionAnswer
     → Type 0
-IsReplied t after command old new said = IsAnswered t command said after × Appends old new said.text
+IsReplied t after command old new said =
+    IsCommandAnswer t command said after × Appends old new said.text
 
 -- a front of its answer is written where a write failed, and else nothing
 abbrev pub IsReplyStopped : BenchTexts → Command → (old new : Option (List ℕ)) → SessionFault
     → Type 0
 IsReplyStopped t command old new faults.Write =
-    (after : BenchTexts) × (said : Said) × IsAnswered t command said after
-    × WritesFront old new said.text
+    (after : BenchTexts) × (said : SessionAnswer) × IsCommandAnswer t command said after
+    × WritesPrefix old new said.text
 IsReplyStopped t command old new faults.Memory = Keeps old new
 IsReplyStopped t command old new faults.Shared = Keeps old new
 IsReplyStopped t command old new faults.Read = ⊥

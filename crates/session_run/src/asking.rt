@@ -6,7 +6,7 @@ ghost use Rattle.bench_texts.specs.Held.{texts_of};
 ghost use Rattle.board.specs.Legal.{IsLegal};
 ghost use Rattle.session_answers.specs.Questions.{IsReply};
 ghost use Rattle.session_run.specs.Faults.{IsOwnFault};
-ghost use Rattle.session_run.specs.Ready.{IsReady};
+ghost use Rattle.session_views.specs.Knowing.{KnowsTexts};
 
 use crate::fault::fault_of;
 use crate::jobs::run_some;
@@ -31,9 +31,9 @@ fn settle_turn<J: Naming + StoreName, R: Wait + Drop, W: Wait>(
     desk: &RunningDesk<J, R>,
     session: &mut Session<J>,
 ) -> Result<Settling, SessionFault>
-    requires ready { IsReady session.old.viewer session.old.made (texts_of session.old.texts) }
+    requires ready { KnowsTexts session.old.viewer session.old.made (texts_of session.old.texts) }
     ensures texts { session.new.texts ≡ session.old.texts }
-    ensures ready { OnOk result (IsReady session.new.viewer session.new.made
+    ensures ready { OnOk result (KnowsTexts session.new.viewer session.new.made
         (texts_of session.new.texts)) }
     ensures fault { IfErr result IsOwnFault }
 {
@@ -54,7 +54,7 @@ fn answer_in<J: Naming>(
     question: &Question,
 ) -> Result<Option<Answer>, SessionFault>
     requires legal { IsLegal view.now }
-    requires ready { IsReady view.now made (texts_of texts.now) }
+    requires ready { KnowsTexts view.now made (texts_of texts.now) }
     ensures reply { IfOk result (λ r. IfSome r (IsReply (texts_of texts.now) question.now)) }
     ensures fault { IfErr result IsOwnFault }
 {
@@ -104,7 +104,7 @@ fn look_at<'q, J: Naming, L: ProgressListener>(
     Viewer<J, StampedTexts>,
     Result<Option<Answer>, SessionFault>,
 )
-    requires { IsReady viewer looking.made (texts_of looking.texts.now) }
+    requires { KnowsTexts viewer looking.made (texts_of looking.texts.now) }
     ensures begins { IsPrefix viewer result.0 }
     ensures reply { IfOk result.1 (λ r.
         IfSome r (IsReply (texts_of looking.entry.texts.now) looking.entry.question.now)) }
@@ -135,9 +135,9 @@ fn look<J: Naming, L: ProgressListener>(
     question: &Question,
     listener: &mut L,
 ) -> Result<Option<Answer>, SessionFault>
-    requires ready { IsReady session.old.viewer session.old.made (texts_of session.old.texts) }
+    requires ready { KnowsTexts session.old.viewer session.old.made (texts_of session.old.texts) }
     ensures texts { session.new.texts ≡ session.old.texts }
-    ensures ready { IsReady session.new.viewer session.new.made (texts_of session.new.texts) }
+    ensures ready { KnowsTexts session.new.viewer session.new.made (texts_of session.new.texts) }
     ensures reply { IfOk result (λ r.
         IfSome r (IsReply (texts_of session.old.texts) question.now)) }
     ensures fault { IfErr result IsOwnFault }
@@ -193,9 +193,9 @@ pub(crate) fn ask<J: Naming + StoreName, R: Wait + Drop, W: Wait, L: ProgressLis
     question: &Question,
     listener: &mut L,
 ) -> Result<Answer, SessionFault>
-    requires ready { IsReady session.old.viewer session.old.made (texts_of session.old.texts) }
+    requires ready { KnowsTexts session.old.viewer session.old.made (texts_of session.old.texts) }
     ensures texts { session.new.texts ≡ session.old.texts }
-    ensures ready { OnOk result (IsReady session.new.viewer session.new.made
+    ensures ready { OnOk result (KnowsTexts session.new.viewer session.new.made
         (texts_of session.new.texts)) }
     ensures reply { IfOk result (IsReply (texts_of session.old.texts) question.now) }
     ensures fault { IfErr result IsOwnFault }

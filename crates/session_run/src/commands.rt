@@ -2,12 +2,12 @@
 
 ghost use Rattle.std.specs.Prelude.{◌≡◌, ◌≢◌, ◌+◌, ◌-◌, ◌<◌, ◌^◌, IfOk, IfErr, IfSome, OnOk, OnErr, Err};
 ghost use Rattle.std.specs.Io.KnownBytes.{Appends};
-ghost use Rattle.session_script.specs.Reading.{left_to, turns_of, work_of, IsNext, IsPaid};
+ghost use Rattle.session_script.specs.Reading.{left_to, turns_of, work_of, IsNextCommand, IsPaid};
 ghost use Rattle.bench_texts.specs.Held.{texts_of};
 ghost use Rattle.session_answers.specs.Sessions.{no_texts};
 ghost use Rattle.command_answers.specs.Answer.{IsReadFault};
-ghost use Rattle.session_script.specs.Written.{WritesFront};
-ghost use Rattle.session_run.specs.Ready.{IsReady};
+ghost use Rattle.session_script.specs.Written.{WritesPrefix};
+ghost use Rattle.session_views.specs.Knowing.{KnowsTexts};
 ghost use Rattle.session_run.specs.Sessions.{IsSession, IsReplied, IsReplyStopped, IsTurnFault};
 
 use crate::reply::reply;
@@ -27,7 +27,7 @@ fn read_command<S: ByteSource>(
     source: &mut S,
 ) -> Result<Option<Command>, SessionFault>
     requires { S.failed_calls source.old < 2 ^ 64 - 1 }
-    ensures next { IfOk result (λ c. IsNext (left_to script.old (S.remaining source.old))
+    ensures next { IfOk result (λ c. IsNextCommand (left_to script.old (S.remaining source.old))
         (left_to script.new (S.remaining source.new)) c) }
     ensures work { IfOk result (λ c. IfSome c (λ some. work_of script.new < work_of script.old)) }
     ensures paid { IfOk result (λ c. IsPaid (turns_of script.old) (turns_of script.new)
@@ -104,7 +104,7 @@ fn write_answer<K: ByteSink, L: AnswerListener>(
 ) -> Result<(), SessionFault>
     requires { K.failed_calls sink.old < 2 ^ 64 - 1 }
     ensures ok { OnOk result (Appends (K.contents sink.old) (K.contents sink.new) answer.now.text) }
-    ensures front { WritesFront (K.contents sink.old) (K.contents sink.new) answer.now.text }
+    ensures front { WritesPrefix (K.contents sink.old) (K.contents sink.new) answer.now.text }
     ensures err { OnErr result (K.failed_calls sink.new ≡ K.failed_calls sink.old + 1) }
     ensures same { OnOk result (K.failed_calls sink.new ≡ K.failed_calls sink.old) }
     ensures fault { OnErr result (result ≡ Err SessionFault.Write) }
@@ -127,11 +127,11 @@ fn write_reply<J: Naming + StoreName, R: Wait + Drop, W: Wait, K: ByteSink, L: A
     sink: &mut K,
     listener: &mut L,
 ) -> Result<Answer, SessionFault>
-    requires ready { IsReady session.old.viewer session.old.made (texts_of session.old.texts) }
+    requires ready { KnowsTexts session.old.viewer session.old.made (texts_of session.old.texts) }
     requires sink { K.failed_calls sink.old < 2 ^ 64 - 1 }
     ensures written { IfOk result (IsReplied (texts_of session.old.texts)
         (texts_of session.new.texts) command (K.contents sink.old) (K.contents sink.new)) }
-    ensures ready { OnOk result (IsReady session.new.viewer session.new.made
+    ensures ready { OnOk result (KnowsTexts session.new.viewer session.new.made
         (texts_of session.new.texts)) }
     ensures stopped { IfErr result (IsReplyStopped (texts_of session.old.texts) command
         (K.contents sink.old) (K.contents sink.new)) }
@@ -170,7 +170,7 @@ pub(crate) fn answer_commands<
     sink: &mut K,
     listener: &mut L,
 ) -> Result<bool, SessionFault>
-    requires ready { IsReady session.viewer session.made (texts_of session.texts) }
+    requires ready { KnowsTexts session.viewer session.made (texts_of session.texts) }
     requires texts { texts_of session.texts ≡ no_texts }
     requires source { S.failed_calls source.old < 2 ^ 64 - 1 }
     requires sink { K.failed_calls sink.old < 2 ^ 64 - 1 }

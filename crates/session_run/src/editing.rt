@@ -3,10 +3,9 @@
 ghost use Rattle.std.specs.Prelude.{◌≡◌, ℕ, IfOk, IfErr, OnOk, OnErr};
 ghost use Rattle.bench_texts.specs.Edits.{edit_of};
 ghost use Rattle.bench_texts.specs.Held.{texts_of};
-ghost use Rattle.session_edits.specs.Edits.{IsEdited};
-ghost use Rattle.session_views.specs.Knowing.{HasOwnEdit};
+ghost use Rattle.session_edits.specs.Edits.{IsEditAnswer};
+ghost use Rattle.session_views.specs.Knowing.{KnowsTexts, HasOwnEdit};
 ghost use Rattle.session_run.specs.Faults.{IsOwnFault};
-ghost use Rattle.session_run.specs.Ready.{IsReady};
 ghost use Rattle.session_run.specs.Untold.{IsUntold};
 
 use crate::fault::fault_of;
@@ -53,10 +52,11 @@ pub(crate) fn make_edit<J: Naming + StoreName, R: Wait + Drop, W: Wait>(
     session: &mut Session<J>,
     edit: Edit,
 ) -> Result<Answer, SessionFault>
-    requires ready { IsReady session.old.viewer session.old.made (texts_of session.old.texts) }
-    ensures edited { IfOk result (λ said. IsEdited (texts_of session.old.texts) (edit_of edit) said
+    requires ready { KnowsTexts session.old.viewer session.old.made (texts_of session.old.texts) }
+    ensures edited { IfOk result
+        (λ said. IsEditAnswer (texts_of session.old.texts) (edit_of edit) said
         (texts_of session.new.texts)) }
-    ensures ready { OnOk result (IsReady session.new.viewer session.new.made
+    ensures ready { OnOk result (KnowsTexts session.new.viewer session.new.made
         (texts_of session.new.texts)) }
     ensures fault { IfErr result IsOwnFault }
 {

@@ -3,9 +3,9 @@
 ghost use Rattle.std.specs.Prelude.{IfOk, IfErr, OnOk};
 ghost use Rattle.bench_texts.specs.Held.{texts_of};
 ghost use Rattle.session_edits.specs.Requests.{asked_by};
-ghost use Rattle.session_answers.specs.Sessions.{IsAsked, IsAnswered};
+ghost use Rattle.session_answers.specs.Sessions.{IsRequestAnswer, IsCommandAnswer};
 ghost use Rattle.session_run.specs.Faults.{IsOwnFault};
-ghost use Rattle.session_run.specs.Ready.{IsReady};
+ghost use Rattle.session_views.specs.Knowing.{KnowsTexts};
 
 use crate::asking::ask;
 use crate::editing::make_edit;
@@ -28,10 +28,11 @@ fn reply_asked<J: Naming + StoreName, R: Wait + Drop, W: Wait, L: AnswerListener
     asked: Asked,
     listener: &mut L,
 ) -> Result<Answer, SessionFault>
-    requires ready { IsReady session.old.viewer session.old.made (texts_of session.old.texts) }
-    ensures answer { IfOk result (λ said. IsAsked (texts_of session.old.texts) (asked_by asked)
+    requires ready { KnowsTexts session.old.viewer session.old.made (texts_of session.old.texts) }
+    ensures answer { IfOk result
+        (λ said. IsRequestAnswer (texts_of session.old.texts) (asked_by asked)
         said (texts_of session.new.texts)) }
-    ensures ready { OnOk result (IsReady session.new.viewer session.new.made
+    ensures ready { OnOk result (KnowsTexts session.new.viewer session.new.made
         (texts_of session.new.texts)) }
     ensures fault { IfErr result IsOwnFault }
 {
@@ -55,10 +56,10 @@ pub(crate) fn reply<J: Naming + StoreName, R: Wait + Drop, W: Wait, L: AnswerLis
     command: Command,
     listener: &mut L,
 ) -> Result<Answer, SessionFault>
-    requires ready { IsReady session.old.viewer session.old.made (texts_of session.old.texts) }
-    ensures answer { IfOk result (λ said. IsAnswered (texts_of session.old.texts) command said
+    requires ready { KnowsTexts session.old.viewer session.old.made (texts_of session.old.texts) }
+    ensures answer { IfOk result (λ said. IsCommandAnswer (texts_of session.old.texts) command said
         (texts_of session.new.texts)) }
-    ensures ready { OnOk result (IsReady session.new.viewer session.new.made
+    ensures ready { OnOk result (KnowsTexts session.new.viewer session.new.made
         (texts_of session.new.texts)) }
     ensures fault { IfErr result IsOwnFault }
 {

@@ -3,7 +3,7 @@
 ghost use Rattle.std.specs.Prelude.{◌≡◌, []};
 ghost use Rattle.bench_texts.specs.Held.{texts_of};
 ghost use Rattle.session_answers.specs.Sessions.{no_texts};
-ghost use Rattle.session_run.specs.Ready.{IsReady};
+ghost use Rattle.session_views.specs.Knowing.{KnowsTexts};
 
 use bench_instance::StampedTexts;
 use bench_texts::Texts;
@@ -25,7 +25,7 @@ impl<J: Naming> Session<J> {
     pub(crate) fn new(alloc: Global, viewer: Viewer<J, StampedTexts>) -> Session<J>
         requires { viewer ≡ [] }
         ensures texts { texts_of result.texts ≡ no_texts }
-        ensures ready { IsReady result.viewer result.made (texts_of result.texts) }
+        ensures ready { KnowsTexts result.viewer result.made (texts_of result.texts) }
     {
         nothing_is_known();
         Session {

@@ -8,7 +8,7 @@ use Rattle.std.specs.List.{position_or_len}
 use Rattle.std.proofs.lemmas.List.{take_all, length-drop, drop-drop, append-nil}
 use Rattle.text_values.specs.Layout.{is_line_end}
 use Rattle.session_script.specs.Lines.{lines_of, IsUnbroken, without_return}
-use Rattle.session_script.specs.Reading.{IsPart, IsPaid, IsLine, HasText, IsSaid, IsNext}
+use Rattle.session_script.specs.Reading.{IsPart, IsPaid, IsNextLine, HasText, IsCommandOfWords, IsNextCommand}
 use Rattle.session_script.specs.Commands.{commands_from, commands_of, Between, Within, is_dot, skips, is_skipped, kept_text, said_by, stage_behind}
 use Rattle.session_script.specs.Requests.{has_text, request_of}
 use Rattle.session_script.specs.Words.{words_of}
@@ -74,7 +74,7 @@ part_goes_on items its more before line start n within same at all_of front put 
 pub line_ended : (first source : Option (List ℕ)) (old new before line ended : List ℕ)
     → Consumes first (prepend_known old source) before → IsUnbroken before
     → IsPart true old new before line → ended ≡ without_return line
-    → IsLine first (prepend_known new source) (Some ended)
+    → IsNextLine first (prepend_known new source) (Some ended)
 line_ended None source old new before line ended h unbroken part e = tt
 line_ended (Some whole) None old new before line ended h unbroken part e = absurd h
 line_ended (Some whole) (Some left) old new before line ended h unbroken (more, clear, put, cut) e =
@@ -90,7 +90,7 @@ line_ended (Some whole) (Some left) old new before line ended h unbroken (more, 
 pub line_ended_if : (first source : Option (List ℕ)) (old new before line ended : List ℕ) (b : Bool)
     → b ≡ true → Consumes first (prepend_known old source) before → IsUnbroken before
     → IsPart b old new before line → ended ≡ without_return line
-    → IsLine first (prepend_known new source) (Some ended)
+    → IsNextLine first (prepend_known new source) (Some ended)
 line_ended_if first source old new before line ended true e h unbroken part is =
     line_ended first source old new before line ended h unbroken part is
 line_ended_if first source old new before line ended false e h unbroken part is = absurd (cc)
@@ -123,7 +123,7 @@ whole_line [] some h = absurd (omega arith)
 whole_line (b ∷ bs) some h = last_line b bs h
 
 pub line_is_last : (first left : Option (List ℕ)) (line : List ℕ) → Consumes first left line
-    → IsAtEnd left → IsUnbroken line → 0 < length line → IsLine first left (Some line)
+    → IsAtEnd left → IsUnbroken line → 0 < length line → IsNextLine first left (Some line)
 line_is_last None left line h end unbroken some = tt
 line_is_last (Some whole) None line h end unbroken some = absurd h
 line_is_last (Some whole) (Some left) line h end unbroken some =
@@ -144,15 +144,15 @@ abbrev items_of : Option (Vec ℕ Global) → Option (List ℕ)
 items_of read = option_map (λ l. l.items) read
 
 pub read_nothing : (first left : Option (List ℕ)) (read : Option (Vec ℕ Global)) → read ≡ None
-    → IsLine first left (option_map (λ l. l.items) read) → IsLine first left None
+    → IsNextLine first left (option_map (λ l. l.items) read) → IsNextLine first left None
 read_nothing first left read e h =
-    subst (λ (o : Option (Vec ℕ Global)). IsLine first left (items_of o)) e h
+    subst (λ (o : Option (Vec ℕ Global)). IsNextLine first left (items_of o)) e h
 
 pub read_one : (first left : Option (List ℕ)) (read : Option (Vec ℕ Global)) (line : Vec ℕ Global)
-    → read ≡ Some line → IsLine first left (option_map (λ l. l.items) read)
-    → IsLine first left (Some line.items)
+    → read ≡ Some line → IsNextLine first left (option_map (λ l. l.items) read)
+    → IsNextLine first left (Some line.items)
 read_one first left read line e h =
-    subst (λ (o : Option (Vec ℕ Global)). IsLine first left (items_of o)) e h
+    subst (λ (o : Option (Vec ℕ Global)). IsNextLine first left (items_of o)) e h
 
 -- ---- texts
 
@@ -198,7 +198,7 @@ kept_on kept text more line is put =
     put ∙ ap (λ (l : List ℕ). take 65537 (l ++ line ++ 10 ∷ [])) is ∙ kept_at 65537 text line
 
 pub text_goes_on : (first now next : Option (List ℕ)) (r : Request) (kept more line : List ℕ)
-    → InText first now r kept → IsLine now next (Some line) → is_dot line ≡ false
+    → InText first now r kept → IsNextLine now next (Some line) → is_dot line ≡ false
     → more ≡ take 65537 (kept ++ line ++ 10 ∷ []) → InText first next r more
 text_goes_on None now next r kept more line h read e put = tt
 text_goes_on (Some first) None next r kept more line h read e put = absurd h
@@ -211,7 +211,7 @@ text_goes_on (Some first) (Some now) (Some next) r kept more line (text, is, sam
 )
 
 pub text_ends : (first now next : Option (List ℕ)) (r : Request) (kept line : List ℕ)
-    → InText first now r kept → IsLine now next (Some line) → is_dot line ≡ true
+    → InText first now r kept → IsNextLine now next (Some line) → is_dot line ≡ true
     → HasText first next r (Asked r kept)
 text_ends None now next r kept line h read e = tt
 text_ends (Some first) None next r kept line h read e = absurd h
@@ -222,14 +222,14 @@ text_ends (Some first) (Some now) (Some next) r kept line (text, is, same) read 
     ∙ ap (λ (l : List ℕ). Asked r l ∷ commands_of next) (sym is)
 
 pub text_given : (first now next : Option (List ℕ)) (r : Request) (kept line given : List ℕ)
-    → InText first now r kept → IsLine now next (Some line) → is_dot line ≡ true → given ≡ kept
+    → InText first now r kept → IsNextLine now next (Some line) → is_dot line ≡ true → given ≡ kept
     → HasText first next r (Asked r given)
 text_given first now next r kept line given h read e is =
     subst (λ (l : List ℕ). HasText first next r (Asked r l)) (sym is)
     (text_ends first now next r kept line h read e)
 
 pub text_is_cut_off : (first now next : Option (List ℕ)) (r : Request) (kept : List ℕ)
-    → InText first now r kept → IsLine now next None → HasText first next r (Refused NoTextEnd)
+    → InText first now r kept → IsNextLine now next None → HasText first next r (Refused NoTextEnd)
 text_is_cut_off None now next r kept h read = tt
 text_is_cut_off (Some first) None next r kept h read = absurd h
 text_is_cut_off (Some first) (Some now) None r kept h read = absurd read
@@ -240,7 +240,7 @@ text_is_cut_off (Some first) (Some now) (Some next) r kept (text, is, same) read
 -- ---- commands
 
 pub no_command : (left : Option (List ℕ)) (words : List (List ℕ)) → None ≡ request_of words
-    → IsSaid left left words (Refused NoCommand)
+    → IsCommandOfWords left left words (Refused NoCommand)
 no_command None words e = tt
 no_command (Some bytes) words e =
     ap (λ (o : Option Request). said_by o ++ commands_from (stage_behind o) (lines_of bytes))
@@ -252,7 +252,7 @@ text_said : (r : Request) (bytes : List ℕ) → has_text r ≡ true
 text_said r bytes e = rw e refl
 
 behind_words : (old new : Option (List ℕ)) (words : List (List ℕ)) (r : Request) (c : Command)
-    → Some r ≡ request_of words → has_text r ≡ true → HasText old new r c → IsSaid old new words c
+    → Some r ≡ request_of words → has_text r ≡ true → HasText old new r c → IsCommandOfWords old new words c
 behind_words None new words r c e f h = tt
 behind_words (Some old) None words r c e f h = absurd h
 behind_words (Some old) (Some new) words r c e f h =
@@ -261,7 +261,7 @@ behind_words (Some old) (Some new) words r c e f h =
 
 pub text_answered : (old new : Option (List ℕ)) (words : List (List ℕ)) (r : Request)
     (result : Result Command ReadFault) → Some r ≡ request_of words → has_text r ≡ true
-    → IfOk result (HasText old new r) → IfOk result (IsSaid old new words)
+    → IfOk result (HasText old new r) → IfOk result (IsCommandOfWords old new words)
 text_answered old new words r (Ok command) e f h = behind_words old new words r command e f h
 text_answered old new words r (Err fault) e f h = tt
 
@@ -278,8 +278,8 @@ line_said : (line : List ℕ) (lines : List (List ℕ)) → is_skipped line ≡ 
 line_said line lines e = rw e refl
 
 pub line_answered : (first now next last : Option (List ℕ)) (line : List ℕ) (words : List (List ℕ))
-    (c : Command) → AreSame first now → IsLine now next (Some line) → words ≡ words_of line
-    → skips line words ≡ false → IsSaid next last words c → IsNext first last (Some c)
+    (c : Command) → AreSame first now → IsNextLine now next (Some line) → words ≡ words_of line
+    → skips line words ≡ false → IsCommandOfWords next last words c → IsNextCommand first last (Some c)
 line_answered None now next last line words c h read w e said = tt
 line_answered (Some first) None next last line words c h read w e said = absurd h
 line_answered (Some first) (Some now) None last line words c h read w e said = absurd read

@@ -1,4 +1,4 @@
--- What reading a script leaves to read. `ScriptReader::next` cites IsNext and IsPaid.
+-- What reading a script leaves to read. `ScriptReader::next` cites IsNextCommand and IsPaid.
 use Rattle.std.specs.Prelude.{◌≡◌, ℕ, ◌+◌, ◌*◌, ◌≤◌, List, [], ◌∷◌, ◌++◌, Bool, true, false, Option, Some, None, length, drop}
 use Rattle.std.specs.Io.KnownBytes.{prepend_known}
 use Rattle.session_script.specs.declared.command.Command.{Command}
@@ -44,11 +44,11 @@ IsPart false old new before line =
     (more : List ℕ) × IsUnbroken more × (line ≡ before ++ more) × (old ≡ more) × (new ≡ [])
 
 -- the first line that was left is this one
-abbrev pub IsLine : Option (List ℕ) → Option (List ℕ) → Option (List ℕ) → Type 0
-IsLine None new line = Unit {0}
-IsLine (Some old) None line = ⊥
-IsLine (Some old) (Some new) None = (lines_of old ≡ []) × (lines_of new ≡ [])
-IsLine (Some old) (Some new) (Some line) = lines_of old ≡ line ∷ lines_of new
+abbrev pub IsNextLine : Option (List ℕ) → Option (List ℕ) → Option (List ℕ) → Type 0
+IsNextLine None new line = Unit {0}
+IsNextLine (Some old) None line = ⊥
+IsNextLine (Some old) (Some new) None = (lines_of old ≡ []) × (lines_of new ≡ [])
+IsNextLine (Some old) (Some new) (Some line) = lines_of old ≡ line ∷ lines_of new
 
 -- the request, of which the text was left, is this command
 abbrev pub HasText : Option (List ℕ) → Option (List ℕ) → Request → Command → Type 0
@@ -63,20 +63,20 @@ answer_of r None = Refused NoTextEnd
 answer_of r (Some text) = Asked r text
 
 -- the text that was left of any request is this one
-abbrev pub IsText : Option (List ℕ) → Option (List ℕ) → Option (List ℕ) → Type 0
-IsText old new text = (r : Request) → HasText old new r (answer_of r text)
+abbrev pub IsNextText : Option (List ℕ) → Option (List ℕ) → Option (List ℕ) → Type 0
+IsNextText old new text = (r : Request) → HasText old new r (answer_of r text)
 
 -- the line of these words, of which the text was left, if it has one, is this command
-abbrev pub IsSaid : Option (List ℕ) → Option (List ℕ) → List (List ℕ) → Command → Type 0
-IsSaid None new words command = Unit {0}
-IsSaid (Some old) None words command = ⊥
-IsSaid (Some old) (Some new) words command =
+abbrev pub IsCommandOfWords : Option (List ℕ) → Option (List ℕ) → List (List ℕ) → Command → Type 0
+IsCommandOfWords None new words command = Unit {0}
+IsCommandOfWords (Some old) None words command = ⊥
+IsCommandOfWords (Some old) (Some new) words command =
     said_by (request_of words) ++ commands_from (stage_behind (request_of words)) (lines_of old)
     ≡ command ∷ commands_of new
 
 -- the first command that was left is this one
-abbrev pub IsNext : Option (List ℕ) → Option (List ℕ) → Option Command → Type 0
-IsNext None new command = Unit {0}
-IsNext (Some old) None command = ⊥
-IsNext (Some old) (Some new) None = (commands_of old ≡ []) × (commands_of new ≡ [])
-IsNext (Some old) (Some new) (Some command) = commands_of old ≡ command ∷ commands_of new
+abbrev pub IsNextCommand : Option (List ℕ) → Option (List ℕ) → Option Command → Type 0
+IsNextCommand None new command = Unit {0}
+IsNextCommand (Some old) None command = ⊥
+IsNextCommand (Some old) (Some new) None = (commands_of old ≡ []) × (commands_of new ≡ [])
+IsNextCommand (Some old) (Some new) (Some command) = commands_of old ≡ command ∷ commands_of new

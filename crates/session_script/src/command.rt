@@ -13,11 +13,11 @@ pub enum ScriptRule {
 
 impl ScriptRule {
     ghost use Rattle.std.specs.Prelude.{◌≡◌};
-    ghost use Rattle.session_script.specs.Rules.{number_of};
+    ghost use Rattle.session_script.specs.Rules.{script_rule_number};
 
     /// The number that the refusal is printed with, behind a `Q`.
     pub fn number(self) -> u8
-        ensures { result ≡ number_of self }
+        ensures { result ≡ script_rule_number self }
     {
         match self {
             ScriptRule::NoCommand => 1,

@@ -4,7 +4,7 @@ ghost use Rattle.std.specs.Prelude.{◌≡◌, ◌≢◌, ◌+◌, ◌-◌, ◌<
 ghost use Rattle.std.specs.Io.KnownBytes.{Consumes, IsAtEnd};
 ghost use Rattle.session_script.specs.Commands.{is_dot, skips};
 ghost use Rattle.session_script.specs.Lines.{without_return};
-ghost use Rattle.session_script.specs.Reading.{waiting_in, left_to, turns_of, work_of, ReadsFewAhead, IsPart, IsPaid, IsLine, IsText, HasText, IsSaid, IsNext};
+ghost use Rattle.session_script.specs.Reading.{waiting_in, left_to, turns_of, work_of, ReadsFewAhead, IsPart, IsPaid, IsNextLine, IsNextText, HasText, IsCommandOfWords, IsNextCommand};
 
 use crate::command::{Command, ScriptRule};
 use crate::parse::request_of;
@@ -163,7 +163,7 @@ impl ScriptReader {
     fn read_line<S: ByteSource>(&mut self, source: &mut S) -> Result<Option<Vec<u8>>, ReadFault>
         requires { S.failed_calls source.old < 2 ^ 64 - 1 }
         ensures ahead { OnOk result (ReadsFewAhead self.old self.new) }
-        ensures line { IfOk result (λ line. IsLine (left_to self.old (S.remaining source.old))
+        ensures line { IfOk result (λ line. IsNextLine (left_to self.old (S.remaining source.old))
             (left_to self.new (S.remaining source.new)) (option_map (λ l. l.items) line)) }
         ensures work { IfOk result (λ line. work_of self.new ≤ work_of self.old) }
         ensures less { IfOk result (λ line.
@@ -198,7 +198,7 @@ impl ScriptReader {
     fn text<S: ByteSource>(&mut self, source: &mut S) -> Result<Option<ScriptText>, ReadFault>
         requires { S.failed_calls source.old < 2 ^ 64 - 1 }
         ensures ahead { OnOk result (ReadsFewAhead self.old self.new) }
-        ensures text { IfOk result (IsText (left_to self.old (S.remaining source.old))
+        ensures text { IfOk result (IsNextText (left_to self.old (S.remaining source.old))
             (left_to self.new (S.remaining source.new))) }
         ensures work { IfOk result (λ text. work_of self.new ≤ work_of self.old) }
         ensures less { IfOk result (λ text.
@@ -263,7 +263,8 @@ impl ScriptReader {
     ) -> Result<Command, ReadFault>
         requires { S.failed_calls source.old < 2 ^ 64 - 1 }
         ensures ahead { OnOk result (ReadsFewAhead self.old self.new) }
-        ensures said { IfOk result (λ c. IsSaid (left_to self.old (S.remaining source.old))
+        ensures said { IfOk result
+            (λ c. IsCommandOfWords (left_to self.old (S.remaining source.old))
             (left_to self.new (S.remaining source.new)) words.now c) }
         ensures work { IfOk result (λ c. work_of self.new ≤ work_of self.old) }
         ensures paid { IfOk result (λ c. IsPaid (turns_of self.old) (turns_of self.new)
@@ -297,7 +298,7 @@ impl ScriptReader {
     pub fn next<S: ByteSource>(&mut self, source: &mut S) -> Result<Option<Command>, ReadFault>
         requires { S.failed_calls source.old < 2 ^ 64 - 1 }
         // The command is the first of those that were left, and the others are left still.
-        ensures next { IfOk result (λ c. IsNext (left_to self.old (S.remaining source.old))
+        ensures next { IfOk result (λ c. IsNextCommand (left_to self.old (S.remaining source.old))
             (left_to self.new (S.remaining source.new)) c) }
         // At most 4,096 bytes are read and not yet used, as long as no more were.
         ensures ahead { OnOk result (ReadsFewAhead self.old self.new) }

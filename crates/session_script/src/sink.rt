@@ -2,7 +2,7 @@
 
 ghost use Rattle.std.specs.Prelude.{◌≡◌, ◌+◌, ◌-◌, ◌<◌, ◌≤◌, ◌^◌, List, ℕ, Option, Some, OnOk, OnErr, IfOk, length};
 ghost use Rattle.std.specs.Io.KnownBytes.{Appends, WriteAppends};
-ghost use Rattle.session_script.specs.Written.{WritesFront};
+ghost use Rattle.session_script.specs.Written.{WritesPrefix};
 
 use crate::source::CallFailed;
 use std::io::Write;
@@ -114,7 +114,7 @@ impl ByteSink for MemorySink {
 pub fn write_whole<S: ByteSink>(sink: &mut S, bytes: &[u8]) -> Result<(), CallFailed>
     requires { S.failed_calls sink.old < 2 ^ 64 - 1 }
     ensures ok { OnOk result (Appends (S.contents sink.old) (S.contents sink.new) bytes.now) }
-    ensures front { WritesFront (S.contents sink.old) (S.contents sink.new) bytes.now }
+    ensures front { WritesPrefix (S.contents sink.old) (S.contents sink.new) bytes.now }
     ensures err { OnErr result (S.failed_calls sink.new ≡ S.failed_calls sink.old + 1) }
     ensures same { OnOk result (S.failed_calls sink.new ≡ S.failed_calls sink.old) }
 {

@@ -14,7 +14,7 @@ use Rattle.board.specs.Operations.{board_after}
 use Rattle.board.specs.Legal.{IsLegal}
 use Rattle.board.specs.Histories.{no_contents, contents_with, contents_after, IsEditOf}
 use Rattle.board.specs.Edits.{counted_with, edits_in, edit_count}
-use Rattle.bench_text_laws.specs.Laws.{HasOneResult}
+use Rattle.bench_text_laws.specs.Laws.{HasOneEditResult}
 use Rattle.session_views.specs.Knowing.{KnowsOwn, HasOwnEdit}
 use Rattle.session_views.specs.Shown.{ShowsTexts}
 
@@ -99,7 +99,7 @@ is_counted : (t : BenchTexts) (op : BoardOp) (e : edits.Edit) (number n : ℕ)
 is_counted t (Edit edit) e number n h = refl
 is_counted t (Settle at outcome) e number n h = absurd h
 
-is_made : (t new : BenchTexts) (op : BoardOp) (e : edits.Edit) (number : ℕ) → HasOneResult t e
+is_made : (t new : BenchTexts) (op : BoardOp) (e : edits.Edit) (number : ℕ) → HasOneEditResult t e
     → edits.Applies t false e new → IsEditOf t op e number → contents_with t op ≡ new
 is_made t new (Edit edit) e number one applies h =
     one (contents_with t (Edit edit)) new h.1.applies applies
@@ -111,7 +111,7 @@ regrouped a op b more = append_assoc (a ++ op ∷ []) b more ∙ append_assoc a 
 
 module _ (seen between settles : List BoardOp) (op : BoardOp) (made number : ℕ) (t new : BenchTexts)
     (e : edits.Edit) (k : KnowsOwn seen made t)
-    (is : IsEditOf (contents_after (seen ++ between)) op e number) (one : HasOneResult t e)
+    (is : IsEditOf (contents_after (seen ++ between)) op e number) (one : HasOneEditResult t e)
     (applies : edits.Applies t false e new) where
   abbrev front : List BoardOp
   front = seen ++ between
@@ -156,7 +156,7 @@ module _ (seen between settles : List BoardOp) (op : BoardOp) (made number : ℕ
 
 pub knows_own_edit : (e : code.Edit) (number : ℕ) (seen later : List BoardOp) (made : ℕ)
     (t new : BenchTexts)
-    → KnowsOwn seen made t → HasOwnEdit e number seen later → HasOneResult t (edit_of e)
+    → KnowsOwn seen made t → HasOwnEdit e number seen later → HasOneEditResult t (edit_of e)
     → edits.Applies t false (edit_of e) new → KnowsOwn later (made + 1) new
 knows_own_edit e number seen later made t new k h one applies =
     subst (λ (l : List BoardOp). KnowsOwn l (made + 1) new) (sym h.list)

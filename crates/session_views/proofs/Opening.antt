@@ -7,11 +7,11 @@ use Rattle.std.proofs.lemmas.Option.{slice_get_cases, slice_get_within}
 use Rattle.text_values.specs.TestValue.{Content, content_of}
 use Rattle.verdict.specs.declared.answer.Outcome.{Outcome}
 use Rattle.bench_texts.specs.BenchTexts.{BenchTexts, PlainModel}
-use Rattle.bench_texts.specs.Held.{model_of}
+use Rattle.bench_texts.specs.Held.{plain_model}
 use Rattle.outcome_texts.specs.Cells.{NoCell, Open}
 use Rattle.board.specs.Contents.{BoardContent, RowContent, cells_of, cell_at, shown_cell}
 use Rattle.board.specs.Operations.{no_board, board_after}
-use Rattle.board.specs.Legal.{nothing_held, texts_after}
+use Rattle.board.specs.Legal.{no_tests_or_models, texts_after}
 use Rattle.board.proofs.Histories.{contents_are_those}
 use Rattle.board.proofs.Names.{names_from}
 use Rattle.board.proofs.Widths.{wide_at, wide_from}
@@ -48,7 +48,7 @@ there xs i less = there_if xs i less (slice_get_cases xs i).1
 module _ (t : BenchTexts) (b : BoardContent) (s : ShowsTexts t b) where
   as_many_tests : length (board_after s.ops).rows ≡ length t.tests
   as_many_tests =
-      let named = names_from s.ops no_board nothing_held 0 s.legal (record { tests = refl; models = refl }) in
+      let named = names_from s.ops no_board no_tests_or_models 0 s.legal (record { tests = refl; models = refl }) in
       let plain = contents_are_those s.ops in
       sym (length-map (board_after s.ops).rows (λ r. r.name))
       ∙ ap (λ (l : List (List ℕ)). length l) named.tests
@@ -59,12 +59,12 @@ module _ (t : BenchTexts) (b : BoardContent) (s : ShowsTexts t b) where
 
   as_many_models : length (board_after s.ops).columns ≡ length t.models
   as_many_models =
-      let named = names_from s.ops no_board nothing_held 0 s.legal (record { tests = refl; models = refl }) in
+      let named = names_from s.ops no_board no_tests_or_models 0 s.legal (record { tests = refl; models = refl }) in
       let plain = contents_are_those s.ops in
       sym (length-map (board_after s.ops).columns (λ c. c.name))
       ∙ ap (λ (l : List (List ℕ)). length l) named.models
       ∙ length-map (texts_after s.ops).models (λ m. m.name)
-      ∙ sym (length-map (texts_after s.ops).models model_of)
+      ∙ sym (length-map (texts_after s.ops).models plain_model)
       ∙ ap (λ (l : List PlainModel). length l) (sym plain.models)
       ∙ ap (λ (x : BenchTexts). length x.models) s.texts
 

@@ -4,8 +4,8 @@ ghost use Rattle.std.specs.Prelude.{◌≡◌, IfOk, IfSome, IfNone, All, Some, 
 ghost use Rattle.text_values.specs.TestValue.{content_of};
 ghost use Rattle.bench_texts.specs.Held.{texts_of};
 ghost use Rattle.session_answers.specs.Cells.{models_named};
-ghost use Rattle.session_answers.specs.Questions.{IsItems, IsLog, IsCounts, IsTable, IsDifference, IsReply};
-ghost use Rattle.session_views.specs.Asked.{IsThere, asked_index, asked_model};
+ghost use Rattle.session_answers.specs.Questions.{IsItemsReply, IsLogReply, IsCountsReply, IsTableReply, IsDifferenceReply, IsReply};
+ghost use Rattle.session_views.specs.Asked.{IsModelAt, asked_index, asked_model};
 ghost use Rattle.session_views.specs.Shown.{ShowsTexts};
 ghost use Rattle.session_views.specs.Waiting.{IsAwaiting, IsOpenAmong, IsOpenAt, IsOpenUnder, model_indexes};
 
@@ -20,7 +20,7 @@ use std::alloc::{AllocError, Global};
 use text_values::{Name, Test};
 
 fn items(alloc: Global, model: Option<AskedModel<'_>>) -> Result<Answer, AllocError>
-    ensures { IfOk result (IsItems (option_map asked_model model.entry)) }
+    ensures { IfOk result (IsItemsReply (option_map asked_model model.entry)) }
 {
     match model {
         Some(asked) => Ok(Answer::told(asked.model.print_items(alloc)?)),
@@ -45,9 +45,9 @@ fn log_under(
     requires shows { ShowsTexts (texts_of view.texts.now) view.board.now }
     requires test { slice_get (texts_of view.texts.now).tests view.index
         ≡ Some (content_of test.now) }
-    requires model { IsThere view.texts.now asked.now }
+    requires model { IsModelAt view.texts.now asked.now }
     ensures answer { IfOk result (λ r.
-        IfSome r (IsLog (Some (content_of test.now)) (Some (asked_model asked.now)))) }
+        IfSome r (IsLogReply (Some (content_of test.now)) (Some (asked_model asked.now)))) }
     ensures waits { IfOk result (λ r.
         IfNone r (IsOpenAt view.entry.board.now view.entry.index asked.now.index)) }
 {
@@ -69,8 +69,8 @@ fn log(
     requires shows { ShowsTexts (texts_of view.texts.now) view.board.now }
     requires test { IfSome test (λ t. slice_get (texts_of view.texts.now).tests view.index
         ≡ Some (content_of t.now)) }
-    requires model { IfSome model (IsThere view.texts.now) }
-    ensures answer { IfOk result (λ r. IfSome r (IsLog
+    requires model { IfSome model (IsModelAt view.texts.now) }
+    ensures answer { IfOk result (λ r. IfSome r (IsLogReply
         (option_map (λ t. content_of t.now) test.entry)
         (option_map asked_model model.entry))) }
     ensures waits { IfOk result (λ r. IfNone r (IsOpenUnder view.entry.board.now view.entry.index
@@ -94,9 +94,9 @@ fn counts_under(
     requires shows { ShowsTexts (texts_of view.texts.now) view.board.now }
     requires test { slice_get (texts_of view.texts.now).tests view.index
         ≡ Some (content_of test.now) }
-    requires model { IsThere view.texts.now asked.now }
+    requires model { IsModelAt view.texts.now asked.now }
     ensures answer { IfOk result (λ r.
-        IfSome r (IsCounts (Some (content_of test.now)) (Some (asked_model asked.now)))) }
+        IfSome r (IsCountsReply (Some (content_of test.now)) (Some (asked_model asked.now)))) }
     ensures waits { IfOk result (λ r.
         IfNone r (IsOpenAt view.entry.board.now view.entry.index asked.now.index)) }
 {
@@ -118,8 +118,8 @@ fn counts(
     requires shows { ShowsTexts (texts_of view.texts.now) view.board.now }
     requires test { IfSome test (λ t. slice_get (texts_of view.texts.now).tests view.index
         ≡ Some (content_of t.now)) }
-    requires model { IfSome model (IsThere view.texts.now) }
-    ensures answer { IfOk result (λ r. IfSome r (IsCounts
+    requires model { IfSome model (IsModelAt view.texts.now) }
+    ensures answer { IfOk result (λ r. IfSome r (IsCountsReply
         (option_map (λ t. content_of t.now) test.entry)
         (option_map asked_model model.entry))) }
     ensures waits { IfOk result (λ r. IfNone r (IsOpenUnder view.entry.board.now view.entry.index
@@ -152,9 +152,10 @@ fn table_under(
     models: &[AskedModel<'_>],
 ) -> Result<Option<Answer>, AllocError>
     requires shows { ShowsTexts (texts_of texts.now) board.now }
-    requires models { All (IsThere texts.now) models.now }
+    requires models { All (IsModelAt texts.now) models.now }
     ensures answer { IfOk result (λ r.
-        IfSome r (IsTable (texts_of texts.now) names.now (Some (map asked_model models.now)))) }
+        IfSome r
+        (IsTableReply (texts_of texts.now) names.now (Some (map asked_model models.now)))) }
     ensures waits { IfOk result (λ r.
         IfNone r (IsOpenAmong board.now (map asked_index models.now))) }
 {
@@ -174,7 +175,7 @@ fn table(
     names: &[ScriptText],
 ) -> Result<Option<Answer>, AllocError>
     requires { ShowsTexts (texts_of texts.now) board.now }
-    ensures answer { IfOk result (λ r. IfSome r (IsTable (texts_of texts.now) names.now
+    ensures answer { IfOk result (λ r. IfSome r (IsTableReply (texts_of texts.now) names.now
         (models_named (texts_of texts.now) names.now))) }
     ensures waits { IfOk result (λ r.
         IfNone r (IsOpenAmong board.now (model_indexes (texts_of texts.now) names.now))) }
@@ -192,9 +193,9 @@ fn difference_under(
     models: &[AskedModel<'_>],
 ) -> Result<Option<Answer>, AllocError>
     requires shows { ShowsTexts (texts_of texts.now) board.now }
-    requires models { All (IsThere texts.now) models.now }
+    requires models { All (IsModelAt texts.now) models.now }
     ensures answer { IfOk result (λ r.
-        IfSome r (IsDifference (texts_of texts.now) (Some (map asked_model models.now)))) }
+        IfSome r (IsDifferenceReply (texts_of texts.now) (Some (map asked_model models.now)))) }
     ensures waits { IfOk result (λ r.
         IfNone r (IsOpenAmong board.now (map asked_index models.now))) }
 {
@@ -214,7 +215,7 @@ fn difference(
     names: &[ScriptText],
 ) -> Result<Option<Answer>, AllocError>
     requires { ShowsTexts (texts_of texts.now) board.now }
-    ensures answer { IfOk result (λ r. IfSome r (IsDifference (texts_of texts.now)
+    ensures answer { IfOk result (λ r. IfSome r (IsDifferenceReply (texts_of texts.now)
         (models_named (texts_of texts.now) names.now))) }
     ensures waits { IfOk result (λ r.
         IfNone r (IsOpenAmong board.now (model_indexes (texts_of texts.now) names.now))) }

@@ -3,10 +3,10 @@
 ghost use Rattle.std.specs.Prelude.{◌≡◌, IfOk, IfSome, IfNone, All, Some, map, option_map, slice_get};
 ghost use Rattle.text_values.specs.TestValue.{content_of};
 ghost use Rattle.bench_texts.specs.BenchTexts.{model_index};
-ghost use Rattle.bench_texts.specs.Held.{model_of, texts_of};
+ghost use Rattle.bench_texts.specs.Held.{plain_model, texts_of};
 ghost use Rattle.board.specs.Contents.{cell_at};
-ghost use Rattle.session_answers.specs.Cells.{IsOutcome, test_named, model_named, models_named};
-ghost use Rattle.session_views.specs.Asked.{IsThere, asked_index, asked_model};
+ghost use Rattle.session_answers.specs.Cells.{IsPlainOutcome, test_named, model_named, models_named};
+ghost use Rattle.session_views.specs.Asked.{IsModelAt, asked_index, asked_model};
 ghost use Rattle.session_views.specs.Shown.{ShowsTexts};
 ghost use Rattle.session_views.specs.Waiting.{IsOpenAt, IsUnsettled, model_indexes};
 
@@ -53,9 +53,9 @@ pub(crate) fn asked_outcome<'b>(
 ) -> Option<&'b Outcome>
     requires shows { ShowsTexts (texts_of texts.now) board.now }
     requires test { slice_get (texts_of texts.now).tests index ≡ Some (content_of test.now) }
-    requires model { IsThere texts.now asked.now }
+    requires model { IsModelAt texts.now asked.now }
     ensures settled { IfSome result (λ o.
-        IsOutcome (content_of test.now) (asked_model asked.now) o.now) }
+        IsPlainOutcome (content_of test.now) (asked_model asked.now) o.now) }
     ensures waits { IfNone result (IsOpenAt board.now index asked.now.index) }
 {
     let _texts = texts;
@@ -78,7 +78,7 @@ pub(crate) fn named_test<'t>(texts: &'t Texts, name: &[u8]) -> Option<&'t Test>
 
 // The model at an index, if there is one.
 fn model_at<'t>(texts: &'t Texts, index: usize) -> Option<&'t NamedModel>
-    ensures { option_map (λ m. model_of m.now) result
+    ensures { option_map (λ m. plain_model m.now) result
         ≡ slice_get (texts_of texts.now).models index }
 {
     texts.models().get(index)
@@ -87,7 +87,7 @@ fn model_at<'t>(texts: &'t Texts, index: usize) -> Option<&'t NamedModel>
 /// The model of a name, with its index, if there is one.
 pub(crate) fn named_model<'t>(texts: &'t Texts, name: &[u8]) -> Option<AskedModel<'t>>
     ensures named { option_map asked_model result ≡ model_named (texts_of texts.now) name.now }
-    ensures there { IfSome result (IsThere texts.now) }
+    ensures there { IfSome result (IsModelAt texts.now) }
     ensures index { IfSome result (λ a. a.index
         ≡ model_index name.now (texts_of texts.now).models) }
 {
@@ -106,7 +106,7 @@ pub(crate) fn named_models<'t>(
 ) -> Result<Option<Vec<AskedModel<'t>>>, AllocError>
     ensures named { IfOk result (λ found. option_map (λ v. map asked_model v.items) found
         ≡ models_named (texts_of texts.now) names.now) }
-    ensures there { IfOk result (λ found. IfSome found (λ v. All (IsThere texts.now) v.items)) }
+    ensures there { IfOk result (λ found. IfSome found (λ v. All (IsModelAt texts.now) v.items)) }
     ensures indexes { IfOk result (λ found. IfSome found (λ v. map asked_index v.items
         ≡ model_indexes (texts_of texts.now) names.now)) }
 {

@@ -13,7 +13,7 @@ ghost use Rattle.board.specs.Contents.{BoardContent, cell_at};
 ghost use Rattle.board.specs.Operations.{board_after};
 ghost use Rattle.board.specs.Legal.{IsLegal};
 ghost use Rattle.board.specs.Histories.{no_contents};
-ghost use Rattle.session_answers.specs.Cells.{IsOutcome};
+ghost use Rattle.session_answers.specs.Cells.{IsPlainOutcome};
 ghost use Rattle.board.specs.Edits.{edit_count};
 ghost use Rattle.session_views.specs.Knowing.{KnowsOwn, HasOwnEdit};
 ghost use Rattle.session_views.specs.Shown.{ShowsTexts};
@@ -52,5 +52,5 @@ pub fn own_texts_are_shown()
 pub fn settled_cells_are_right()
     ensures { (t : BenchTexts) (b : BoardContent) → ShowsTexts t b → (i j : ℕ) (o : Outcome)
         → cell_at b.rows i j ≡ Some (Some o) → (c : Content) (m : PlainModel)
-        → slice_get t.tests i ≡ Some c → slice_get t.models j ≡ Some m → IsOutcome c m o }
+        → slice_get t.tests i ≡ Some c → slice_get t.models j ≡ Some m → IsPlainOutcome c m o }
 {}

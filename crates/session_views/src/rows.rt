@@ -6,10 +6,10 @@ ghost use Rattle.bench_texts.specs.Held.{texts_of};
 ghost use Rattle.outcome_texts.specs.Cells.{cell_of, NoCell};
 ghost use Rattle.outcome_texts.specs.Columns.{row_of};
 ghost use Rattle.outcome_texts.specs.Differences.{pair_of};
-ghost use Rattle.session_answers.specs.Cells.{IsRow, IsCell};
-ghost use Rattle.session_answers.specs.Questions.{AreRows};
+ghost use Rattle.session_answers.specs.Cells.{IsPlainRow, IsPlainCell};
+ghost use Rattle.session_answers.specs.Questions.{ArePlainRows};
 ghost use Rattle.session_answers.specs.Rows.{pair_in};
-ghost use Rattle.session_views.specs.Asked.{IsThere, asked_index, asked_model};
+ghost use Rattle.session_views.specs.Asked.{IsModelAt, asked_index, asked_model};
 ghost use Rattle.session_views.specs.Shown.{ShowsTexts};
 ghost use Rattle.session_views.specs.Waiting.{IsOpenAt, IsOpenAmong};
 
@@ -30,9 +30,9 @@ fn asked_cell<'t>(
 ) -> Option<Shown<'t>>
     requires shows { ShowsTexts (texts_of texts.now) board.now }
     requires test { slice_get (texts_of texts.now).tests index ≡ Some (content_of test.now) }
-    requires model { IsThere texts.now asked.now }
+    requires model { IsModelAt texts.now asked.now }
     ensures settled { IfSome result (λ cell.
-        IsCell (content_of test.now) (asked_model asked.now) (cell_of cell)) }
+        IsPlainCell (content_of test.now) (asked_model asked.now) (cell_of cell)) }
     ensures waits { IfNone result (IsOpenAt board.now index asked.now.index) }
 {
     match asked_outcome(texts, board, index, test, asked) {
@@ -52,9 +52,9 @@ fn asked_row<'t>(
 ) -> Result<Option<TestRow<'t>>, AllocError>
     requires shows { ShowsTexts (texts_of texts.now) board.now }
     requires test { slice_get (texts_of texts.now).tests index ≡ Some (content_of test.now) }
-    requires models { All (IsThere texts.now) models.now }
+    requires models { All (IsModelAt texts.now) models.now }
     ensures settled { IfOk result (λ r. IfSome r (λ row.
-        IsRow (map asked_model models.now) (content_of test.now) (row_of row))) }
+        IsPlainRow (map asked_model models.now) (content_of test.now) (row_of row))) }
     ensures waits { IfOk result (λ r.
         IfNone r (IsOpenAmong board.now (map asked_index models.now))) }
 {
@@ -79,8 +79,8 @@ pub(crate) fn asked_rows<'t>(
     models: &[AskedModel<'_>],
 ) -> Result<Option<Vec<TestRow<'t>>>, AllocError>
     requires shows { ShowsTexts (texts_of texts.now) board.now }
-    requires models { All (IsThere texts.now) models.now }
-    ensures settled { IfOk result (λ r. IfSome r (λ rows. AreRows (texts_of texts.now)
+    requires models { All (IsModelAt texts.now) models.now }
+    ensures settled { IfOk result (λ r. IfSome r (λ rows. ArePlainRows (texts_of texts.now)
         (map asked_model models.now) (map row_of rows.items))) }
     ensures waits { IfOk result (λ r.
         IfNone r (IsOpenAmong board.now (map asked_index models.now))) }

@@ -6,9 +6,9 @@ use Rattle.tests_desk.specs.declared.sums.Addend.{Addend}
 abbrev pub IsSmall : Addend → Type 0
 IsSmall a = a.number < 10
 
-abbrev pub AreSmall : List Addend → Type 0
-AreSmall [] = Unit {0}
-AreSmall (a ∷ as') = IsSmall a × AreSmall as'
+abbrev pub AreSmallNumbers : List Addend → Type 0
+AreSmallNumbers [] = Unit {0}
+AreSmallNumbers (a ∷ as') = IsSmall a × AreSmallNumbers as'
 
 abbrev pub no_sum : Sum
 no_sum = record { total = 0 }

@@ -23,10 +23,10 @@ impl Operations for Sums {
 
     type Board = Sum;
 
-    ghost use Rattle.tests_desk.specs.Sums.{no_sum, sum_after, AreSmall, IsSmall};
+    ghost use Rattle.tests_desk.specs.Sums.{no_sum, sum_after, AreSmallNumbers, IsSmall};
     ghost use Rattle.tests_desk.specs.Lemmas.SumLaws.{small_more};
 
-    ghost is_legal = { AreSmall };
+    ghost is_legal = { AreSmallNumbers };
 
     ghost may_follow = { λ ops op. IsSmall op };
 

@@ -5,7 +5,7 @@ use Rattle.memo_core.specs.declared.keys.Kind.TheVariants.{Space, Group, Check, 
 use Rattle.memo_core.specs.declared.keys.Node.{Node}
 use Rattle.memo_core.specs.declared.keys.Key.{Key}
 use Rattle.memo_core.specs.declared.keys.Key.TheVariants.{Part, Output}
-use Rattle.memo_core.specs.Graph.{Net, stamp_in}
+use Rattle.memo_core.specs.Graph.{Net, stamp_or_zero}
 use Rattle.tests_layers.specs.declared.benches.rows.Row.{Row}
 use Rattle.tests_layers.specs.declared.benches.sheet.Sheet.{Sheet}
 use Rattle.tests_layers.specs.declared.benches.sheet.Change.{Change}
@@ -28,7 +28,7 @@ cells_of [] = []
 cells_of (r ∷ rs) = cell_of r.name ∷ cells_of rs
 
 abbrev pub part_in : List Row → ℕ → ℕ → ℕ → ℕ
-part_in rows stamp zero t = stamp_in (row_of t rows)
+part_in rows stamp zero t = stamp_or_zero (row_of t rows)
 part_in rows stamp (suc part) t = stamp
 
 abbrev pub holds_number : Option (ℕ × ℕ) → ℕ → Bool
@@ -48,8 +48,8 @@ inputs_of Group t = []
 inputs_of Check t = []
 inputs_of Verdict t = Part 0 t ∷ Output tens 0 ∷ []
 
-abbrev pub net_of : Sheet → Net ℕ
-net_of s =
+abbrev pub sheet_net : Sheet → Net ℕ
+sheet_net s =
     record {
       part = part_in s.rows.items s.base_stamp;
       inputs = λ n. inputs_of n.kind n.test;
@@ -111,14 +111,14 @@ stamp_after (Remove name) number base stamp = stamp
 stamp_after (SetBase value) number base stamp = if value == base then stamp else number
 
 -- each row's stamp is that of an edit, and no stamp is above the last edit's number
-pub record IsValid (s : Sheet) : Type 0 where
+pub record IsSheetValid (s : Sheet) : Type 0 where
   pub rows : (x stamp v : ℕ) → row_of x s.rows.items ≡ Some (stamp, v)
       → (0 < stamp) × (stamp ≤ s.last)
   pub base : s.base_stamp ≤ s.last
 
 -- the later sheet came of the earlier one: what has not the earlier one's stamp has a later one
-pub record IsSince (old new : Sheet) : Type 0 where
-  pub valid : IsValid old
+pub record IsSheetSince (old new : Sheet) : Type 0 where
+  pub valid : IsSheetValid old
   pub last : old.last ≤ new.last
   pub rows : (x stamp v : ℕ) → row_of x new.rows.items ≡ Some (stamp, v)
       → (row_of x old.rows.items ≡ Some (stamp, v)) ⊎ (old.last < stamp)
@@ -140,13 +140,13 @@ IsMissing s (Remove name) = row_of name s.rows.items ≡ None
 IsMissing s (SetBase value) = ⊥
 
 -- a missing row is refused first, then spent numbers, then want of memory
-abbrev pub IsRefused : Sheet → Change → Bool → SheetFault → Type 0
-IsRefused s change spent Missing = IsMissing s change
-IsRefused s change spent Spent = (IsMissing s change → ⊥) × (spent ≡ true)
-IsRefused s change spent OutOfMemory = (IsMissing s change → ⊥) × (spent ≡ false)
+abbrev pub IsSheetRefused : Sheet → Change → Bool → SheetFault → Type 0
+IsSheetRefused s change spent Missing = IsMissing s change
+IsSheetRefused s change spent Spent = (IsMissing s change → ⊥) × (spent ≡ true)
+IsSheetRefused s change spent OutOfMemory = (IsMissing s change → ⊥) × (spent ≡ false)
 
 -- a prepared change is the change itself, and the sheet has room for one more row
-pub record IsPrepared (old : Sheet) (change : Change) (prepared : Prepared) (new : Sheet)
+pub record IsSheetPrepared (old : Sheet) (change : Change) (prepared : Prepared) (new : Sheet)
     : Type 0 where
   pub rows : new.rows.items ≡ old.rows.items
   pub base : new.base ≡ old.base

@@ -10,6 +10,6 @@ pub record Shown (V : Type 0) : Type 0 where
   pub value : V
 
 -- the number that a refusal is printed with, if it has one
-abbrev pub number_of : StoreFault → Option ℕ
-number_of Full = Some 1
-number_of OutOfMemory = None
+abbrev pub store_fault_number : StoreFault → Option ℕ
+store_fault_number Full = Some 1
+store_fault_number OutOfMemory = None

@@ -1,7 +1,7 @@
 //! Why a store does not take a value.
 
 ghost use Rattle.std.specs.Prelude.{◌≡◌};
-ghost use Rattle.value_store.specs.Tokens.{number_of};
+ghost use Rattle.value_store.specs.Tokens.{store_fault_number};
 
 use thiserror::Error;
 
@@ -19,7 +19,7 @@ pub enum StoreFault {
 impl StoreFault {
     /// The number that a refusal is printed with: 1 for a full store. Want of memory has none.
     pub fn number(self) -> Option<u8>
-        ensures { result ≡ number_of self }
+        ensures { result ≡ store_fault_number self }
     {
         match self {
             StoreFault::Full => Some(1),

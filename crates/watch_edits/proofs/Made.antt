@@ -6,14 +6,14 @@ use Rattle.text_values.specs.declared.model.Item.{Item}
 use Rattle.text_values.specs.ModelValues.{clause_of, clauses_of}
 use Rattle.watch_edits.specs.declared.items.ItemChange.{ItemChange}
 use Rattle.watch_edits.specs.declared.items.ItemChange.TheVariants.{Set, Insert, Remove}
-use Rattle.watch_edits.specs.Changes.{element_at, set_at, applied, all_applied}
+use Rattle.watch_edits.specs.Changes.{element_at, set_at, with_change, with_changes}
 use Rattle.watch_edits.proofs.Steps.{set_goes_on, same_goes_on, insert_goes_on, remove_goes_on, applied_last}
 
 pub item_set : (old new : List Item) (cs : List ItemChange) (i : ℕ) → i < length old
     → i < length new
-    → all_applied (clauses_of new) cs (clauses_of old)
+    → with_changes (clauses_of new) cs (clauses_of old)
     ≡ take i (clauses_of new) ++ drop i (clauses_of old)
-    → all_applied (clauses_of new) (cs ++ Set i ∷ []) (clauses_of old)
+    → with_changes (clauses_of new) (cs ++ Set i ∷ []) (clauses_of old)
     ≡ take (i + 1) (clauses_of new) ++ drop (i + 1) (clauses_of old)
 item_set old new cs i a b e =
     let k : length (clauses_of old) ≡ length old = length-map old clause_of in let m : i < length (clauses_of old) = omega (arith, k) in let l : length (clauses_of new) ≡ length new = length-map new clause_of in let n : i < length (clauses_of new) = omega (arith, l) in
@@ -33,27 +33,27 @@ item_kept old new i a b e =
     ∙ ap (λ k. take k (clauses_of new) ++ drop k (clauses_of old)) (sym (add-one i))
 
 pub item_inserted : (old new : List Item) (cs : List ItemChange) (i j : ℕ) → i < length new
-    → all_applied (clauses_of new) cs (clauses_of old)
+    → with_changes (clauses_of new) cs (clauses_of old)
     ≡ take i (clauses_of new) ++ drop j (clauses_of old)
-    → all_applied (clauses_of new) (cs ++ Insert i ∷ []) (clauses_of old)
+    → with_changes (clauses_of new) (cs ++ Insert i ∷ []) (clauses_of old)
     ≡ take (i + 1) (clauses_of new) ++ drop j (clauses_of old)
 item_inserted old new cs i j b e =
     let l : length (clauses_of new) ≡ length new = length-map new clause_of in let n : i < length (clauses_of new) = omega (arith, l) in
     applied_last (clauses_of new) cs (Insert i) (clauses_of old)
-    ∙ (ap (λ xs. applied (clauses_of new) (Insert i) xs) e
+    ∙ (ap (λ xs. with_change (clauses_of new) (Insert i) xs) e
     ∙ (insert_goes_on (clauses_of new) (drop j (clauses_of old)) i n
     ∙ ap (λ k. take k (clauses_of new) ++ drop j (clauses_of old))
     (sym (add-one i))))
 
 pub item_removed : (old new : List Item) (cs : List ItemChange) (i j : ℕ) → i ≤ length new
-    → all_applied (clauses_of new) cs (clauses_of old)
+    → with_changes (clauses_of new) cs (clauses_of old)
     ≡ take i (clauses_of new) ++ drop j (clauses_of old)
-    → all_applied (clauses_of new) (cs ++ Remove i ∷ []) (clauses_of old)
+    → with_changes (clauses_of new) (cs ++ Remove i ∷ []) (clauses_of old)
     ≡ take i (clauses_of new) ++ drop (j + 1) (clauses_of old)
 item_removed old new cs i j b e =
     let l : length (clauses_of new) ≡ length new = length-map new clause_of in let n : i ≤ length (clauses_of new) = omega (arith, l) in
     applied_last (clauses_of new) cs (Remove i) (clauses_of old)
-    ∙ (ap (λ xs. applied (clauses_of new) (Remove i) xs) e
+    ∙ (ap (λ xs. with_change (clauses_of new) (Remove i) xs) e
     ∙ (remove_goes_on (clauses_of old) (clauses_of new) i j n
     ∙ ap (λ k. take i (clauses_of new) ++ drop k (clauses_of old))
     (sym (add-one j))))

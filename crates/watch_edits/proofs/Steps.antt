@@ -4,8 +4,8 @@ use Rattle.text_values.specs.ModelValue.{Clause}
 use Rattle.watch_edits.specs.declared.items.ItemChange.{ItemChange}
 use Rattle.text_values.specs.TestValue.{Content}
 use Rattle.watch_edits.specs.declared.parts.TestPart.{TestPart}
-use Rattle.watch_edits.specs.Parts.{put, all_put}
-use Rattle.watch_edits.specs.Changes.{element_at, set_at, applied, all_applied}
+use Rattle.watch_edits.specs.Parts.{with_part, with_parts}
+use Rattle.watch_edits.specs.Changes.{element_at, set_at, with_change, with_changes}
 
 -- the element is set
 pub set_goes_on : {A : Type 0} (old new : List A) (i : ℕ) → i < length old → i < length new
@@ -54,11 +54,11 @@ remove_goes_on old (n ∷ ns) (suc i) j a =
 
 -- one change more is made last
 pub applied_last : (new : List Clause) (cs : List ItemChange) (c : ItemChange) (xs : List Clause)
-    → all_applied new (cs ++ c ∷ []) xs ≡ applied new c (all_applied new cs xs)
+    → with_changes new (cs ++ c ∷ []) xs ≡ with_change new c (with_changes new cs xs)
 applied_last new [] c xs = refl
-applied_last new (d ∷ cs) c xs = applied_last new cs c (applied new d xs)
+applied_last new (d ∷ cs) c xs = applied_last new cs c (with_change new d xs)
 
 pub put_last : (new : Content) (ps : List TestPart) (p : TestPart) (c : Content)
-    → all_put new (ps ++ p ∷ []) c ≡ put new p (all_put new ps c)
+    → with_parts new (ps ++ p ∷ []) c ≡ with_part new p (with_parts new ps c)
 put_last new [] p c = refl
-put_last new (q ∷ ps) p c = put_last new ps p (put new q c)
+put_last new (q ∷ ps) p c = put_last new ps p (with_part new q c)

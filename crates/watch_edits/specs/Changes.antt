@@ -14,15 +14,15 @@ abbrev pub set_at : {A : Type 0} → List A → ℕ → List A → List A
 set_at new i xs = take i xs ++ (element_at i new ++ drop (suc i) xs)
 
 -- what a change makes of items, where these are the items of the new version
-abbrev pub applied : List Clause → ItemChange → List Clause → List Clause
-applied new (Set i) xs = set_at new i xs
-applied new (Insert i) xs = take i xs ++ (element_at i new ++ drop i xs)
-applied new (Remove i) xs = take i xs ++ drop (suc i) xs
+abbrev pub with_change : List Clause → ItemChange → List Clause → List Clause
+with_change new (Set i) xs = set_at new i xs
+with_change new (Insert i) xs = take i xs ++ (element_at i new ++ drop i xs)
+with_change new (Remove i) xs = take i xs ++ drop (suc i) xs
 
 -- one change after another
-abbrev pub all_applied : List Clause → List ItemChange → List Clause → List Clause
-all_applied new [] xs = xs
-all_applied new (c ∷ cs) xs = all_applied new cs (applied new c xs)
+abbrev pub with_changes : List Clause → List ItemChange → List Clause → List Clause
+with_changes new [] xs = xs
+with_changes new (c ∷ cs) xs = with_changes new cs (with_change new c xs)
 
 -- both versions end in so many items that are the same
 pub record IsCommonEnd (old new : List Clause) (count : ℕ) : Type 0 where
@@ -31,13 +31,13 @@ pub record IsCommonEnd (old new : List Clause) (count : ℕ) : Type 0 where
   pub same : drop (length old - count) old ≡ drop (length new - count) new
 
 -- the change stays before the last items, so many of them, where the versions have these lengths
-abbrev pub IsBefore : (old_length new_length count : ℕ) → ItemChange → Type 0
-IsBefore m n s (Set i) = (i + s < m) × (i + s < n)
-IsBefore m n s (Insert i) = i + s < n
-IsBefore m n s (Remove i) = i + s < m
+abbrev pub IsBeforeEnd : (old_length new_length count : ℕ) → ItemChange → Type 0
+IsBeforeEnd m n s (Set i) = (i + s < m) × (i + s < n)
+IsBeforeEnd m n s (Insert i) = i + s < n
+IsBeforeEnd m n s (Remove i) = i + s < m
 
 -- an item is set only where the two versions differ
-abbrev pub IsNeeded : (old new : List Clause) → ItemChange → Type 0
-IsNeeded old new (Set i) = element_at i old ≡ element_at i new → ⊥
-IsNeeded old new (Insert i) = length old < length new
-IsNeeded old new (Remove i) = length new < length old
+abbrev pub IsNeededChange : (old new : List Clause) → ItemChange → Type 0
+IsNeededChange old new (Set i) = element_at i old ≡ element_at i new → ⊥
+IsNeededChange old new (Insert i) = length old < length new
+IsNeededChange old new (Remove i) = length new < length old

@@ -19,16 +19,16 @@ with_threads threads c =
     }
 
 -- the test with a part of the new version
-abbrev pub put : Content → TestPart → Content → Content
-put new Init c = with_init new.init c
-put new (Thread k) c = with_threads (set_at new.threads k c.threads) c
-put new Condition c = with_condition (new.quantifier, new.condition) c
-put new Locations c = with_observed new.observed c
+abbrev pub with_part : Content → TestPart → Content → Content
+with_part new Init c = with_init new.init c
+with_part new (Thread k) c = with_threads (set_at new.threads k c.threads) c
+with_part new Condition c = with_condition (new.quantifier, new.condition) c
+with_part new Locations c = with_observed new.observed c
 
 -- one part after another
-abbrev pub all_put : Content → List TestPart → Content → Content
-all_put new [] c = c
-all_put new (p ∷ ps) c = all_put new ps (put new p c)
+abbrev pub with_parts : Content → List TestPart → Content → Content
+with_parts new [] c = c
+with_parts new (p ∷ ps) c = with_parts new ps (with_part new p c)
 
 -- the two versions have the same name and as many threads
 pub record HasSameShape (old new : Content) : Type 0 where

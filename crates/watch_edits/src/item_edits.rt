@@ -3,7 +3,7 @@
 ghost use Rattle.std.specs.Prelude.{◌≡◌, IfOk, slice_index};
 ghost use Rattle.text_values.specs.ModelValues.{clauses_of};
 ghost use Rattle.bench_texts.specs.Edits.{edit_of};
-ghost use Rattle.bench_texts.specs.Held.{model_of};
+ghost use Rattle.bench_texts.specs.Held.{plain_model};
 ghost use Rattle.watch_edits.specs.Edits.{item_text, item_edit};
 
 use crate::items::ItemChange;
@@ -44,7 +44,7 @@ pub fn item_edit(
     change: ItemChange,
 ) -> Result<Edit, AllocError>
     ensures { IfOk result (λ e. edit_of e
-        ≡ item_edit (model_of model.now).name model.now.numbers.items (clauses_of new.now)
+        ≡ item_edit (plain_model model.now).name model.now.numbers.items (clauses_of new.now)
         change) }
 {
     let name = Vec::from_slice(alloc, model.name())?;

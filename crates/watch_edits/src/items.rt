@@ -2,7 +2,7 @@
 
 ghost use Rattle.std.specs.Prelude.{◌≡◌, ◌≤◌, ◌<◌, ◌+◌, ◌-◌, ◌++◌, ℕ, [], min, All, IfOk, OnOk, IsTrue, IsFalse, length, take, drop};
 ghost use Rattle.text_values.specs.ModelValues.{clauses_of};
-ghost use Rattle.watch_edits.specs.Changes.{element_at, all_applied, IsCommonEnd, IsBefore, IsNeeded};
+ghost use Rattle.watch_edits.specs.Changes.{element_at, with_changes, IsCommonEnd, IsBeforeEnd, IsNeededChange};
 
 use std::alloc::{AllocError, Global};
 use text_values::Item;
@@ -76,15 +76,16 @@ fn set_item(
 ) -> Result<(), AllocError>
     requires old { index < length old.now }
     requires new { index < length new.now }
-    requires applied { all_applied (clauses_of new.now) changes.old.items (clauses_of old.now)
+    requires applied { with_changes (clauses_of new.now) changes.old.items (clauses_of old.now)
         ≡ take index (clauses_of new.now) ++ drop index (clauses_of old.now) }
-    requires needed { All (IsNeeded (clauses_of old.now) (clauses_of new.now)) changes.old.items }
-    ensures applied { OnOk result (all_applied (clauses_of new.now) changes.new.items
+    requires needed { All (IsNeededChange (clauses_of old.now) (clauses_of new.now))
+        changes.old.items }
+    ensures applied { OnOk result (with_changes (clauses_of new.now) changes.new.items
         (clauses_of old.now)
         ≡ take (index + 1) (clauses_of new.now) ++ drop (index + 1) (clauses_of old.now)) }
     ensures before { OnOk result ((m n s : ℕ) → index + s < m → index + s < n
-        → All (IsBefore m n s) changes.old.items → All (IsBefore m n s) changes.new.items) }
-    ensures needed { OnOk result (All (IsNeeded (clauses_of old.now) (clauses_of new.now))
+        → All (IsBeforeEnd m n s) changes.old.items → All (IsBeforeEnd m n s) changes.new.items) }
+    ensures needed { OnOk result (All (IsNeededChange (clauses_of old.now) (clauses_of new.now))
         changes.new.items) }
 {
     if !is_same_at(old, index, new, index) {
@@ -103,13 +104,13 @@ fn set_items(
     requires old { end ≤ length old.now }
     requires new { end ≤ length new.now }
     requires none { changes.old.items ≡ [] }
-    ensures applied { OnOk result (all_applied (clauses_of new.now) changes.new.items
+    ensures applied { OnOk result (with_changes (clauses_of new.now) changes.new.items
         (clauses_of old.now)
         ≡ take (min (length old.now) (length new.now) - end) (clauses_of new.now)
         ++ drop (min (length old.now) (length new.now) - end) (clauses_of old.now)) }
     ensures before { OnOk result ((s : ℕ) → s ≤ end
-        → All (IsBefore (length old.now) (length new.now) s) changes.new.items) }
-    ensures needed { OnOk result (All (IsNeeded (clauses_of old.now) (clauses_of new.now))
+        → All (IsBeforeEnd (length old.now) (length new.now) s) changes.new.items) }
+    ensures needed { OnOk result (All (IsNeededChange (clauses_of old.now) (clauses_of new.now))
         changes.new.items) }
 {
     let stop = old.len().min(new.len()) - end;
@@ -130,15 +131,16 @@ fn insert_item(
 ) -> Result<(), AllocError>
     requires new { index < length new.now }
     requires longer { length old.now < length new.now }
-    requires applied { all_applied (clauses_of new.now) changes.old.items (clauses_of old.now)
+    requires applied { with_changes (clauses_of new.now) changes.old.items (clauses_of old.now)
         ≡ take index (clauses_of new.now) ++ drop at (clauses_of old.now) }
-    requires needed { All (IsNeeded (clauses_of old.now) (clauses_of new.now)) changes.old.items }
-    ensures applied { OnOk result (all_applied (clauses_of new.now) changes.new.items
+    requires needed { All (IsNeededChange (clauses_of old.now) (clauses_of new.now))
+        changes.old.items }
+    ensures applied { OnOk result (with_changes (clauses_of new.now) changes.new.items
         (clauses_of old.now)
         ≡ take (index + 1) (clauses_of new.now) ++ drop at (clauses_of old.now)) }
     ensures before { OnOk result ((m n s : ℕ) → index + s < n
-        → All (IsBefore m n s) changes.old.items → All (IsBefore m n s) changes.new.items) }
-    ensures needed { OnOk result (All (IsNeeded (clauses_of old.now) (clauses_of new.now))
+        → All (IsBeforeEnd m n s) changes.old.items → All (IsBeforeEnd m n s) changes.new.items) }
+    ensures needed { OnOk result (All (IsNeededChange (clauses_of old.now) (clauses_of new.now))
         changes.new.items) }
 {
     changes.push(ItemChange::Insert(index))?;
@@ -154,19 +156,20 @@ fn insert_items(
 ) -> Result<(), AllocError>
     requires old { end ≤ length old.now }
     requires new { end ≤ length new.now }
-    requires applied { all_applied (clauses_of new.now) changes.old.items (clauses_of old.now)
+    requires applied { with_changes (clauses_of new.now) changes.old.items (clauses_of old.now)
         ≡ take (min (length old.now) (length new.now) - end) (clauses_of new.now)
         ++ drop (min (length old.now) (length new.now) - end) (clauses_of old.now) }
     requires before { (s : ℕ) → s ≤ end
-        → All (IsBefore (length old.now) (length new.now) s) changes.old.items }
-    requires needed { All (IsNeeded (clauses_of old.now) (clauses_of new.now)) changes.old.items }
-    ensures applied { OnOk result (all_applied (clauses_of new.now) changes.new.items
+        → All (IsBeforeEnd (length old.now) (length new.now) s) changes.old.items }
+    requires needed { All (IsNeededChange (clauses_of old.now) (clauses_of new.now))
+        changes.old.items }
+    ensures applied { OnOk result (with_changes (clauses_of new.now) changes.new.items
         (clauses_of old.now)
         ≡ take (length new.now - end) (clauses_of new.now)
         ++ drop (min (length old.now) (length new.now) - end) (clauses_of old.now)) }
     ensures before { OnOk result ((s : ℕ) → s ≤ end
-        → All (IsBefore (length old.now) (length new.now) s) changes.new.items) }
-    ensures needed { OnOk result (All (IsNeeded (clauses_of old.now) (clauses_of new.now))
+        → All (IsBeforeEnd (length old.now) (length new.now) s) changes.new.items) }
+    ensures needed { OnOk result (All (IsNeededChange (clauses_of old.now) (clauses_of new.now))
         changes.new.items) }
 {
     if new.len() <= old.len() {
@@ -190,15 +193,16 @@ fn remove_item(
     requires old { at < length old.now }
     requires new { index ≤ length new.now }
     requires shorter { length new.now < length old.now }
-    requires applied { all_applied (clauses_of new.now) changes.old.items (clauses_of old.now)
+    requires applied { with_changes (clauses_of new.now) changes.old.items (clauses_of old.now)
         ≡ take index (clauses_of new.now) ++ drop at (clauses_of old.now) }
-    requires needed { All (IsNeeded (clauses_of old.now) (clauses_of new.now)) changes.old.items }
-    ensures applied { OnOk result (all_applied (clauses_of new.now) changes.new.items
+    requires needed { All (IsNeededChange (clauses_of old.now) (clauses_of new.now))
+        changes.old.items }
+    ensures applied { OnOk result (with_changes (clauses_of new.now) changes.new.items
         (clauses_of old.now)
         ≡ take index (clauses_of new.now) ++ drop (at + 1) (clauses_of old.now)) }
     ensures before { OnOk result ((m n s : ℕ) → index + s < m
-        → All (IsBefore m n s) changes.old.items → All (IsBefore m n s) changes.new.items) }
-    ensures needed { OnOk result (All (IsNeeded (clauses_of old.now) (clauses_of new.now))
+        → All (IsBeforeEnd m n s) changes.old.items → All (IsBeforeEnd m n s) changes.new.items) }
+    ensures needed { OnOk result (All (IsNeededChange (clauses_of old.now) (clauses_of new.now))
         changes.new.items) }
 {
     changes.push(ItemChange::Remove(index))?;
@@ -214,19 +218,20 @@ fn remove_items(
 ) -> Result<(), AllocError>
     requires old { end ≤ length old.now }
     requires new { end ≤ length new.now }
-    requires applied { all_applied (clauses_of new.now) changes.old.items (clauses_of old.now)
+    requires applied { with_changes (clauses_of new.now) changes.old.items (clauses_of old.now)
         ≡ take (length new.now - end) (clauses_of new.now)
         ++ drop (min (length old.now) (length new.now) - end) (clauses_of old.now) }
     requires before { (s : ℕ) → s ≤ end
-        → All (IsBefore (length old.now) (length new.now) s) changes.old.items }
-    requires needed { All (IsNeeded (clauses_of old.now) (clauses_of new.now)) changes.old.items }
-    ensures applied { OnOk result (all_applied (clauses_of new.now) changes.new.items
+        → All (IsBeforeEnd (length old.now) (length new.now) s) changes.old.items }
+    requires needed { All (IsNeededChange (clauses_of old.now) (clauses_of new.now))
+        changes.old.items }
+    ensures applied { OnOk result (with_changes (clauses_of new.now) changes.new.items
         (clauses_of old.now)
         ≡ take (length new.now - end) (clauses_of new.now)
         ++ drop (length old.now - end) (clauses_of old.now)) }
     ensures before { OnOk result ((s : ℕ) → s ≤ end
-        → All (IsBefore (length old.now) (length new.now) s) changes.new.items) }
-    ensures needed { OnOk result (All (IsNeeded (clauses_of old.now) (clauses_of new.now))
+        → All (IsBeforeEnd (length old.now) (length new.now) s) changes.new.items) }
+    ensures needed { OnOk result (All (IsNeededChange (clauses_of old.now) (clauses_of new.now))
         changes.new.items) }
 {
     if old.len() <= new.len() {
@@ -248,17 +253,17 @@ pub fn item_changes(
     new: &[Item],
 ) -> Result<Vec<ItemChange>, AllocError>
     // The changes make the new items of the old ones.
-    ensures applied { IfOk result (λ cs. all_applied (clauses_of new.now) cs.items
+    ensures applied { IfOk result (λ cs. with_changes (clauses_of new.now) cs.items
         (clauses_of old.now) ≡ clauses_of new.now) }
     // They leave alone the items in which both versions end: all of them where the versions are
     // equal.
     ensures before { IfOk result (λ cs. (s : ℕ)
         → IsCommonEnd (clauses_of old.now) (clauses_of new.now) s
-        → All (IsBefore (length old.now) (length new.now) s) cs.items) }
+        → All (IsBeforeEnd (length old.now) (length new.now) s) cs.items) }
     // An item is set only where it differs, and only the longer version has items inserted or
     // removed.
     ensures needed { IfOk result (λ cs.
-        All (IsNeeded (clauses_of old.now) (clauses_of new.now)) cs.items) }
+        All (IsNeededChange (clauses_of old.now) (clauses_of new.now)) cs.items) }
 {
     let end = common_end(old, new);
     let mut changes = Vec::new(alloc);

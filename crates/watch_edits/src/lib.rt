@@ -1,6 +1,6 @@
 //! The edits that lead from one version of a model or of a test to the next: only the items and the
-//! parts that differ are changed. Read specs/Changes first: `all_applied` and `all_put` say what
-//! changes make of a version.
+//! parts that differ are changed. Read specs/Changes first: `with_changes` and `with_parts` say
+//! what changes make of a version.
 #![tactic(auto)]
 
 mod item_edits;

@@ -4,7 +4,7 @@ ghost use Rattle.std.specs.Prelude.{◌≡◌, ◌<◌, ◌+◌, ◌++◌, [], l
 ghost use Rattle.text_values.specs.TestValue.{content_of};
 ghost use Rattle.bench_texts.specs.BenchTexts.{with_init, with_condition};
 ghost use Rattle.watch_edits.specs.Changes.{element_at};
-ghost use Rattle.watch_edits.specs.Parts.{all_put, with_threads, Differs, HasSameShape};
+ghost use Rattle.watch_edits.specs.Parts.{with_parts, with_threads, Differs, HasSameShape};
 
 use std::alloc::{AllocError, Global};
 use text_equality::{are_same_entries, are_same_places, are_same_steps, is_same_condition};
@@ -33,7 +33,7 @@ fn has_same_shape(old: &Test, new: &Test) -> bool
 
 fn push_init(old: &Test, new: &Test, parts: &mut Vec<TestPart>) -> Result<(), AllocError>
     requires { parts.old.items ≡ [] }
-    ensures put { OnOk result (all_put (content_of new.now) parts.new.items (content_of old.now)
+    ensures put { OnOk result (with_parts (content_of new.now) parts.new.items (content_of old.now)
         ≡ with_init (content_of new.now).init (content_of old.now)) }
     ensures differ { OnOk result (All (Differs (content_of old.now) (content_of new.now))
         parts.new.items) }
@@ -70,12 +70,12 @@ fn push_thread(
 ) -> Result<(), AllocError>
     requires old { index < length (content_of old.now).threads }
     requires new { index < length (content_of new.now).threads }
-    requires put { all_put (content_of new.now) parts.old.items (content_of old.now)
+    requires put { with_parts (content_of new.now) parts.old.items (content_of old.now)
         ≡ with_threads
         (take index (content_of new.now).threads ++ drop index (content_of old.now).threads)
         (with_init (content_of new.now).init (content_of old.now)) }
     requires differ { All (Differs (content_of old.now) (content_of new.now)) parts.old.items }
-    ensures put { OnOk result (all_put (content_of new.now) parts.new.items (content_of old.now)
+    ensures put { OnOk result (with_parts (content_of new.now) parts.new.items (content_of old.now)
         ≡ with_threads
         (take (index + 1) (content_of new.now).threads
         ++ drop (index + 1) (content_of old.now).threads)
@@ -91,10 +91,10 @@ fn push_thread(
 
 fn push_threads(old: &Test, new: &Test, parts: &mut Vec<TestPart>) -> Result<(), AllocError>
     requires shape { HasSameShape (content_of old.now) (content_of new.now) }
-    requires put { all_put (content_of new.now) parts.old.items (content_of old.now)
+    requires put { with_parts (content_of new.now) parts.old.items (content_of old.now)
         ≡ with_init (content_of new.now).init (content_of old.now) }
     requires differ { All (Differs (content_of old.now) (content_of new.now)) parts.old.items }
-    ensures put { OnOk result (all_put (content_of new.now) parts.new.items (content_of old.now)
+    ensures put { OnOk result (with_parts (content_of new.now) parts.new.items (content_of old.now)
         ≡ with_threads (content_of new.now).threads
         (with_init (content_of new.now).init (content_of old.now))) }
     ensures differ { OnOk result (All (Differs (content_of old.now) (content_of new.now))
@@ -108,11 +108,11 @@ fn push_threads(old: &Test, new: &Test, parts: &mut Vec<TestPart>) -> Result<(),
 
 #[tactic(auto, using(crate::proofs::Steps::put_last))]
 fn push_condition(old: &Test, new: &Test, parts: &mut Vec<TestPart>) -> Result<(), AllocError>
-    requires put { all_put (content_of new.now) parts.old.items (content_of old.now)
+    requires put { with_parts (content_of new.now) parts.old.items (content_of old.now)
         ≡ with_threads (content_of new.now).threads
         (with_init (content_of new.now).init (content_of old.now)) }
     requires differ { All (Differs (content_of old.now) (content_of new.now)) parts.old.items }
-    ensures put { OnOk result (all_put (content_of new.now) parts.new.items (content_of old.now)
+    ensures put { OnOk result (with_parts (content_of new.now) parts.new.items (content_of old.now)
         ≡ with_condition ((content_of new.now).quantifier, (content_of new.now).condition)
         (with_threads (content_of new.now).threads
         (with_init (content_of new.now).init (content_of old.now)))) }
@@ -128,12 +128,12 @@ fn push_condition(old: &Test, new: &Test, parts: &mut Vec<TestPart>) -> Result<(
 #[tactic(auto, using(crate::proofs::Steps::put_last))]
 fn push_locations(old: &Test, new: &Test, parts: &mut Vec<TestPart>) -> Result<(), AllocError>
     requires shape { HasSameShape (content_of old.now) (content_of new.now) }
-    requires put { all_put (content_of new.now) parts.old.items (content_of old.now)
+    requires put { with_parts (content_of new.now) parts.old.items (content_of old.now)
         ≡ with_condition ((content_of new.now).quantifier, (content_of new.now).condition)
         (with_threads (content_of new.now).threads
         (with_init (content_of new.now).init (content_of old.now))) }
     requires differ { All (Differs (content_of old.now) (content_of new.now)) parts.old.items }
-    ensures put { OnOk result (all_put (content_of new.now) parts.new.items (content_of old.now)
+    ensures put { OnOk result (with_parts (content_of new.now) parts.new.items (content_of old.now)
         ≡ content_of new.now) }
     ensures differ { OnOk result (All (Differs (content_of old.now) (content_of new.now))
         parts.new.items) }
@@ -152,7 +152,7 @@ pub fn changed_parts(
     new: &Test,
 ) -> Result<Option<Vec<TestPart>>, AllocError>
     // The parts make the new version of the old one.
-    ensures put { IfOk result (λ r. IfSome r (λ ps. all_put (content_of new.now) ps.items
+    ensures put { IfOk result (λ r. IfSome r (λ ps. with_parts (content_of new.now) ps.items
         (content_of old.now) ≡ content_of new.now)) }
     // Each of them differs.
     ensures differ { IfOk result (λ r.

@@ -10,10 +10,10 @@ use mathlib.Core.List.{IsPrefix}
 use Rattle.text_values.specs.TestValue.{Content, content_of}
 use Rattle.outcome_texts.specs.Cells.{Cell, NoCell, Open, Settled}
 use Rattle.bench_texts.specs.BenchTexts.{BenchTexts, PlainModel, test_index, model_index}
-use Rattle.bench_texts.specs.Held.{model_of, texts_of}
+use Rattle.bench_texts.specs.Held.{plain_model, texts_of}
 use Rattle.bench_texts.specs.declared.texts.Texts.{Texts}
 use Rattle.board.specs.declared.operation.BoardOp.{BoardOp}
-use Rattle.board.specs.Contents.{shown}
+use Rattle.board.specs.Contents.{cell_named}
 use Rattle.board.specs.Operations.{board_after}
 use Rattle.board.specs.Legal.{IsLegal, texts_after}
 use Rattle.board.specs.Edits.{edits_in, edit_count}
@@ -24,15 +24,15 @@ use Rattle.board.proofs.Histories.{contents_are_those}
 use Rattle.session_answers.specs.Cells.{test_named, model_named}
 use Rattle.session_answers.proofs.Named.{clauses_of-items}
 use Rattle.session_views.proofs.Counts.{knows_later, knows_nothing}
-use Rattle.session_views.specs.Knowing.{KnowsOwn}
+use Rattle.session_views.specs.Knowing.{KnowsOwn, KnowsTexts}
 use Rattle.watch_run.specs.Holding.{model_name, no_names}
 use Rattle.watch_run.specs.Lines.{IsTestCell, AreLinesOf}
-use Rattle.watch_run.specs.Boards.{KnowsTexts, shown_lines, IsClosedBy, AreOwn, lists_of, standing_of}
+use Rattle.watch_run.specs.Boards.{shown_lines, IsClosedBy, AreOwnLines, lists_of, standing_of}
 use Rattle.watch_run.specs.Runs.{at_first}
 use Rattle.watch_run.proofs.Lists.{found_mapped}
 
 test_there : (ops : List BoardOp) (t : BenchTexts) → contents_after ops ≡ t → (name : List ℕ)
-    → test_named t name ≡ option_map content_of (board.test_named (texts_after ops) name)
+    → test_named t name ≡ option_map content_of (board.test_by_name (texts_after ops) name)
 test_there ops t same name =
     let plain = contents_are_those ops in
     ap (λ (x : BenchTexts). slice_get x.tests (test_index name x.tests)) (sym same)
@@ -40,28 +40,28 @@ test_there ops t same name =
     ∙ found_mapped content_of (λ c. bytes_eq c.name name) (texts_after ops).tests
 
 model_there : (ops : List BoardOp) (t : BenchTexts) → contents_after ops ≡ t → (name : List ℕ)
-    → model_named t name ≡ option_map model_of (board.model_named (texts_after ops) name)
+    → model_named t name ≡ option_map plain_model (board.model_by_name (texts_after ops) name)
 model_there ops t same name =
     let plain = contents_are_those ops in
     ap (λ (x : BenchTexts). slice_get x.models (model_index name x.models)) (sym same)
     ∙ ap (λ (l : List PlainModel). slice_get l (model_index name l)) plain.models
-    ∙ found_mapped model_of (λ m. bytes_eq m.name name) (texts_after ops).models
+    ∙ found_mapped plain_model (λ m. bytes_eq m.name name) (texts_after ops).models
 
 cell_right : (ops : List BoardOp) (t : BenchTexts) → contents_after ops ≡ t
     → (name : List ℕ) (cell : Cell)
     → cell ≢ Open → IsRightCell (texts_after ops) name model_name cell → IsTestCell t name cell
 cell_right ops t same name NoCell closed lacks = elim lacks [
   | inl none ↦ inl (test_there ops t same name ∙ ap (λ o. option_map content_of o) none)
-  | inr none ↦ inr (model_there ops t same model_name ∙ ap (λ o. option_map model_of o) none)
+  | inr none ↦ inr (model_there ops t same model_name ∙ ap (λ o. option_map plain_model o) none)
 ]
 cell_right ops t same name Open closed both = absurd (closed refl)
 cell_right ops t same name (Settled outcome) closed r =
     let long : length r.under.numbers.items ≡ length r.under.text.items.items = omega (arith, r.under.paired, r.under.numbers.ok.0, r.under.text.items.ok.0) in
     record {
       test = content_of r.content;
-      model = model_of r.under;
+      model = plain_model r.under;
       test_is = test_there ops t same name ∙ ap (λ o. option_map content_of o) r.test_is;
-      model_is = model_there ops t same model_name ∙ ap (λ o. option_map model_of o) r.model_is;
+      model_is = model_there ops t same model_name ∙ ap (λ o. option_map plain_model o) r.model_is;
       right = record {
         test = r.content;
         model = r.under.text;
@@ -79,9 +79,9 @@ lines_right ops t same right (None ∷ names) closed =
     (refl, lines_right ops t same right names closed.1)
 lines_right ops t same right (Some name ∷ names) closed = (
   record {
-    cell = shown (board_after ops) name model_name;
+    cell = cell_named (board_after ops) name model_name;
     right =
-        cell_right ops t same name (shown (board_after ops) name model_name) closed.0
+        cell_right ops t same name (cell_named (board_after ops) name model_name) closed.0
         (right name model_name);
     is = refl;
   },
@@ -139,7 +139,7 @@ stands_first texts names lines tests count none empty long first =
 -- lines of a board that counts no edits but the own are those of the own texts
 pub own_lines : (ops : List BoardOp) (made : ℕ) (t : BenchTexts) (names : List (Option (List ℕ)))
     (lines : List (List ℕ))
-    → KnowsTexts ops made t → AreOwn ops made names lines → AreLinesOf t names lines
+    → KnowsTexts ops made t → AreOwnLines ops made names lines → AreLinesOf t names lines
 own_lines ops made t names lines knows own =
     let none : ops ++ [] ≡ ops = append_none ops in
     let count : edits_in ops ≡ made = all_counted (edits_in ops) made (cases_lt (2 ^ 64 - 1) (edits_in ops)) own.counted knows.0 in
@@ -150,7 +150,7 @@ own_lines ops made t names lines knows own =
 -- so it is where there are lines
 pub lines_of_own : (ops : List BoardOp) (made : ℕ) (t : BenchTexts) (names : List (Option (List ℕ)))
     (r : Result (Option (Vec (Vec ℕ Global) Global)) AllocError)
-    → KnowsTexts ops made t → IfOk r (λ o. IfSome o (λ v. AreOwn ops made names (lists_of v.items)))
+    → KnowsTexts ops made t → IfOk r (λ o. IfSome o (λ v. AreOwnLines ops made names (lists_of v.items)))
     → IfOk r (λ o. IfSome o (λ v. AreLinesOf t names (lists_of v.items)))
 lines_of_own ops made t names (Ok (Some v)) knows own =
     own_lines ops made t names (lists_of v.items) knows own
@@ -163,9 +163,9 @@ pub view_lines : (ops view : List BoardOp) (made : ℕ) (names : List (Option (L
     → ops ≡ view → ShowsRightCells view → IsLegal view → edit_count view ≡ made
     → IfOk r (λ o. IfSome o (λ v. lists_of v.items ≡ shown_lines view names))
     → IfOk r (λ o. IfSome o (λ v. Each (IsClosedBy view) names))
-    → IfOk r (λ o. IfSome o (λ v. AreOwn ops made names (lists_of v.items)))
+    → IfOk r (λ o. IfSome o (λ v. AreOwnLines ops made names (lists_of v.items)))
 view_lines ops view made names (Ok (Some v)) same right legal counted lines closed =
-    subst (λ (l : List BoardOp). AreOwn l made names (lists_of v.items)) (sym same)
+    subst (λ (l : List BoardOp). AreOwnLines l made names (lists_of v.items)) (sym same)
     (record {
       shown = record { are = lines; closed = closed; right = right; legal = legal };
       counted = counted;

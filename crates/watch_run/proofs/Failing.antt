@@ -5,28 +5,28 @@ use Rattle.std.specs.Io.KnownBytes.{Consumes}
 use Rattle.std.proofs.lemmas.List.{length-append, map-append}
 use Rattle.session_script.specs.Reading.{IsPaid}
 use Rattle.watch_run.specs.declared.versions.Version.TheVariants.{Text, Unread}
-use Rattle.watch_run.specs.Readings.{Reading, AreRead}
+use Rattle.watch_run.specs.Readings.{FileReading, AreReadBetween}
 use Rattle.watch_run.specs.Holding.{TestFile, ModelFile, FilePath, test_files, all_files}
-use Rattle.watch_run.specs.Runs.{Standing, AreBegun, NoFile, Begun, NotBegun, HasBegun, EndsUnread}
+use Rattle.watch_run.specs.Runs.{Standing, AreFilesBegun, NoFile, Begun, NotBegun, HasBegunFiles, EndsUnread}
 use Rattle.watch_run.proofs.Gaining.{read_more}
 
 -- ---- files
 
-one_path : (files : List FilePath) (file : FilePath) (read : List Reading) (reading : Reading)
+one_path : (files : List FilePath) (file : FilePath) (read : List FileReading) (reading : FileReading)
     → reading.path ≡ file.path
-    → map (λ (r : Reading). r.path) read ≡ map (λ (f : FilePath). f.path) files
-    → map (λ (r : Reading). r.path) (read ++ reading ∷ [])
+    → map (λ (r : FileReading). r.path) read ≡ map (λ (f : FilePath). f.path) files
+    → map (λ (r : FileReading). r.path) (read ++ reading ∷ [])
     ≡ map (λ (f : FilePath). f.path) (files ++ file ∷ [])
 one_path files file read reading same paths =
-    map-append (λ (r : Reading). r.path) read (reading ∷ [])
+    map-append (λ (r : FileReading). r.path) read (reading ∷ [])
     ∙ ap (λ (l : List (List ℕ)). l ++ reading.path ∷ []) paths
     ∙ ap (λ (p : List ℕ). map (λ (f : FilePath). f.path) files ++ p ∷ []) same
     ∙ sym (map-append (λ (f : FilePath). f.path) files (file ∷ []))
 
 -- for each file that was begun its version was read
-begun_paths : (files : List FilePath) (old new : Standing) (read : List Reading) (told : List ℕ)
-    → AreBegun files old new read told
-    → map (λ (r : Reading). r.path) read ≡ map (λ (f : FilePath). f.path) files
+begun_paths : (files : List FilePath) (old new : Standing) (read : List FileReading) (told : List ℕ)
+    → AreFilesBegun files old new read told
+    → map (λ (r : FileReading). r.path) read ≡ map (λ (f : FilePath). f.path) files
 begun_paths files old new read told (NoFile standing) = refl
 begun_paths files old new read told
     (Begun before file text from middle held readings said begun taken) =
@@ -58,8 +58,8 @@ files_split n (suc i) (x ∷ xs) d lt =
     ++ record { file = TestFile k; path = (get_or xs i d).now } ∷ drop (suc i) files) same)
 
 -- the file of the model cannot be read
-pub unread_first : (model : List ℕ) (tests : List (Bor (List ℕ))) (r s : Option (List Reading))
-    → AreRead r s (record { path = model; version = Unread } ∷ [])
+pub unread_first : (model : List ℕ) (tests : List (Bor (List ℕ))) (r s : Option (List FileReading))
+    → AreReadBetween r s (record { path = model; version = Unread } ∷ [])
     → EndsUnread (all_files model (map (λ t. t.now) tests)) r s
 unread_first model tests r s unread = record {
   begun = [];
@@ -73,11 +73,11 @@ unread_first model tests r s unread = record {
 
 -- or that of a test, behind those that were begun
 pub unread_next : (model : List ℕ) (tests : List (Bor (List ℕ))) (i : ℕ) (d : Bor (List ℕ))
-    (old new : Standing) (r s t : Option (List Reading)) (told : List ℕ) → i < length tests
-    → HasBegun
+    (old new : Standing) (r s t : Option (List FileReading)) (told : List ℕ) → i < length tests
+    → HasBegunFiles
     (record { file = ModelFile; path = model } ∷ take i (test_files 0 (map (λ t. t.now) tests)))
     old new r s told
-    → AreRead s t (record { path = (get_or tests i d).now; version = Unread } ∷ [])
+    → AreReadBetween s t (record { path = (get_or tests i d).now; version = Unread } ∷ [])
     → EndsUnread (all_files model (map (λ t. t.now) tests)) r t
 unread_next model tests i d old new r s t told lt begun unread =
     let first : FilePath = record { file = ModelFile; path = model } in

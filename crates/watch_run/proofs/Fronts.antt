@@ -6,10 +6,10 @@ use Rattle.std.proofs.KnownBytes.{Appends-nil, Appends-trans}
 use Rattle.std.proofs.Math.Seq.{take-append-add}
 use Rattle.std.proofs.lemmas.List.{take_all, length-append}
 use Rattle.std.proofs.lemmas.Option.{same_Some}
-use Rattle.session_script.specs.Written.{WritesFront}
-use Rattle.watch_run.specs.Readings.{Reading, AreRead, HasReadAtMost}
+use Rattle.session_script.specs.Written.{WritesPrefix}
+use Rattle.watch_run.specs.Readings.{FileReading, AreReadBetween, HasReadAtMost}
 use Rattle.watch_run.specs.Holding.{file_at, all_files}
-use Rattle.watch_run.specs.Runs.{Standing, NoAnswer, OneMore, HasAnswers, HasBegunRun, IsAnswered, line_before, lines_from, IsLine, AreIn, AreOfTurn, NothingYet, FirstLines, IsCut, HasFront, IsFrontLine, AreFrontIn, AreFrontOf}
+use Rattle.watch_run.specs.Runs.{Standing, NoAnswer, OneMore, HasLineAnswers, HasBegunRun, IsLineAnswered, line_before, lines_from, IsLineAlone, AreIn, AreOfTurn, NothingYet, FirstLines, IsCutRun, HasAnswersPrefix, IsPrefixOfLine, ArePrefixIn, ArePrefixOf}
 use Rattle.watch_run.proofs.Gaining.{answers_joined, line_first, append_none, read_more}
 
 -- what holds in any case holds where the answer is a fault
@@ -19,11 +19,11 @@ on_err (Err e) P p = p
 
 -- ---- bytes
 
-nothing_written : (a : Option (List ℕ)) → WritesFront a a []
+nothing_written : (a : Option (List ℕ)) → WritesPrefix a a []
 nothing_written a = (0, omega arith, Appends-nil a)
 
-front_joined : (a b c : Option (List ℕ)) (x y : List ℕ) → Appends a b x → WritesFront b c y
-    → WritesFront a c (x ++ y)
+front_joined : (a b c : Option (List ℕ)) (x y : List ℕ) → Appends a b x → WritesPrefix b c y
+    → WritesPrefix a c (x ++ y)
 front_joined a b c x y first then =
     let (n, within, more) = then in (
       length x + n,
@@ -32,7 +32,7 @@ front_joined a b c x y first then =
           (Appends-trans a b c x (take n y) first more),
     )
 
-front_whole : (a b : Option (List ℕ)) (x : List ℕ) → Appends a b x → WritesFront a b x
+front_whole : (a b : Option (List ℕ)) (x : List ℕ) → Appends a b x → WritesPrefix a b x
 front_whole a b x gained = (
   length x,
   omega arith,
@@ -42,22 +42,22 @@ front_whole a b x gained = (
 -- ---- readings
 
 -- others behind them, and more
-read_behind : (a b c : Option (List Reading)) (xs ys zs : List Reading) → AreRead a b xs
-    → AreRead b c (ys ++ zs) → AreRead a c ((xs ++ ys) ++ zs)
+read_behind : (a b c : Option (List FileReading)) (xs ys zs : List FileReading) → AreReadBetween a b xs
+    → AreReadBetween b c (ys ++ zs) → AreReadBetween a c ((xs ++ ys) ++ zs)
 read_behind a b c xs ys zs first more =
-    subst (λ (l : List Reading). AreRead a c l) (sym (append_assoc xs ys zs))
+    subst (λ (l : List FileReading). AreReadBetween a c l) (sym (append_assoc xs ys zs))
     (read_more a b c xs (ys ++ zs) first more)
 
-and_none : (a b : Option (List Reading)) (xs : List Reading) → AreRead a b xs
-    → AreRead a b (xs ++ [])
-and_none a b xs are = subst (λ (l : List Reading). AreRead a b l) (sym (append_none xs)) are
+and_none : (a b : Option (List FileReading)) (xs : List FileReading) → AreReadBetween a b xs
+    → AreReadBetween a b (xs ++ [])
+and_none a b xs are = subst (λ (l : List FileReading). AreReadBetween a b l) (sym (append_none xs)) are
 
 -- ---- answers
 
 -- nothing was answered
 pub front_none : (model : List ℕ) (tests : List (List ℕ)) (asks : List (List ℕ) → Type 0)
-    (old : Standing) (r s : Option (List Reading)) (a : Option (List ℕ))
-    → asks [] → HasReadAtMost 1 r s → HasFront model tests asks old r s a a
+    (old : Standing) (r s : Option (List FileReading)) (a : Option (List ℕ))
+    → asks [] → HasReadAtMost 1 r s → HasAnswersPrefix model tests asks old r s a a
 front_none model tests asks old r s a asked one = record {
   lines = [];
   asked = asked;
@@ -73,10 +73,10 @@ front_none model tests asks old r s a asked one = record {
 
 -- one line was, and a front of it is written
 pub front_one : (model : List ℕ) (tests : List (List ℕ)) (asks : List (List ℕ) → Type 0)
-    (line : List ℕ) (old new : Standing) (r s : Option (List Reading)) (said : List ℕ)
+    (line : List ℕ) (old new : Standing) (r s : Option (List FileReading)) (said : List ℕ)
     (a b : Option (List ℕ))
-    → asks (line ∷ []) → IsAnswered line (file_at model tests line) old new r s said
-    → WritesFront a b said → HasFront model tests asks old r s a b
+    → asks (line ∷ []) → IsLineAnswered line (file_at model tests line) old new r s said
+    → WritesPrefix a b said → HasAnswersPrefix model tests asks old r s a b
 front_one model tests asks line old new r s said a b asked answered written = record {
   lines = [] ++ line ∷ [];
   asked = asked;
@@ -92,9 +92,9 @@ front_one model tests asks line old new r s said a b asked answered written = re
 
 -- the same, asked in another way
 pub front_so : (model : List ℕ) (tests : List (List ℕ)) (asks so : List (List ℕ) → Type 0)
-    (old : Standing) (r s : Option (List Reading)) (a b : Option (List ℕ))
-    → ((lines : List (List ℕ)) → asks lines → so lines) → HasFront model tests asks old r s a b
-    → HasFront model tests so old r s a b
+    (old : Standing) (r s : Option (List FileReading)) (a b : Option (List ℕ))
+    → ((lines : List (List ℕ)) → asks lines → so lines) → HasAnswersPrefix model tests asks old r s a b
+    → HasAnswersPrefix model tests so old r s a b
 front_so model tests asks so old r s a b law x = record {
   lines = x.lines;
   asked = law x.lines x.asked;
@@ -110,10 +110,10 @@ front_so model tests asks so old r s a b law x = record {
 
 -- behind others that are written
 pub front_behind : (model : List ℕ) (tests : List (List ℕ)) (one two all : List (List ℕ) → Type 0)
-    (old middle : Standing) (r s t : Option (List Reading)) (a b c : Option (List ℕ))
+    (old middle : Standing) (r s t : Option (List FileReading)) (a b c : Option (List ℕ))
     → ((x y : List (List ℕ)) → one x → two y → all (x ++ y))
-    → HasAnswers model tests one old middle r s a b → HasFront model tests two middle s t b c
-    → HasFront model tests all old r t a c
+    → HasLineAnswers model tests one old middle r s a b → HasAnswersPrefix model tests two middle s t b c
+    → HasAnswersPrefix model tests all old r t a c
 front_behind model tests one two all old middle r s t a b c law x y = record {
   lines = x.lines ++ y.lines;
   asked = law x.lines y.lines x.asked y.asked;
@@ -131,9 +131,9 @@ front_behind model tests one two all old middle r s t a b c law x y = record {
 
 -- all of some that are written
 pub front_of_all : (model : List ℕ) (tests : List (List ℕ)) (one all : List (List ℕ) → Type 0)
-    (old new : Standing) (r s : Option (List Reading)) (a b : Option (List ℕ))
-    → ((x : List (List ℕ)) → one x → all x) → HasAnswers model tests one old new r s a b
-    → HasFront model tests all old r s a b
+    (old new : Standing) (r s : Option (List FileReading)) (a b : Option (List ℕ))
+    → ((x : List (List ℕ)) → one x → all x) → HasLineAnswers model tests one old new r s a b
+    → HasAnswersPrefix model tests all old r s a b
 front_of_all model tests one all old new r s a b law x = record {
   lines = x.lines;
   asked = law x.lines x.asked;
@@ -149,22 +149,22 @@ front_of_all model tests one all old new r s a b law x = record {
 
 -- ---- which lines
 
-pub none_of_line : (line : List ℕ) → IsFrontLine line []
+pub none_of_line : (line : List ℕ) → IsPrefixOfLine line []
 none_of_line line = (line_before line [], refl)
 
-pub whole_line : (line : List ℕ) (lines : List (List ℕ)) → IsLine line lines
-    → IsFrontLine line lines
+pub whole_line : (line : List ℕ) (lines : List (List ℕ)) → IsLineAlone line lines
+    → IsPrefixOfLine line lines
 whole_line line lines is = ([], sym is ∙ sym (append_none lines))
 
-pub none_in : (front bytes : List ℕ) → AreFrontIn front bytes []
+pub none_in : (front bytes : List ℕ) → ArePrefixIn front bytes []
 none_in front bytes = λ rest. (lines_from front (bytes ++ rest), refl)
 
-pub none_of : (front : List ℕ) (source : Option (List ℕ)) → AreFrontOf front source []
+pub none_of : (front : List ℕ) (source : Option (List ℕ)) → ArePrefixOf front source []
 none_of front source = λ bytes is. (lines_from front bytes, refl)
 
 -- a line feed ends the line
-pub line_in : (front : List ℕ) (byte : ℕ) → byte ≡ 10 → (x : List (List ℕ)) → IsFrontLine front x
-    → AreFrontIn front (byte ∷ []) x
+pub line_in : (front : List ℕ) (byte : ℕ) → byte ≡ 10 → (x : List (List ℕ)) → IsPrefixOfLine front x
+    → ArePrefixIn front (byte ∷ []) x
 line_in front byte feed x (more, is) = λ rest.
     let at : lines_from front (10 ∷ rest) ≡ line_before front (lines_from [] rest) = refl in (
       more ++ lines_from [] rest,
@@ -181,8 +181,8 @@ split_at (x ∷ xs) (suc i) d lt = ap (λ (l : List ℕ). x ∷ l) (split_at xs 
 
 -- behind the lines that end in the bytes so far
 pub next_in : (front middle bytes : List ℕ) (i d : ℕ) (x y : List (List ℕ)) → i < length bytes
-    → AreIn front (take i bytes) middle x → AreFrontIn middle (get_or bytes i d ∷ []) y
-    → AreFrontIn front bytes (x ++ y)
+    → AreIn front (take i bytes) middle x → ArePrefixIn middle (get_or bytes i d ∷ []) y
+    → ArePrefixIn front bytes (x ++ y)
 next_in front middle bytes i d x y lt first then = λ rest.
     let behind = drop (suc i) bytes ++ rest in
     let at = then behind in
@@ -196,7 +196,7 @@ next_in front middle bytes i d x y lt first then = λ rest.
 
 -- what a turn takes of the source
 pub front_on : (front taken : List ℕ) (before after : Option (List ℕ)) (x : List (List ℕ))
-    → Consumes before after taken → AreFrontIn front taken x → AreFrontOf front before x
+    → Consumes before after taken → ArePrefixIn front taken x → ArePrefixOf front before x
 front_on front taken None after x consumes lines = λ bytes is. absurd cc
 front_on front taken (Some xs) None x consumes lines = absurd consumes
 front_on front taken (Some xs) (Some ys) x consumes lines = λ bytes is.
@@ -206,22 +206,22 @@ front_on front taken (Some xs) (Some ys) x consumes lines = λ bytes is.
 
 -- behind the turns so far
 pub front_after : (front middle : List ℕ) (a b : Option (List ℕ)) (x y : List (List ℕ))
-    → AreOfTurn true front middle a b x → AreFrontOf middle b y → AreFrontOf front a (x ++ y)
+    → AreOfTurn true front middle a b x → ArePrefixOf middle b y → ArePrefixOf front a (x ++ y)
 front_after front middle a b x y first then = λ bytes is.
     let one = first bytes is in
     let two = then one.0 one.1 in
     (two.0, one.2 ∙ ap (λ (ls : List (List ℕ)). x ++ ls) two.1 ∙ sym (append_assoc x y two.0))
 
 pub front_turns : (front middle : List ℕ) (a b : Option (List ℕ)) (x : List (List ℕ))
-    → AreOfTurn true front middle a b x → AreFrontOf front a x
+    → AreOfTurn true front middle a b x → ArePrefixOf front a x
 front_turns front middle a b x first =
     λ bytes is. let one = first bytes is in (lines_from middle one.0, one.2)
 
 -- ---- a whole run
 
 pub cut_none : (model : List ℕ) (tests lasts : List (List ℕ)) (source : Option (List ℕ))
-    (r s : Option (List Reading)) (a : Option (List ℕ))
-    → HasReadAtMost (length (all_files model tests)) r s → IsCut model tests lasts source r s a a
+    (r s : Option (List FileReading)) (a : Option (List ℕ))
+    → HasReadAtMost (length (all_files model tests)) r s → IsCutRun model tests lasts source r s a a
 cut_none model tests lasts source r s a few = record {
   read = [];
   more = few.read;
@@ -234,9 +234,9 @@ cut_none model tests lasts source r s a few = record {
 }
 
 pub cut_first : (model : List ℕ) (tests lasts : List (List ℕ)) (source : Option (List ℕ))
-    (begins : Standing) (r s : Option (List Reading)) (first : List ℕ) (a b : Option (List ℕ))
-    → HasBegunRun model tests lasts begins r s first → WritesFront a b first
-    → IsCut model tests lasts source r s a b
+    (begins : Standing) (r s : Option (List FileReading)) (first : List ℕ) (a b : Option (List ℕ))
+    → HasBegunRun model tests lasts begins r s first → WritesPrefix a b first
+    → IsCutRun model tests lasts source r s a b
 cut_first model tests lasts source begins r s first a b begun written = record {
   read = begun.read ++ [];
   more = [];
@@ -247,14 +247,14 @@ cut_first model tests lasts source begins r s first a b begun written = record {
       (none_of [] source);
   few = omega arith;
   reads = and_none r s (begun.read ++ []) (and_none r s begun.read begun.reads);
-  front = subst (λ (l : List ℕ). WritesFront a b l) (sym (append_none first)) written;
+  front = subst (λ (l : List ℕ). WritesPrefix a b l) (sym (append_none first)) written;
 }
 
 pub cut_later : (model : List ℕ) (tests lasts : List (List ℕ)) (source : Option (List ℕ))
-    (begins : Standing) (r s t : Option (List Reading)) (first : List ℕ) (a b c : Option (List ℕ))
+    (begins : Standing) (r s t : Option (List FileReading)) (first : List ℕ) (a b c : Option (List ℕ))
     → HasBegunRun model tests lasts begins r s first → Appends a b first
-    → HasFront model tests (AreFrontOf [] source) begins s t b c
-    → IsCut model tests lasts source r t a c
+    → HasAnswersPrefix model tests (ArePrefixOf [] source) begins s t b c
+    → IsCutRun model tests lasts source r t a c
 cut_later model tests lasts source begins r s t first a b c begun gained more = record {
   read = begun.read ++ more.read;
   more = more.more;

@@ -12,10 +12,10 @@ use Rattle.command_line.specs.declared.fault.SessionFault.{SessionFault}
 use Rattle.bench_texts.specs.declared.fault.EditFault.{EditFault}
 use Rattle.watch_run.specs.declared.versions.Version.{Version}
 use Rattle.watch_run.specs.declared.versions.Version.TheVariants.{Text, Unread}
-use Rattle.watch_run.specs.Readings.{Reading, AreRead, HasReadAtMost}
-use Rattle.watch_run.specs.Holding.{Holding, IsTaken, IsVersionRefused, File, TestFile, ModelFile, FilePath, file_at, test_files, all_files}
+use Rattle.watch_run.specs.Readings.{FileReading, AreReadBetween, HasReadAtMost}
+use Rattle.watch_run.specs.Holding.{Holding, IsFileTaken, IsVersionRefused, File, TestFile, ModelFile, FilePath, file_at, test_files, all_files}
 use Rattle.watch_run.specs.Boards.{lists_of}
-use Rattle.watch_run.specs.Runs.{Standing, IsSettled, IsNoted, refusal_of, AreAnswers, NoAnswer, OneMore, AreBegun, NoFile, Begun, NotBegun, IsRun, HasAnswers, line_before, lines_from, IsLine, AreIn, AreOfTurn, AreAll, IsAnswered, HasBegun, BeginsFile, HasBegunRun, NotedTaken, NotedRefused, IsTextAnswer, TextAccepted, TextRefused, IsAnswer, Unwatched, NotRead, Refused, Accepted}
+use Rattle.watch_run.specs.Runs.{Standing, AreLinesSettled, IsTextNoted, file_refusal, AreLineAnswers, NoAnswer, OneMore, AreFilesBegun, NoFile, Begun, NotBegun, IsWatchRun, HasLineAnswers, line_before, lines_from, IsLineAlone, AreIn, AreOfTurn, AreAll, IsLineAnswered, HasBegunFiles, BeginsFile, HasBegunRun, NotedTaken, NotedRefused, IsTextAnswer, TextAccepted, TextRefused, IsLineAnswer, Unwatched, NotRead, Refused, Accepted}
 
 pub append_none : {A : Type 0} (xs : List A) → xs ++ [] ≡ xs
 append_none [] = refl
@@ -23,27 +23,27 @@ append_none (x ∷ xs) = ap (λ ys. x ∷ ys) (append_none xs)
 
 -- ---- readings
 
-pub read_none : (a : Option (List Reading)) → AreRead a a []
+pub read_none : (a : Option (List FileReading)) → AreReadBetween a a []
 read_none None = refl
-read_none (Some xs) = ap (λ (l : List Reading). Some l) (sym (append_none xs))
+read_none (Some xs) = ap (λ (l : List FileReading). Some l) (sym (append_none xs))
 
-pub read_more : (a b c : Option (List Reading)) (xs ys : List Reading) → AreRead a b xs
-    → AreRead b c ys → AreRead a c (xs ++ ys)
+pub read_more : (a b c : Option (List FileReading)) (xs ys : List FileReading) → AreReadBetween a b xs
+    → AreReadBetween b c ys → AreReadBetween a c (xs ++ ys)
 read_more None b c xs ys first more =
-    subst (λ (o : Option (List Reading)). AreRead o c ys) first more
+    subst (λ (o : Option (List FileReading)). AreReadBetween o c ys) first more
 read_more (Some rs) b c xs ys first more =
-    let then : AreRead (Some (rs ++ xs)) c ys = subst (λ (o : Option (List Reading)). AreRead o c ys) first more in
-    then ∙ ap (λ (l : List Reading). Some l) (append_assoc rs xs ys)
+    let then : AreReadBetween (Some (rs ++ xs)) c ys = subst (λ (o : Option (List FileReading)). AreReadBetween o c ys) first more in
+    then ∙ ap (λ (l : List FileReading). Some l) (append_assoc rs xs ys)
 
 -- no reading, one, and as many as may be
-pub none_read : (r : Option (List Reading)) → HasReadAtMost 1 r r
+pub none_read : (r : Option (List FileReading)) → HasReadAtMost 1 r r
 none_read r = record { read = []; few = omega arith; are = read_none r }
 
-pub one_read : (r s : Option (List Reading)) (reading : Reading) → AreRead r s (reading ∷ [])
+pub one_read : (r s : Option (List FileReading)) (reading : FileReading) → AreReadBetween r s (reading ∷ [])
     → HasReadAtMost 1 r s
 one_read r s reading are = record { read = reading ∷ []; few = omega arith; are = are }
 
-pub few_read : (n m : ℕ) (r s : Option (List Reading)) → n ≤ m → HasReadAtMost n r s
+pub few_read : (n m : ℕ) (r s : Option (List FileReading)) → n ≤ m → HasReadAtMost n r s
     → HasReadAtMost m r s
 few_read n m r s within h =
     record { read = h.read; few = omega (arith, within, h.few); are = h.are }
@@ -52,17 +52,17 @@ few_read n m r s within h =
 
 -- nothing was answered
 pub gains_none : (model : List ℕ) (tests : List (List ℕ)) (asks : List (List ℕ) → Type 0)
-    (standing : Standing) (r : Option (List Reading)) (a : Option (List ℕ))
-    → asks [] → HasAnswers model tests asks standing standing r r a a
+    (standing : Standing) (r : Option (List FileReading)) (a : Option (List ℕ))
+    → asks [] → HasLineAnswers model tests asks standing standing r r a a
 gains_none model tests asks standing r a asked =
     record { lines = []; asked = asked; read = []; text = []; answers = NoAnswer standing; reads = read_none r; gains = Appends-nil a }
 
 -- one line was
 pub gains_one : (model : List ℕ) (tests : List (List ℕ)) (asks : List (List ℕ) → Type 0)
-    (line : List ℕ) (old new : Standing) (r s : Option (List Reading)) (said : List ℕ)
+    (line : List ℕ) (old new : Standing) (r s : Option (List FileReading)) (said : List ℕ)
     (a b : Option (List ℕ))
-    → asks (line ∷ []) → IsAnswered line (file_at model tests line) old new r s said
-    → Appends a b said → HasAnswers model tests asks old new r s a b
+    → asks (line ∷ []) → IsLineAnswered line (file_at model tests line) old new r s said
+    → Appends a b said → HasLineAnswers model tests asks old new r s a b
 gains_one model tests asks line old new r s said a b asked answered gained = record {
   lines = [] ++ line ∷ [];
   asked = asked;
@@ -74,29 +74,29 @@ gains_one model tests asks line old new r s said a b asked answered gained = rec
 }
 
 pub answers_joined : (model : List ℕ) (tests : List (List ℕ)) (before after : List (List ℕ))
-    (old middle new : Standing) (read more : List Reading) (x y : List ℕ)
-    → AreAnswers model tests before old middle read x
-    → AreAnswers model tests after middle new more y
-    → AreAnswers model tests (before ++ after) old new (read ++ more) (x ++ y)
+    (old middle new : Standing) (read more : List FileReading) (x y : List ℕ)
+    → AreLineAnswers model tests before old middle read x
+    → AreLineAnswers model tests after middle new more y
+    → AreLineAnswers model tests (before ++ after) old new (read ++ more) (x ++ y)
 answers_joined model tests before after old middle new read more x y first (NoAnswer standing) =
-    subst (λ (ls : List (List ℕ)). AreAnswers model tests ls old standing (read ++ []) (x ++ []))
+    subst (λ (ls : List (List ℕ)). AreLineAnswers model tests ls old standing (read ++ []) (x ++ []))
     (sym (append_none before))
-    (subst (λ (r : List Reading). AreAnswers model tests before old standing r (x ++ []))
+    (subst (λ (r : List FileReading). AreLineAnswers model tests before old standing r (x ++ []))
     (sym (append_none read))
-    (subst (λ (text : List ℕ). AreAnswers model tests before old standing read text)
+    (subst (λ (text : List ℕ). AreLineAnswers model tests before old standing read text)
     (sym (append_none x)) first))
 answers_joined model tests before after old middle new read more x y first
     (OneMore lines line from through to readings others text said answered answer) =
     subst
     (λ (ls : List (List ℕ)).
-    AreAnswers model tests ls old new (read ++ (readings ++ others)) (x ++ (text ++ said)))
+    AreLineAnswers model tests ls old new (read ++ (readings ++ others)) (x ++ (text ++ said)))
     (append_assoc before lines (line ∷ []))
     (subst
-    (λ (r : List Reading).
-    AreAnswers model tests ((before ++ lines) ++ line ∷ []) old new r (x ++ (text ++ said)))
+    (λ (r : List FileReading).
+    AreLineAnswers model tests ((before ++ lines) ++ line ∷ []) old new r (x ++ (text ++ said)))
     (append_assoc read readings others)
     (subst
-    (λ (all : List ℕ). AreAnswers model tests ((before ++ lines) ++ line ∷ []) old new
+    (λ (all : List ℕ). AreLineAnswers model tests ((before ++ lines) ++ line ∷ []) old new
     ((read ++ readings) ++ others) all)
     (append_assoc x text said)
     (OneMore (before ++ lines) line old through new (read ++ readings) others (x ++ text) said
@@ -104,10 +104,10 @@ answers_joined model tests before after old middle new read more x y first
     answer)))
 
 pub gains_joined : (model : List ℕ) (tests : List (List ℕ)) (one two all : List (List ℕ) → Type 0)
-    (old middle new : Standing) (r s t : Option (List Reading)) (a b c : Option (List ℕ))
+    (old middle new : Standing) (r s t : Option (List FileReading)) (a b c : Option (List ℕ))
     → ((x y : List (List ℕ)) → one x → two y → all (x ++ y))
-    → HasAnswers model tests one old middle r s a b → HasAnswers model tests two middle new s t b c
-    → HasAnswers model tests all old new r t a c
+    → HasLineAnswers model tests one old middle r s a b → HasLineAnswers model tests two middle new s t b c
+    → HasLineAnswers model tests all old new r t a c
 gains_joined model tests one two all old middle new r s t a b c law x y = record {
   lines = x.lines ++ y.lines;
   asked = law x.lines y.lines x.asked y.asked;
@@ -159,12 +159,12 @@ in_byte front left byte other kept = λ rest. elim (cases_Bool (byte == 10)) [
 ]
 
 -- an empty line is none, and another is one
-pub empty_line : (line : List ℕ) (is : Bool) → is ≡ (length line == 0) → is ≡ true → IsLine line []
+pub empty_line : (line : List ℕ) (is : Bool) → is ≡ (length line == 0) → is ≡ true → IsLineAlone line []
 empty_line [] is e t = refl
 empty_line (b ∷ line) is e t = absurd (not_zero (length line) (sym e ∙ t))
 
 pub full_line : (line : List ℕ) (is : Bool) → is ≡ (length line == 0) → is ≡ false
-    → IsLine line (line ∷ [])
+    → IsLineAlone line (line ∷ [])
 full_line [] is e f = absurd (true_not (sym e ∙ f))
 full_line (b ∷ line) is e f = refl
 
@@ -224,25 +224,25 @@ start_turn line a none =
 
 -- ---- the beginning
 
-pub begun_none : (standing : Standing) (r : Option (List Reading))
-    → HasBegun [] standing standing r r []
+pub begun_none : (standing : Standing) (r : Option (List FileReading))
+    → HasBegunFiles [] standing standing r r []
 begun_none standing r = record { read = []; begun = NoFile standing; reads = read_none r }
 
 -- with one file more
 pub begun_more : (files : List FilePath) (file : FilePath) (old middle new : Standing)
-    (r s t : Option (List Reading)) (before after : List ℕ)
-    → HasBegun files old middle r s before → BeginsFile file middle new s t before after
-    → HasBegun (files ++ file ∷ []) old new r t after
+    (r s t : Option (List FileReading)) (before after : List ℕ)
+    → HasBegunFiles files old middle r s before → BeginsFile file middle new s t before after
+    → HasBegunFiles (files ++ file ∷ []) old new r t after
 begun_more files file old middle new r s t before after h
     (text, reads, true, NotedTaken held taken same is) = record {
       read = h.read ++ record { path = file.path; version = Text text } ∷ [];
       begun =
           subst
-          (λ (told : List ℕ). AreBegun (files ++ file ∷ []) old new
+          (λ (told : List ℕ). AreFilesBegun (files ++ file ∷ []) old new
           (h.read ++ record { path = file.path; version = Text text } ∷ []) told)
           (sym is)
           (subst
-          (λ (n : Standing). AreBegun (files ++ file ∷ []) old n
+          (λ (n : Standing). AreFilesBegun (files ++ file ∷ []) old n
           (h.read ++ record { path = file.path; version = Text text } ∷ []) before)
           (sym same)
           (Begun files file text old middle held h.read before h.begun taken));
@@ -255,13 +255,13 @@ begun_more files file old middle new r s t before after h
       read = h.read ++ record { path = file.path; version = Text text } ∷ [];
       begun =
           subst
-          (λ (told : List ℕ). AreBegun (files ++ file ∷ []) old new
+          (λ (told : List ℕ). AreFilesBegun (files ++ file ∷ []) old new
           (h.read ++ record { path = file.path; version = Text text } ∷ []) told)
           (sym is)
           (subst
-          (λ (n : Standing). AreBegun (files ++ file ∷ []) old n
+          (λ (n : Standing). AreFilesBegun (files ++ file ∷ []) old n
           (h.read ++ record { path = file.path; version = Text text } ∷ [])
-          (before ++ refusal_of file.path fault))
+          (before ++ file_refusal file.path fault))
           (sym same)
           (NotBegun files file text old middle h.read before fault h.begun refused));
       reads =
@@ -288,9 +288,9 @@ one_file n (suc i) (x ∷ xs) d lt =
 
 -- the file of the model is begun
 pub begun_first : (model : List ℕ) (tests : List (Bor (List ℕ))) (old new : Standing)
-    (r s : Option (List Reading)) (after : List ℕ)
+    (r s : Option (List FileReading)) (after : List ℕ)
     → BeginsFile (record { file = ModelFile; path = model }) old new r s [] after
-    → HasBegun
+    → HasBegunFiles
     (record { file = ModelFile; path = model } ∷ take 0 (test_files 0 (map (λ t. t.now) tests)))
     old new r s after
 begun_first model tests old new r s after begins =
@@ -299,14 +299,14 @@ begun_first model tests old new r s after begins =
 
 -- and the file of one test more
 pub begun_next : (model : List ℕ) (tests : List (Bor (List ℕ))) (i : ℕ) (d : Bor (List ℕ))
-    (old middle new : Standing) (r s t : Option (List Reading)) (before after : List ℕ)
+    (old middle new : Standing) (r s t : Option (List FileReading)) (before after : List ℕ)
     → i < length tests
-    → HasBegun
+    → HasBegunFiles
     (record { file = ModelFile; path = model } ∷ take i (test_files 0 (map (λ t. t.now) tests)))
     old middle r s before
     → BeginsFile (record { file = TestFile i; path = (get_or tests i d).now }) middle new s t before
     after
-    → HasBegun
+    → HasBegunFiles
     (record { file = ModelFile; path = model }
     ∷ take (i + 1) (test_files 0 (map (λ t. t.now) tests))) old new r t after
 begun_next model tests i d old middle new r s t before after lt begun begins =
@@ -320,7 +320,7 @@ begun_next model tests i d old middle new r s t before after lt begun begins =
     ∙ ap (λ (k : ℕ). take i files ++ record { file = TestFile k; path = path } ∷ []) none in
     let all : (first ∷ take i files) ++ record { file = TestFile i; path = path } ∷ [] ≡ first ∷ take (i + 1) files =
     ap (λ (l : List FilePath). first ∷ l) (sym more ∙ ap (λ (n : ℕ). take n files) one) in
-    subst (λ (l : List FilePath). HasBegun l old new r t after) all
+    subst (λ (l : List FilePath). HasBegunFiles l old new r t after) all
     (begun_more (first ∷ take i files) (record { file = TestFile i; path = path }) old middle new r
     s t before after begun begins)
 
@@ -337,37 +337,37 @@ taken_all (suc i) (x ∷ xs) le = ap (λ l. x ∷ l) (taken_all i xs (omega (ari
 
 -- all files were begun
 pub begun_all : (model : List ℕ) (tests : List (Bor (List ℕ))) (i : ℕ) (old new : Standing)
-    (r s : Option (List Reading)) (told : List ℕ) → length tests ≤ i
-    → HasBegun
+    (r s : Option (List FileReading)) (told : List ℕ) → length tests ≤ i
+    → HasBegunFiles
     (record { file = ModelFile; path = model } ∷ take i (test_files 0 (map (λ t. t.now) tests)))
     old new r s told
-    → HasBegun (all_files model (map (λ t. t.now) tests)) old new r s told
+    → HasBegunFiles (all_files model (map (λ t. t.now) tests)) old new r s told
 begun_all model tests i old new r s told end begun =
     let files = test_files 0 (map (λ t. t.now) tests) in
     subst
     (λ (l : List FilePath).
-    HasBegun (record { file = ModelFile; path = model } ∷ l) old new r s told)
+    HasBegunFiles (record { file = ModelFile; path = model } ∷ l) old new r s told)
     (taken_all i files (omega (arith, end, files_long 0 tests))) begun
 
 -- for each file that was begun one was read
-begun_long : (files : List FilePath) (old new : Standing) (read : List Reading) (told : List ℕ)
-    → AreBegun files old new read told → length read ≡ length files
+begun_long : (files : List FilePath) (old new : Standing) (read : List FileReading) (told : List ℕ)
+    → AreFilesBegun files old new read told → length read ≡ length files
 begun_long files old new read told (NoFile standing) = refl
 begun_long files old new read told
     (Begun before file text from middle held readings said begun taken) =
-    let reading : Reading = record { path = file.path; version = Text text } in
+    let reading : FileReading = record { path = file.path; version = Text text } in
     length-append readings (reading ∷ [])
     ∙ ap (λ (n : ℕ). n + 1) (begun_long before from middle readings said begun)
     ∙ sym (length-append before (file ∷ []))
 begun_long files old new read told
     (NotBegun before file text from middle readings said fault begun refused) =
-    let reading : Reading = record { path = file.path; version = Text text } in
+    let reading : FileReading = record { path = file.path; version = Text text } in
     length-append readings (reading ∷ [])
     ∙ ap (λ (n : ℕ). n + 1) (begun_long before from middle readings said begun)
     ∙ sym (length-append before (file ∷ []))
 
-pub begun_few : (files : List FilePath) (old new : Standing) (r s : Option (List Reading))
-    (told : List ℕ) → HasBegun files old new r s told → HasReadAtMost (length files) r s
+pub begun_few : (files : List FilePath) (old new : Standing) (r s : Option (List FileReading))
+    (told : List ℕ) → HasBegunFiles files old new r s told → HasReadAtMost (length files) r s
 begun_few files old new r s told begun = record {
   read = begun.read;
   few = omega (arith, begun_long files old new begun.read told begun.begun);
@@ -376,8 +376,8 @@ begun_few files old new r s told begun = record {
 
 -- the files of the model and of tests so far, and one more
 pub begun_and_one : (model : List ℕ) (tests : List (Bor (List ℕ))) (i : ℕ) (old new : Standing)
-    (r s t : Option (List Reading)) (told : List ℕ) → i < length tests
-    → HasBegun
+    (r s t : Option (List FileReading)) (told : List ℕ) → i < length tests
+    → HasBegunFiles
     (record { file = ModelFile; path = model }
     ∷ take i (test_files 0 (map (λ t. t.now) tests))) old new r s told
     → HasReadAtMost 1 s t
@@ -398,8 +398,8 @@ begun_and_one model tests i old new r s t told lt begun one =
 -- a text is taken
 pub noted_taken : (file : File) (path text : List ℕ) (old new : Holding)
     (lines others : Vec (Vec ℕ Global) Global) (was is : Bool) (before after : List ℕ)
-    → IsTaken file text old new → others ≡ lines → is ≡ was → after ≡ before
-    → IsNoted file path text (record { held = old; lines = lists_of lines.items; refused = was })
+    → IsFileTaken file text old new → others ≡ lines → is ≡ was → after ≡ before
+    → IsTextNoted file path text (record { held = old; lines = lists_of lines.items; refused = was })
     (record { held = new; lines = lists_of others.items; refused = is }) before after true
 noted_taken file path text old new lines others was is before after taken same refused told =
     NotedTaken new taken
@@ -414,8 +414,8 @@ pub noted_refused : (file : File) (path text : List ℕ) (old new : Holding)
     (lines others : Vec (Vec ℕ Global) Global) (fault : EditFault) (was : Bool)
     (before after : List ℕ)
     → IsVersionRefused file text old.texts fault → new ≡ old → others ≡ lines
-    → after ≡ before ++ refusal_of path fault
-    → IsNoted file path text (record { held = old; lines = lists_of lines.items; refused = was })
+    → after ≡ before ++ file_refusal path fault
+    → IsTextNoted file path text (record { held = old; lines = lists_of lines.items; refused = was })
     (record { held = new; lines = lists_of others.items; refused = true }) before after false
 noted_refused file path text old new lines others fault was before after refused same kept told =
     NotedRefused fault refused
@@ -430,7 +430,7 @@ noted_refused file path text old new lines others fault was before after refused
 -- of a text that is accepted, after which the lines are written
 pub text_accepted : (file : File) (path text : List ℕ) (old middle new : Standing)
     (before mid said : List ℕ) (accepted : Bool) → before ≡ [] → accepted ≡ true
-    → IsNoted file path text old middle before mid accepted → IsSettled middle new mid said
+    → IsTextNoted file path text old middle before mid accepted → AreLinesSettled middle new mid said
     → IsTextAnswer file path text old new said
 text_accepted file path text old middle new before mid said true none is
     (NotedTaken held taken same told) settled =
@@ -438,8 +438,8 @@ text_accepted file path text old middle new before mid said true none is
       held = held;
       taken = taken;
       settled =
-          subst (λ (x : Standing). IsSettled x new [] said) same (subst
-          (λ (l : List ℕ). IsSettled middle new l said) (told ∙ none) settled);
+          subst (λ (x : Standing). AreLinesSettled x new [] said) same (subst
+          (λ (l : List ℕ). AreLinesSettled middle new l said) (told ∙ none) settled);
     })
 text_accepted file path text old middle new before mid said false none is noted settled =
     absurd (true_not (sym is))
@@ -447,21 +447,21 @@ text_accepted file path text old middle new before mid said false none is noted 
 -- and of one that is refused
 pub text_refused : (file : File) (path text : List ℕ) (old new : Standing) (before said : List ℕ)
     (accepted : Bool) → before ≡ [] → accepted ≡ false
-    → IsNoted file path text old new before said accepted → IsTextAnswer file path text old new said
+    → IsTextNoted file path text old new before said accepted → IsTextAnswer file path text old new said
 text_refused file path text old new before said false none is
     (NotedRefused fault refused stands told) =
     TextRefused (record {
       fault = fault;
       refused = refused;
       stands = stands;
-      is = told ∙ ap (λ (l : List ℕ). l ++ refusal_of path fault) none;
+      is = told ∙ ap (λ (l : List ℕ). l ++ file_refusal path fault) none;
     })
 text_refused file path text old new before said true none is noted = absurd (true_not is)
 
 answered_text : (path : List ℕ) (old new : Standing) (file : File) (text : Vec ℕ Global)
     (said : List ℕ)
     → IsTextAnswer file path text.items old new said
-    → IsAnswer path old new (Some file) (record { path = path; version = Text text } ∷ []) said
+    → IsLineAnswer path old new (Some file) (record { path = path; version = Text text } ∷ []) said
 answered_text path old new file text said (TextAccepted accepted) = Accepted file text said accepted
 answered_text path old new file text said (TextRefused refused) = Refused file text said refused
 
@@ -470,12 +470,12 @@ pub text_answered : (path : List ℕ) (old new : Standing) (file : File) (versio
     (text : Vec ℕ Global) → version ≡ Text text
     → (r : Result (Vec ℕ Global) SessionFault)
     → IfOk r (λ t. IsTextAnswer file path text.items old new t.items)
-    → IfOk r (λ t. IsAnswer path old new (Some file)
+    → IfOk r (λ t. IsLineAnswer path old new (Some file)
     (record { path = path; version = version } ∷ []) t.items)
 text_answered path old new file version text is (Ok t) answer =
     subst
     (λ (v : Version).
-    IsAnswer path old new (Some file) (record { path = path; version = v } ∷ []) t.items)
+    IsLineAnswer path old new (Some file) (record { path = path; version = v } ∷ []) t.items)
     (sym is)
     (answered_text path old new file text t.items answer)
 text_answered path old new file version text is (Err fault) answer = tt
@@ -484,24 +484,24 @@ text_answered path old new file version text is (Err fault) answer = tt
 pub unread_answered : (path : List ℕ) (standing : Standing) (file : File) (said : List ℕ)
     (version : Version) → version ≡ Unread
     → said ≡ path ++ (codes ": not read" ++ 10 ∷ [])
-    → IsAnswer path standing standing (Some file)
+    → IsLineAnswer path standing standing (Some file)
     (record { path = path; version = version } ∷ []) said
 unread_answered path standing file said version is told =
     subst
-    (λ (v : Version). IsAnswer path standing standing (Some file)
+    (λ (v : Version). IsLineAnswer path standing standing (Some file)
     (record { path = path; version = v } ∷ []) said)
     (sym is)
     (NotRead file said refl told)
 
 -- of a path that is no file's
 pub unwatched_answered : (path : List ℕ) (file : Option File) (standing : Standing)
-    (r : Option (List Reading)) (said : List ℕ) → None ≡ file
+    (r : Option (List FileReading)) (said : List ℕ) → None ≡ file
     → said ≡ path ++ (codes ": not watched" ++ 10 ∷ [])
-    → IsAnswered path file standing standing r r said
+    → IsLineAnswered path file standing standing r r said
 unwatched_answered path file standing r said is told = record {
   read = [];
   answer =
-      subst (λ (f : Option File). IsAnswer path standing standing f [] said) is
+      subst (λ (f : Option File). IsLineAnswer path standing standing f [] said) is
       (Unwatched said refl told);
   reads = read_none r;
 }
@@ -509,11 +509,11 @@ unwatched_answered path file standing r said is told = record {
 -- ---- a whole run
 
 pub run_of : (model : List ℕ) (tests lasts : List (List ℕ)) (source : Option (List ℕ))
-    (begins ends : Standing) (r s t : Option (List Reading)) (first : List ℕ)
+    (begins ends : Standing) (r s t : Option (List FileReading)) (first : List ℕ)
     (a b c : Option (List ℕ))
     → HasBegunRun model tests lasts begins r s first → Appends a b first
-    → HasAnswers model tests (AreAll source) begins ends s t b c
-    → IsRun model tests lasts ends.refused source r t a c
+    → HasLineAnswers model tests (AreAll source) begins ends s t b c
+    → IsWatchRun model tests lasts ends.refused source r t a c
 run_of model tests lasts source begins ends r s t first a b c begun gained more = record {
   begins = begins;
   ends = ends;

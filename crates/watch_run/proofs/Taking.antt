@@ -17,17 +17,17 @@ use Rattle.bench_texts.specs.declared.fault.EditFault.TheVariants as faults
 use Rattle.bench_texts.specs.BenchTexts.{BenchTexts, test_index, put_at, changed_at, with_init, with_thread, with_condition, with_observed}
 use Rattle.bench_texts.specs.Edits.{Edit, PutTest, DropTest, SetInit, SetThread, SetCond, SetLocations, PutModel, DropModel, SetItem, InsertItem, RemoveItem, Applies, has_test, thread_count, unless}
 use Rattle.bench_texts.specs.declared.model.NamedModel.{NamedModel}
-use Rattle.bench_texts.specs.Held.{model_of}
+use Rattle.bench_texts.specs.Held.{plain_model}
 use Rattle.session_answers.specs.Cells.{test_named, model_named}
 use Rattle.session_answers.proofs.Named.{clauses_of-items}
-use Rattle.watch_edits.specs.Changes.{all_applied}
-use Rattle.watch_edits.specs.Parts.{all_put}
+use Rattle.watch_edits.specs.Changes.{with_changes}
+use Rattle.watch_edits.specs.Parts.{with_parts}
 use Rattle.watch_edits.specs.Edits.{IsPartEdit, item_edit}
 use Rattle.watch_edits.specs.declared.items.ItemChange.{ItemChange}
 use Rattle.watch_edits.specs.declared.items.ItemChange.TheVariants as changes
 use Rattle.watch_edits.specs.declared.parts.TestPart.{TestPart}
-use Rattle.watch_run.specs.Holding.{Holding, model_name, name_at, without_unheld, tests_left, HoldsItems, IsTestTaken}
-use Rattle.watch_run.specs.Edits.{IsMade, IsOfModel, AreChanges, AreParts, AreSameBut}
+use Rattle.watch_run.specs.Holding.{Holding, model_name, held_name, without_unheld, tests_left, HoldsItems, IsTestTaken}
+use Rattle.watch_run.specs.Edits.{IsEditTried, IsModelEdit, AreChanges, AreTestParts, AreSameBut}
 use Rattle.watch_run.proofs.Lists.{put_same, put_twice, IsPut, changed_is_put, index_put, nothing_of}
 
 -- ---- bytes
@@ -53,8 +53,8 @@ test_inside t test later e =
 
 -- ---- edits of models
 
-pub model_keeps_tests : (t : BenchTexts) (e : Edit) → IsOfModel e
-    → (o : Option EditFault) (new : BenchTexts) → IsMade t e o new → new.tests ≡ t.tests
+pub model_keeps_tests : (t : BenchTexts) (e : Edit) → IsModelEdit e
+    → (o : Option EditFault) (new : BenchTexts) → IsEditTried t e o new → new.tests ≡ t.tests
 model_keeps_tests t (PutTest text) of o new made = absurd of
 model_keeps_tests t (DropTest test) of o new made = absurd of
 model_keeps_tests t (SetInit test text) of o new made = absurd of
@@ -137,7 +137,7 @@ one_changed f keeps name test t new later same there is = record {
 }
 
 pub part_keeps : (t : BenchTexts) (e : Edit) (name : List ℕ) → IsPartEdit name e
-    → (o : Option EditFault) (new : BenchTexts) → IsMade t e o new → IsOneTest name t new
+    → (o : Option EditFault) (new : BenchTexts) → IsEditTried t e o new → IsOneTest name t new
 part_keeps t (PutTest text) name of o new made = absurd of
 part_keeps t (DropTest test) name of o new made = absurd of
 part_keeps t (PutModel model text) name of o new made = absurd of
@@ -218,15 +218,15 @@ put_whole a t new text c only but made =
 -- ---- what changes and parts make
 
 pub changes_of : (t : BenchTexts) (m : NamedModel) (new : List Clause) (cs : List ItemChange)
-    → Some (model_of m) ≡ model_named t model_name
-    → all_applied new cs (clauses_of m.text.items.items) ≡ new → AreChanges t new cs
+    → Some (plain_model m) ≡ model_named t model_name
+    → with_changes new cs (clauses_of m.text.items.items) ≡ new → AreChanges t new cs
 changes_of t m new cs there applied =
     let long : length m.numbers.items ≡ length m.text.items.items = omega (arith, m.paired, m.numbers.ok.0, m.text.items.ok.0) in
     record {
-      model = model_of m;
+      model = plain_model m;
       there = sym there;
       applied =
-          subst (λ (l : List Clause). all_applied new cs l ≡ new)
+          subst (λ (l : List Clause). with_changes new cs l ≡ new)
           (clauses_of-items m.numbers.items m.text.items.items long) applied;
     }
 
@@ -239,36 +239,36 @@ pub items_held : (t : BenchTexts) (new : List Clause) (v : Vec ItemChange Global
     → AreChanges t new v.items → is ≡ (vec_len v == 0) → IsTrue is → HoldsItems new t
 items_held t new v is lead empty full =
     let none : v.items ≡ [] = none_in v (sym empty ∙ full) in
-    record { model = lead.model; there = lead.there; are = subst (λ (cs : List ItemChange). all_applied new cs (map (λ i. i.clause) lead.model.items) ≡ new) none lead.applied }
+    record { model = lead.model; there = lead.there; are = subst (λ (cs : List ItemChange). with_changes new cs (map (λ i. i.clause) lead.model.items) ≡ new) none lead.applied }
 
 pub parts_of : (t : BenchTexts) (old : Test) (new : Content) (ps : List TestPart)
-    → Some (content_of old) ≡ test_named t new.name → all_put new ps (content_of old) ≡ new
-    → AreParts t new ps
+    → Some (content_of old) ≡ test_named t new.name → with_parts new ps (content_of old) ≡ new
+    → AreTestParts t new ps
 parts_of t old new ps there put = record { test = content_of old; there = sym there; put = put }
 
 pub test_held : (t : BenchTexts) (new : Content) (v : Vec TestPart Global) (is : Bool)
-    → AreParts t new v.items → is ≡ (vec_len v == 0) → IsTrue is → test_named t new.name ≡ Some new
+    → AreTestParts t new v.items → is ≡ (vec_len v == 0) → IsTrue is → test_named t new.name ≡ Some new
 test_held t new v is lead empty full =
     let none : v.items ≡ [] = none_in v (sym empty ∙ full) in
-    let same : lead.test ≡ new = subst (λ (ps : List TestPart). all_put new ps lead.test ≡ new) none lead.put in
+    let same : lead.test ≡ new = subst (λ (ps : List TestPart). with_parts new ps lead.test ≡ new) none lead.put in
     lead.there ∙ ap (λ (c : Content). Some c) same
 
 pub change_of_model : (e : Edit) (name numbers : List ℕ) (new : List Clause) (change : ItemChange)
-    → e ≡ item_edit name numbers new change → IsOfModel e
+    → e ≡ item_edit name numbers new change → IsModelEdit e
 change_of_model e name numbers new (changes.Set i) is =
-    subst (λ (x : Edit). IsOfModel x) (sym is) tt
+    subst (λ (x : Edit). IsModelEdit x) (sym is) tt
 change_of_model e name numbers new (changes.Insert i) is =
-    subst (λ (x : Edit). IsOfModel x) (sym is) tt
+    subst (λ (x : Edit). IsModelEdit x) (sym is) tt
 change_of_model e name numbers new (changes.Remove i) is =
-    subst (λ (x : Edit). IsOfModel x) (sym is) tt
+    subst (λ (x : Edit). IsModelEdit x) (sym is) tt
 
 pub part_tests : (t : BenchTexts) (e : Edit) (name : List ℕ) → IsPartEdit name e
-    → (o : Option EditFault) (new : BenchTexts) → IsMade t e o new
+    → (o : Option EditFault) (new : BenchTexts) → IsEditTried t e o new
     → AreSameBut name t.tests new.tests
 part_tests t e name of o new made = (part_keeps t e name of o new made).tests
 
 pub part_models : (t : BenchTexts) (e : Edit) (name : List ℕ) → IsPartEdit name e
-    → (o : Option EditFault) (new : BenchTexts) → IsMade t e o new → new.models ≡ t.models
+    → (o : Option EditFault) (new : BenchTexts) → IsEditTried t e o new → new.models ≡ t.models
 part_models t e name of o new made = (part_keeps t e name of o new made).models
 
 -- ---- a version of a test's file is taken
@@ -276,7 +276,7 @@ part_models t e name of o new made = (part_keeps t e name of o new made).models
 pub test_taken : (index : ℕ) (text name : List ℕ) (old : Holding) (held : Option (List ℕ))
     (names : List (Option (List ℕ))) (middle new : BenchTexts) (c : Content)
     → ReadsTest text c → name ≡ c.name → names ≡ changed_at index (λ o. Some name) old.names
-    → held ≡ name_at index old.names
+    → held ≡ held_name index old.names
     → middle.tests ≡ without_unheld held names old.texts.tests → middle.models ≡ old.texts.models
     → new.tests ≡ put_at (test_index c.name middle.tests) c middle.tests
     → new.models ≡ middle.models
@@ -288,5 +288,5 @@ test_taken index text name old held names middle new c reads name_is named held_
     left ∙ ap (λ (h : Option (List ℕ)). without_unheld h names old.texts.tests) held_is
     ∙ ap
     (λ (ns : List (Option (List ℕ))).
-    without_unheld (name_at index old.names) ns old.texts.tests) changed in
+    without_unheld (held_name index old.names) ns old.texts.tests) changed in
     record { test = c; reads = reads; names = changed; tests = put ∙ ap (λ (ts : List Content). put_at (test_index c.name ts) c ts) stays; models = models ∙ kept }

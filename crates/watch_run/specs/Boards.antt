@@ -1,5 +1,5 @@
 -- The lines of files as a board shows them, and what a viewer knows of its texts. Read after Runs.
-use Rattle.std.specs.Prelude.{◌≡◌, ◌≢◌, ◌<◌, ◌-◌, ◌^◌, ℕ, Bool, List, [], map, Option, Some, None, Vec}
+use Rattle.std.specs.Prelude.{◌≡◌, ◌≢◌, ℕ, Bool, List, [], map, Option, Some, None, Vec}
 use Rattle.std.specs.declared.alloc.Global.{Global}
 use Rattle.std.specs.List.{AllByRecursion as Each}
 use Rattle.outcome_texts.specs.Cells.{Open}
@@ -7,48 +7,44 @@ use Rattle.bench_texts.specs.BenchTexts.{BenchTexts}
 use Rattle.bench_texts.specs.Held.{texts_of}
 use Rattle.bench_texts.specs.declared.texts.Texts.{Texts}
 use Rattle.board.specs.declared.operation.BoardOp.{BoardOp}
-use Rattle.board.specs.Contents.{shown}
+use Rattle.board.specs.Contents.{cell_named}
 use Rattle.board.specs.Operations.{board_after}
 use Rattle.board.specs.Legal.{IsLegal}
 use Rattle.board.specs.Results.{ShowsRightCells}
 use Rattle.board.specs.Edits.{edit_count}
-use Rattle.session_views.specs.Knowing.{KnowsOwn}
+use Rattle.session_views.specs.Knowing.{KnowsTexts}
 use Rattle.watch_run.specs.Holding.{Holding, model_name}
 use Rattle.watch_run.specs.Lines.{test_table, behind_line}
-use Rattle.watch_run.specs.Edits.{held_of}
+use Rattle.watch_run.specs.Edits.{holding_of}
 use Rattle.watch_run.specs.Runs.{Standing}
 use Rattle.watch_run.specs.declared.watched.Watched.{Watched}
 use Rattle.watch_run.specs.declared.answers.Run.{Run}
 
--- the viewer has seen these operations, of which it made so many edits: it knows by them that its
--- own texts are these
-abbrev pub KnowsTexts : List BoardOp → ℕ → BenchTexts → Type 0
-KnowsTexts seen made texts = (made < 2 ^ 64 - 1) × KnowsOwn seen made texts
-
 -- the line of a test on the board after these operations
 abbrev pub shown_line : List BoardOp → List ℕ → List ℕ
-shown_line ops name = behind_line (test_table name (shown (board_after ops) name model_name))
+shown_line ops name = behind_line (test_table name (cell_named (board_after ops) name model_name))
 
 -- the cell of the test is settled, or there is none
-abbrev pub IsClosed : List BoardOp → List ℕ → Type 0
-IsClosed ops name = shown (board_after ops) name model_name ≢ Open
+abbrev pub IsCellClosed : List BoardOp → List ℕ → Type 0
+IsCellClosed ops name = cell_named (board_after ops) name model_name ≢ Open
 
 -- the same of the test that a file holds
-abbrev pub shown_by : List BoardOp → Option (List ℕ) → List ℕ
-shown_by ops None = []
-shown_by ops (Some name) = shown_line ops name
+abbrev pub shown_line_of : List BoardOp → Option (List ℕ) → List ℕ
+shown_line_of ops None = []
+shown_line_of ops (Some name) = shown_line ops name
 
 abbrev pub IsClosedBy : List BoardOp → Option (List ℕ) → Type 0
 IsClosedBy ops None = Unit {0}
-IsClosedBy ops (Some name) = IsClosed ops name
+IsClosedBy ops (Some name) = IsCellClosed ops name
 
 -- the lines of all files on the board after these operations
 abbrev pub shown_lines : List BoardOp → List (Option (List ℕ)) → List (List ℕ)
-shown_lines ops names = map (shown_by ops) names
+shown_lines ops names = map (shown_line_of ops) names
 
 -- These are the lines of the files on the board after these operations, whose cells are closed, and
 -- right for its texts.
-pub record AreShown (ops : List BoardOp) (names : List (Option (List ℕ))) (lines : List (List ℕ))
+pub record AreBoardLines (ops : List BoardOp) (names : List (Option (List ℕ)))
+    (lines : List (List ℕ))
     : Type 0 where
   pub are : lines ≡ shown_lines ops names
   pub closed : Each (IsClosedBy ops) names
@@ -56,9 +52,9 @@ pub record AreShown (ops : List BoardOp) (names : List (Option (List ℕ))) (lin
   pub legal : IsLegal ops
 
 -- So it is, and the board counts so many edits.
-pub record AreOwn (ops : List BoardOp) (made : ℕ) (names : List (Option (List ℕ)))
+pub record AreOwnLines (ops : List BoardOp) (made : ℕ) (names : List (Option (List ℕ)))
     (lines : List (List ℕ)) : Type 0 where
-  pub shown : AreShown ops names lines
+  pub shown : AreBoardLines ops names lines
   pub counted : edit_count ops ≡ made
 
 -- the lists in vectors
@@ -70,7 +66,7 @@ lists_of lines = map (λ v. v.items) lines
 abbrev pub standing_of : Texts → Vec (Option (List ℕ)) Global → Vec (Vec ℕ Global) Global → Bool
     → Standing
 standing_of texts names lines refused =
-    record { held = held_of texts names; lines = lists_of lines.items; refused = refused }
+    record { held = holding_of texts names; lines = lists_of lines.items; refused = refused }
 
 -- ---- an author with its texts, and a run
 
@@ -81,7 +77,7 @@ KnowsItsTexts seen watched =
 
 -- what is held of its files
 abbrev pub holding : {A : Type 0} → Watched A → Holding
-holding watched = held_of watched.texts watched.names
+holding watched = holding_of watched.texts watched.names
 
 -- how things stand for a run
 abbrev pub standing : {A : Type 0} → Run A → Standing

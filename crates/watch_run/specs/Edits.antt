@@ -4,20 +4,20 @@ use Rattle.std.specs.declared.alloc.Global.{Global}
 use Rattle.text_values.specs.ModelValue.{Clause}
 use Rattle.text_values.specs.TestValue.{Content}
 use Rattle.bench_texts.specs.BenchTexts.{BenchTexts, PlainModel, test_index, put_at}
-use Rattle.bench_texts.specs.Edits.{Edit, PutModel, SetItem, InsertItem, RemoveItem, Applies, Refuses}
+use Rattle.bench_texts.specs.Edits.{Edit, PutModel, SetItem, InsertItem, RemoveItem, Applies, RefusesEdit}
 use Rattle.bench_texts.specs.Held.{texts_of}
 use Rattle.bench_texts.specs.declared.texts.Texts.{Texts}
 use Rattle.bench_texts.specs.declared.fault.EditFault.{EditFault}
 use Rattle.session_answers.specs.Cells.{test_named, model_named}
-use Rattle.session_edits.specs.Faults.{IsAnswer}
-use Rattle.watch_edits.specs.Changes.{all_applied}
-use Rattle.watch_edits.specs.Parts.{all_put}
+use Rattle.session_edits.specs.Faults.{HasFaultLine}
+use Rattle.watch_edits.specs.Changes.{with_changes}
+use Rattle.watch_edits.specs.Parts.{with_parts}
 use Rattle.watch_edits.specs.declared.items.ItemChange.{ItemChange}
 use Rattle.watch_edits.specs.declared.parts.TestPart.{TestPart}
 use Rattle.watch_run.specs.declared.watched.Paths.{Paths}
 use Rattle.watch_run.specs.declared.watched.WatchedFile.{WatchedFile}
 use Rattle.watch_run.specs.declared.watched.WatchedFile.TheVariants as files
-use Rattle.watch_run.specs.Holding.{Holding, File, ModelFile, TestFile, model_name, IsTaken, IsVersionRefused}
+use Rattle.watch_run.specs.Holding.{Holding, File, ModelFile, TestFile, model_name, IsFileTaken, IsVersionRefused}
 
 -- the file that a value of the code names
 abbrev pub file_of : WatchedFile → File
@@ -32,40 +32,40 @@ abbrev pub test_paths : Paths → List (List ℕ)
 test_paths paths = map (λ t. t.now) paths.tests.now
 
 -- what these texts and names hold
-abbrev pub held_of : Texts → Vec (Option (List ℕ)) Global → Holding
-held_of texts names = record { texts = texts_of texts; names = names.items }
+abbrev pub holding_of : Texts → Vec (Option (List ℕ)) Global → Holding
+holding_of texts names = record { texts = texts_of texts; names = names.items }
 
 -- an edit was made of the texts, or is refused for that fault, and then they stay
-abbrev pub IsMade : BenchTexts → Edit → Option EditFault → BenchTexts → Type 0
-IsMade t e None new = Applies t false e new
-IsMade t e (Some fault) new = IsAnswer fault × Refuses t false e fault × (new ≡ t)
+abbrev pub IsEditTried : BenchTexts → Edit → Option EditFault → BenchTexts → Type 0
+IsEditTried t e None new = Applies t false e new
+IsEditTried t e (Some fault) new = HasFaultLine fault × RefusesEdit t false e fault × (new ≡ t)
 
 -- a version of a file is taken, or refused for that fault, and then what is held stays
 abbrev pub IsVersionTaken : File → (text : List ℕ) → Holding → Option EditFault → Holding → Type 0
-IsVersionTaken file text old None new = IsTaken file text old new
+IsVersionTaken file text old None new = IsFileTaken file text old new
 IsVersionTaken file text old (Some fault) new =
     IsVersionRefused file text old.texts fault × (new ≡ old)
 
 -- the edit is of a model
-abbrev pub IsOfModel : Edit → Type 0
-IsOfModel (PutModel model text) = Unit {0}
-IsOfModel (SetItem model item text) = Unit {0}
-IsOfModel (InsertItem model before text) = Unit {0}
-IsOfModel (RemoveItem model item) = Unit {0}
-IsOfModel _ = ⊥
+abbrev pub IsModelEdit : Edit → Type 0
+IsModelEdit (PutModel model text) = Unit {0}
+IsModelEdit (SetItem model item text) = Unit {0}
+IsModelEdit (InsertItem model before text) = Unit {0}
+IsModelEdit (RemoveItem model item) = Unit {0}
+IsModelEdit _ = ⊥
 
 -- these changes make the new items of those of the model
 pub record AreChanges (t : BenchTexts) (new : List Clause) (changes : List ItemChange)
     : Type 0 where
   pub model : PlainModel
   pub there : model_named t model_name ≡ Some model
-  pub applied : all_applied new changes (map (λ i. i.clause) model.items) ≡ new
+  pub applied : with_changes new changes (map (λ i. i.clause) model.items) ≡ new
 
 -- these parts make the new test of the one of its name
-pub record AreParts (t : BenchTexts) (new : Content) (parts : List TestPart) : Type 0 where
+pub record AreTestParts (t : BenchTexts) (new : Content) (parts : List TestPart) : Type 0 where
   pub test : Content
   pub there : test_named t new.name ≡ Some test
-  pub put : all_put new parts test ≡ new
+  pub put : with_parts new parts test ≡ new
 
 -- the tests are the same, or another one of that name stands in the place of the first of it
 abbrev pub AreSameBut : (name : List ℕ) → (old new : List Content) → Type 0

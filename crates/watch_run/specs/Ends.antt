@@ -3,9 +3,9 @@ use Rattle.std.specs.Prelude.{◌≡◌, ◌≢◌, ◌⊎◌, ◌+◌, ℕ, Lis
 use Rattle.command_line.specs.declared.fault.SessionFault.{SessionFault}
 use Rattle.command_answers.specs.Answer.{IsReadFault}
 use Rattle.watch_run.specs.declared.start.Ended.{Ended}
-use Rattle.watch_run.specs.Readings.{Reading}
+use Rattle.watch_run.specs.Readings.{FileReading}
 use Rattle.watch_run.specs.Holding.{FilePath, all_files}
-use Rattle.watch_run.specs.Runs.{IsRun, IsCut, EndsUnread}
+use Rattle.watch_run.specs.Runs.{IsWatchRun, IsCutRun, EndsUnread}
 
 -- One write failed just where the fault is `Write`. No read failed, if the fault is not `Read`. So
 -- none failed where it answers. It never ends for edits that others made at its desk, since there
@@ -20,7 +20,7 @@ pub record AreCallsOf (answer : Result Bool SessionFault) (reads reads_then writ
 -- A read failed: one of the source, which is also taken for endless past so many bytes, or, where
 -- none did, that of a first version of these files.
 abbrev pub HasFailedRead : (files : List FilePath) (reads reads_then : ℕ) (left : Option (List ℕ))
-    (read_before read_after : Option (List Reading)) → Type 0
+    (read_before read_after : Option (List FileReading)) → Type 0
 HasFailedRead files reads reads_then left read_before read_after =
     IsReadFault reads reads_then left
     ⊎ ((reads_then ≡ reads) × EndsUnread files read_before read_after)
@@ -31,14 +31,14 @@ HasFailedRead files reads reads_then left read_before read_after =
 -- run writes up to a line of the source, of the versions that were read first; and by the fault
 -- `Read` it ends only where a read failed.
 pub record IsEnded {V S K : Type 0} (reads : S → ℕ) (remaining : S → Option (List ℕ))
-    (writes : K → ℕ) (readings : V → Option (List Reading)) (contents : K → Option (List ℕ))
+    (writes : K → ℕ) (readings : V → Option (List FileReading)) (contents : K → Option (List ℕ))
     (model : List ℕ) (tests : List (List ℕ)) (versions : V) (source : S) (sink : K)
     (ended : Ended V S K) : Type 0 where
   pub calls : AreCallsOf ended.answer (reads source) (reads ended.source) (writes sink)
       (writes ended.sink)
-  pub run : IfOk ended.answer (λ refused. IsRun model tests [] refused (remaining source)
+  pub run : IfOk ended.answer (λ refused. IsWatchRun model tests [] refused (remaining source)
       (readings versions) (readings ended.versions) (contents sink) (contents ended.sink))
-  pub cut : OnErr ended.answer (IsCut model tests [] (remaining source) (readings versions)
+  pub cut : OnErr ended.answer (IsCutRun model tests [] (remaining source) (readings versions)
       (readings ended.versions) (contents sink) (contents ended.sink))
   pub read : ended.answer ≡ Err SessionFault.Read
       → HasFailedRead (all_files model tests) (reads source) (reads ended.source) (remaining source)

@@ -7,11 +7,11 @@ use Rattle.cat_grammar.specs.declared.form.Form.TheVariants as forms
 use Rattle.cat_syntax.specs.Reads.{Reads}
 use Rattle.litmus_grammar.specs.Texts.{ReadsTest}
 use Rattle.bench_texts.specs.BenchTexts.{BenchTexts, PlainModel, test_index, put_at, changed_at}
-use Rattle.bench_texts.specs.Edits.{Edit, PutTest, PutModel, Refuses}
+use Rattle.bench_texts.specs.Edits.{Edit, PutTest, PutModel, RefusesEdit}
 use Rattle.bench_texts.specs.declared.fault.EditFault.{EditFault}
 use Rattle.board.specs.Histories.{no_contents}
 use Rattle.session_answers.specs.Cells.{model_named}
-use Rattle.session_edits.specs.Faults.{IsAnswer}
+use Rattle.session_edits.specs.Faults.{HasFaultLine}
 
 -- the name of the model on the bench
 abbrev pub model_name : List ℕ
@@ -28,8 +28,8 @@ abbrev pub no_names : ℕ → List (Option (List ℕ))
 no_names count = replicate count None
 
 -- of so many files of tests, and of the model's, nothing is held
-abbrev pub nothing_held : (count : ℕ) → Holding
-nothing_held count = record { texts = no_contents; names = no_names count }
+abbrev pub empty_holding : (count : ℕ) → Holding
+empty_holding count = record { texts = no_contents; names = no_names count }
 
 -- ---- the watched files, by their paths
 
@@ -80,26 +80,26 @@ pub record IsModelTaken (text : List ℕ) (old new : Holding) : Type 0 where
   pub tests : new.texts.tests ≡ old.texts.tests
   pub names : new.names ≡ old.names
 
-abbrev pub is_name : List ℕ → Option (List ℕ) → Bool
-is_name name None = false
-is_name name (Some held) = bytes_eq held name
+abbrev pub holds_name : List ℕ → Option (List ℕ) → Bool
+holds_name name None = false
+holds_name name (Some held) = bytes_eq held name
 
 -- the name of the test that the file of that index holds, if any
-abbrev pub name_at : ℕ → (names : List (Option (List ℕ))) → Option (List ℕ)
-name_at index names = get_or names index None
+abbrev pub held_name : ℕ → (names : List (Option (List ℕ))) → Option (List ℕ)
+held_name index names = get_or names index None
 
 -- the tests without the first of a name that a file held, unless a file holds one of that name
 abbrev pub without_unheld : Option (List ℕ) → (names : List (Option (List ℕ))) → List Content
     → List Content
 without_unheld None names tests = tests
 without_unheld (Some name) names tests =
-    if list_any (is_name name) names then tests else remove tests (test_index name tests)
+    if list_any (holds_name name) names then tests else remove tests (test_index name tests)
 
 -- the tests that stay where the file of that index holds the test of this name: without the one
 -- that it held, if no file holds one of its name then
 abbrev pub tests_left : (index : ℕ) (name : List ℕ) → Holding → List Content
 tests_left index name held =
-    without_unheld (name_at index held.names) (changed_at index (λ old. Some name) held.names)
+    without_unheld (held_name index held.names) (changed_at index (λ old. Some name) held.names)
     held.texts.tests
 
 -- Of the file of a test: it holds the test that the text means from then on. This stands in the
@@ -113,9 +113,9 @@ pub record IsTestTaken (index : ℕ) (text : List ℕ) (old new : Holding) : Typ
       (tests_left index test.name old)
   pub models : new.texts.models ≡ old.texts.models
 
-abbrev pub IsTaken : File → (text : List ℕ) → (old new : Holding) → Type 0
-IsTaken ModelFile text old new = IsModelTaken text old new
-IsTaken (TestFile index) text old new = IsTestTaken index text old new
+abbrev pub IsFileTaken : File → (text : List ℕ) → (old new : Holding) → Type 0
+IsFileTaken ModelFile text old new = IsModelTaken text old new
+IsFileTaken (TestFile index) text old new = IsTestTaken index text old new
 
 -- ---- a version that is refused
 
@@ -126,4 +126,5 @@ whole_edit (TestFile index) text = PutTest text
 
 -- the bench refuses the whole text for that fault
 abbrev pub IsVersionRefused : File → (text : List ℕ) → BenchTexts → EditFault → Type 0
-IsVersionRefused file text t fault = IsAnswer fault × Refuses t false (whole_edit file text) fault
+IsVersionRefused file text t fault =
+    HasFaultLine fault × RefusesEdit t false (whole_edit file text) fault

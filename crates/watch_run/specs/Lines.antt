@@ -7,7 +7,7 @@ use Rattle.verdict.specs.declared.answer.Outcome.{Outcome}
 use Rattle.outcome_texts.specs.Cells.{Cell, NoCell, Open, Settled}
 use Rattle.outcome_texts.specs.Columns.{table_of}
 use Rattle.bench_texts.specs.BenchTexts.{BenchTexts, PlainModel}
-use Rattle.session_answers.specs.Cells.{test_named, model_named, IsOutcome}
+use Rattle.session_answers.specs.Cells.{test_named, model_named, IsPlainOutcome}
 use Rattle.watch_run.specs.Holding.{model_name}
 
 -- ---- the line of a test
@@ -21,19 +21,19 @@ abbrev pub behind_line : List ℕ → List ℕ
 behind_line text = drop (position_or_len is_line_end text + 1) text
 
 -- the outcome is what evaluating the test of this name under the model from nothing gives
-pub record IsResult (t : BenchTexts) (name : List ℕ) (outcome : Outcome) : Type 0 where
+pub record IsTestResult (t : BenchTexts) (name : List ℕ) (outcome : Outcome) : Type 0 where
   pub test : Content
   pub model : PlainModel
   pub test_is : test_named t name ≡ Some test
   pub model_is : model_named t model_name ≡ Some model
-  pub right : IsOutcome test model outcome
+  pub right : IsPlainOutcome test model outcome
 
 -- The cell of the test of this name under the model: there is none where one of the two is not
 -- there.
 abbrev pub IsTestCell : BenchTexts → (name : List ℕ) → Cell → Type 0
 IsTestCell t name NoCell = (test_named t name ≡ None) ⊎ (model_named t model_name ≡ None)
 IsTestCell t name Open = ⊥
-IsTestCell t name (Settled outcome) = IsResult t name outcome
+IsTestCell t name (Settled outcome) = IsTestResult t name outcome
 
 -- the line of a test: its cell, as in a table of it alone
 pub record IsTestLine (t : BenchTexts) (name line : List ℕ) : Type 0 where
@@ -67,6 +67,6 @@ abbrev pub jobs_line : ℕ → List ℕ
 jobs_line jobs = codes "jobs " ++ decimal jobs ++ 10 ∷ []
 
 -- the text gained the lines that changed, and the number of jobs
-pub record AreWritten (lasts nows : List (List ℕ)) (before after : List ℕ) : Type 0 where
+pub record AreLinesWritten (lasts nows : List (List ℕ)) (before after : List ℕ) : Type 0 where
   pub jobs : ℕ
   pub is : after ≡ before ++ changed_lines lasts nows ++ jobs_line jobs

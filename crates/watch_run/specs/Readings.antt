@@ -3,17 +3,17 @@ use Rattle.std.specs.Prelude.{◌≡◌, ◌≤◌, ℕ, List, ◌++◌, length,
 use Rattle.watch_run.specs.declared.versions.Version.{Version}
 
 -- what was read of the file of a path
-pub record Reading : Type 0 where
+pub record FileReading : Type 0 where
   pub path : List ℕ
   pub version : Version
 
 -- these were read from one time to the other, where it is known what was
-abbrev pub AreRead : (before after : Option (List Reading)) → List Reading → Type 0
-AreRead None after read = after ≡ None
-AreRead (Some readings) after read = after ≡ Some (readings ++ read)
+abbrev pub AreReadBetween : (before after : Option (List FileReading)) → List FileReading → Type 0
+AreReadBetween None after read = after ≡ None
+AreReadBetween (Some readings) after read = after ≡ Some (readings ++ read)
 
 -- from one time to the other files were read at most so often
-pub record HasReadAtMost (most : ℕ) (before after : Option (List Reading)) : Type 0 where
-  pub read : List Reading
+pub record HasReadAtMost (most : ℕ) (before after : Option (List FileReading)) : Type 0 where
+  pub read : List FileReading
   pub few : length read ≤ most
-  pub are : AreRead before after read
+  pub are : AreReadBetween before after read

@@ -5,10 +5,10 @@ use Rattle.std.specs.Io.KnownBytes.{Appends}
 use Rattle.bench_texts.specs.declared.fault.EditFault.{EditFault}
 use Rattle.session_edits.specs.Faults.{fault_line}
 use Rattle.watch_run.specs.declared.versions.Version.TheVariants.{Text, Unread}
-use Rattle.session_script.specs.Written.{WritesFront}
-use Rattle.watch_run.specs.Readings.{Reading, AreRead}
-use Rattle.watch_run.specs.Holding.{Holding, nothing_held, File, FilePath, all_files, file_at, IsTaken, IsVersionRefused}
-use Rattle.watch_run.specs.Lines.{AreLinesOf, AreWritten}
+use Rattle.session_script.specs.Written.{WritesPrefix}
+use Rattle.watch_run.specs.Readings.{FileReading, AreReadBetween}
+use Rattle.watch_run.specs.Holding.{Holding, empty_holding, File, FilePath, all_files, file_at, IsFileTaken, IsVersionRefused}
+use Rattle.watch_run.specs.Lines.{AreLinesOf, AreLinesWritten}
 
 -- ---- the lines of the source
 
@@ -41,132 +41,134 @@ abbrev pub with_refusal : Standing → Standing
 with_refusal s = record { held = s.held; lines = s.lines; refused = true }
 
 -- what tells of the file of this path why its text is refused
-abbrev pub refusal_of : (path : List ℕ) → EditFault → List ℕ
-refusal_of path fault = path ++ codes ": " ++ fault_line fault
+abbrev pub file_refusal : (path : List ℕ) → EditFault → List ℕ
+file_refusal path fault = path ++ codes ": " ++ fault_line fault
 
 -- the lines are those of what is held, and a text gained those that changed, and the number of jobs
-pub record IsSettled (old new : Standing) (before after : List ℕ) : Type 0 where
+pub record AreLinesSettled (old new : Standing) (before after : List ℕ) : Type 0 where
   pub held : new.held ≡ old.held
   pub refused : new.refused ≡ old.refused
   pub right : AreLinesOf new.held.texts new.held.names new.lines
-  pub written : AreWritten old.lines new.lines before after
+  pub written : AreLinesWritten old.lines new.lines before after
 
 -- A text of a file is accepted: what is held changes by it, and the answer is those of the lines
 -- that changed, and the number of jobs.
-pub record IsAccepted (file : File) (text : List ℕ) (old new : Standing) (said : List ℕ)
+pub record IsTextAccepted (file : File) (text : List ℕ) (old new : Standing) (said : List ℕ)
     : Type 0 where
   pub held : Holding
-  pub taken : IsTaken file text old.held held
-  pub settled : IsSettled (with_held held old) new [] said
+  pub taken : IsFileTaken file text old.held held
+  pub settled : AreLinesSettled (with_held held old) new [] said
 
 -- it is refused, and the answer tells why
-pub record IsRefused (file : File) (path text : List ℕ) (old new : Standing) (said : List ℕ)
+pub record IsTextRefused (file : File) (path text : List ℕ) (old new : Standing) (said : List ℕ)
     : Type 0 where
   pub fault : EditFault
   pub refused : IsVersionRefused file text old.held.texts fault
   pub stands : new ≡ with_refusal old
-  pub is : said ≡ refusal_of path fault
+  pub is : said ≡ file_refusal path fault
 
 -- The answer to a line that is a path, what was read for it, and how things stand after it, by
 -- which file the path is of.
-pub data IsAnswer (path : List ℕ) (old new : Standing)
-    : Option File → (read : List Reading) → (said : List ℕ) → Type 0 where
+pub data IsLineAnswer (path : List ℕ) (old new : Standing)
+    : Option File → (read : List FileReading) → (said : List ℕ) → Type 0 where
   Unwatched : (said : List ℕ) → new ≡ old → said ≡ path ++ (codes ": not watched" ++ 10 ∷ [])
-      → IsAnswer path old new None [] said
+      → IsLineAnswer path old new None [] said
   NotRead : (file : File) (said : List ℕ) → new ≡ old
       → said ≡ path ++ (codes ": not read" ++ 10 ∷ [])
-      → IsAnswer path old new (Some file) (record { path = path; version = Unread } ∷ []) said
+      → IsLineAnswer path old new (Some file) (record { path = path; version = Unread } ∷ []) said
   Refused : (file : File) (text : Vec ℕ Global) (said : List ℕ)
-      → IsRefused file path text.items old new said
-      → IsAnswer path old new (Some file) (record { path = path; version = Text text } ∷ []) said
+      → IsTextRefused file path text.items old new said
+      → IsLineAnswer path old new (Some file)
+      (record { path = path; version = Text text } ∷ []) said
   Accepted : (file : File) (text : Vec ℕ Global) (said : List ℕ)
-      → IsAccepted file text.items old new said
-      → IsAnswer path old new (Some file) (record { path = path; version = Text text } ∷ []) said
+      → IsTextAccepted file text.items old new said
+      → IsLineAnswer path old new (Some file)
+      (record { path = path; version = Text text } ∷ []) said
 
 -- the answers to lines of the source, one after another
-pub data AreAnswers (model : List ℕ) (tests : List (List ℕ))
-    : (lines : List (List ℕ)) (old new : Standing) (read : List Reading) (said : List ℕ)
+pub data AreLineAnswers (model : List ℕ) (tests : List (List ℕ))
+    : (lines : List (List ℕ)) (old new : Standing) (read : List FileReading) (said : List ℕ)
     → Type 0 where
-  NoAnswer : (standing : Standing) → AreAnswers model tests [] standing standing [] []
+  NoAnswer : (standing : Standing) → AreLineAnswers model tests [] standing standing [] []
   OneMore : (lines : List (List ℕ)) (line : List ℕ) (old middle new : Standing)
-      (read more : List Reading) (text said : List ℕ)
-      → AreAnswers model tests lines old middle read text
-      → IsAnswer line middle new (file_at model tests line) more said
-      → AreAnswers model tests (lines ++ line ∷ []) old new (read ++ more) (text ++ said)
+      (read more : List FileReading) (text said : List ℕ)
+      → AreLineAnswers model tests lines old middle read text
+      → IsLineAnswer line middle new (file_at model tests line) more said
+      → AreLineAnswers model tests (lines ++ line ∷ []) old new (read ++ more) (text ++ said)
 
 -- ---- the beginning of a run
 
 -- before the first version of any file, of so many of tests, where these lines were the last that
 -- were written
 abbrev pub at_first : (count : ℕ) → (lasts : List (List ℕ)) → Standing
-at_first count lasts = record { held = nothing_held count; lines = lasts; refused = false }
+at_first count lasts = record { held = empty_holding count; lines = lasts; refused = false }
 
 -- the first versions of some files, one after another: each is accepted, or it is told why it is
 -- refused
-pub data AreBegun
-    : List FilePath → (old new : Standing) (read : List Reading) (told : List ℕ) → Type 0 where
-  NoFile : (standing : Standing) → AreBegun [] standing standing [] []
+pub data AreFilesBegun
+    : List FilePath → (old new : Standing) (read : List FileReading) (told : List ℕ) → Type 0 where
+  NoFile : (standing : Standing) → AreFilesBegun [] standing standing [] []
   Begun : (files : List FilePath) (file : FilePath) (text : Vec ℕ Global) (old middle : Standing)
-      (held : Holding) (read : List Reading) (told : List ℕ)
-      → AreBegun files old middle read told → IsTaken file.file text.items middle.held held
-      → AreBegun (files ++ file ∷ []) old (with_held held middle)
+      (held : Holding) (read : List FileReading) (told : List ℕ)
+      → AreFilesBegun files old middle read told → IsFileTaken file.file text.items middle.held held
+      → AreFilesBegun (files ++ file ∷ []) old (with_held held middle)
       (read ++ record { path = file.path; version = Text text } ∷ []) told
   NotBegun : (files : List FilePath) (file : FilePath) (text : Vec ℕ Global) (old middle : Standing)
-      (read : List Reading) (told : List ℕ) (fault : EditFault)
-      → AreBegun files old middle read told
+      (read : List FileReading) (told : List ℕ) (fault : EditFault)
+      → AreFilesBegun files old middle read told
       → IsVersionRefused file.file text.items middle.held.texts fault
-      → AreBegun (files ++ file ∷ []) old (with_refusal middle)
+      → AreFilesBegun (files ++ file ∷ []) old (with_refusal middle)
       (read ++ record { path = file.path; version = Text text } ∷ [])
-      (told ++ refusal_of file.path fault)
+      (told ++ file_refusal file.path fault)
 
 -- What is written at the start: what is told of the first versions that are refused, the line of
 -- each test, and the number of jobs.
-pub record IsBegun (model : List ℕ) (tests lasts : List (List ℕ)) (new : Standing)
-    (read : List Reading) (said : List ℕ) : Type 0 where
+pub record IsRunStart (model : List ℕ) (tests lasts : List (List ℕ)) (new : Standing)
+    (read : List FileReading) (said : List ℕ) : Type 0 where
   pub told : List ℕ
   pub middle : Standing
-  pub begun : AreBegun (all_files model tests) (at_first (length tests) lasts) middle read told
-  pub settled : IsSettled middle new told said
+  pub begun : AreFilesBegun (all_files model tests) (at_first (length tests) lasts) middle read told
+  pub settled : AreLinesSettled middle new told said
 
 -- The first versions of these files were asked for, one after another, up to that of one file,
 -- which could not be read.
-pub record EndsUnread (files : List FilePath) (read_before read_after : Option (List Reading))
+pub record EndsUnread (files : List FilePath) (read_before read_after : Option (List FileReading))
     : Type 0 where
   pub begun : List FilePath
   pub file : FilePath
   pub later : List FilePath
   pub all : files ≡ begun ++ file ∷ later
-  pub read : List Reading
+  pub read : List FileReading
   pub paths : map (λ r. r.path) read ≡ map (λ f. f.path) begun
-  pub reads : AreRead read_before read_after
+  pub reads : AreReadBetween read_before read_after
       (read ++ record { path = file.path; version = Unread } ∷ [])
 
 -- A whole run over the files of these paths is written: its beginning, and an answer to each line
 -- of the source that is not empty, where it is known which bytes it had. Before it these lines were
 -- the last that were written. It is told what it read of the files, and whether a text was refused.
-pub record IsRun (model : List ℕ) (tests lasts : List (List ℕ)) (refused : Bool)
-    (source : Option (List ℕ)) (read_before read_after : Option (List Reading))
+pub record IsWatchRun (model : List ℕ) (tests lasts : List (List ℕ)) (refused : Bool)
+    (source : Option (List ℕ)) (read_before read_after : Option (List FileReading))
     (before after : Option (List ℕ)) : Type 0 where
   pub begins : Standing
   pub ends : Standing
-  pub first_read : List Reading
-  pub read : List Reading
+  pub first_read : List FileReading
+  pub read : List FileReading
   pub first : List ℕ
   pub text : List ℕ
   pub lines : List (List ℕ)
-  pub begun : IsBegun model tests lasts begins first_read first
-  pub answers : AreAnswers model tests lines begins ends read text
+  pub begun : IsRunStart model tests lasts begins first_read first
+  pub answers : AreLineAnswers model tests lines begins ends read text
   pub told : ends.refused ≡ refused
   pub asked : (bytes : List ℕ) → source ≡ Some bytes → lines ≡ lines_from [] bytes
-  pub reads : AreRead read_before read_after (first_read ++ read)
+  pub reads : AreReadBetween read_before read_after (first_read ++ read)
   pub gains : Appends before after (first ++ text)
 
 -- ---- what was written before a fault
 
 -- these are the first lines of the source behind the first part of its first line, where it is
 -- known which bytes it had
-abbrev pub AreFrontOf : (front : List ℕ) → (source : Option (List ℕ)) → List (List ℕ) → Type 0
-AreFrontOf front source lines =
+abbrev pub ArePrefixOf : (front : List ℕ) → (source : Option (List ℕ)) → List (List ℕ) → Type 0
+ArePrefixOf front source lines =
     (bytes : List ℕ) → source ≡ Some bytes
     → (more : List (List ℕ)) × (lines_from front bytes ≡ lines ++ more)
 
@@ -174,84 +176,87 @@ AreFrontOf front source lines =
 -- most for what it writes next: nothing yet, and next the start, for which it reads each file; or
 -- the start and then the answers to the first lines, and next the answer to one line.
 pub data IsRunText (model : List ℕ) (tests lasts : List (List ℕ)) (source : Option (List ℕ))
-    : (read : List Reading) (most : ℕ) (text : List ℕ) → Type 0 where
+    : (read : List FileReading) (most : ℕ) (text : List ℕ) → Type 0 where
   NothingYet : IsRunText model tests lasts source [] (length (all_files model tests)) []
-  FirstLines : (begins ends : Standing) (first_read read : List Reading) (first text : List ℕ)
+  FirstLines : (begins ends : Standing) (first_read read : List FileReading) (first text : List ℕ)
       (lines : List (List ℕ))
-      → IsBegun model tests lasts begins first_read first
-      → AreAnswers model tests lines begins ends read text → AreFrontOf [] source lines
+      → IsRunStart model tests lasts begins first_read first
+      → AreLineAnswers model tests lines begins ends read text → ArePrefixOf [] source lines
       → IsRunText model tests lasts source (first_read ++ read) 1 (first ++ text)
 
 -- A run over the files of these paths ended by a fault: what was written is a front of such a text,
 -- of what was read first. The other readings were made for what was to be written next.
-pub record IsCut (model : List ℕ) (tests lasts : List (List ℕ)) (source : Option (List ℕ))
-    (read_before read_after : Option (List Reading)) (before after : Option (List ℕ)) : Type 0 where
-  pub read : List Reading
-  pub more : List Reading
+pub record IsCutRun (model : List ℕ) (tests lasts : List (List ℕ)) (source : Option (List ℕ))
+    (read_before read_after : Option (List FileReading)) (before after : Option (List ℕ))
+    : Type 0 where
+  pub read : List FileReading
+  pub more : List FileReading
   pub most : ℕ
   pub text : List ℕ
   pub is : IsRunText model tests lasts source read most text
   pub few : length more ≤ most
-  pub reads : AreRead read_before read_after (read ++ more)
-  pub front : WritesFront before after text
+  pub reads : AreReadBetween read_before read_after (read ++ more)
+  pub front : WritesPrefix before after text
 
 -- ---- parts of a run
 
 -- what is said of a text of a file, which is accepted or refused
 pub data IsTextAnswer (file : File) (path text : List ℕ) (old new : Standing) (said : List ℕ)
     : Type 0 where
-  TextAccepted : IsAccepted file text old new said → IsTextAnswer file path text old new said
-  TextRefused : IsRefused file path text old new said → IsTextAnswer file path text old new said
+  TextAccepted : IsTextAccepted file text old new said → IsTextAnswer file path text old new said
+  TextRefused : IsTextRefused file path text old new said → IsTextAnswer file path text old new said
 
 -- a text is taken, by whether it is accepted: what is told gains why it is refused
-pub data IsNoted (file : File) (path text : List ℕ) (old new : Standing) (before after : List ℕ)
+pub data IsTextNoted (file : File) (path text : List ℕ) (old new : Standing) (before after : List ℕ)
     : Bool → Type 0 where
-  NotedTaken : (held : Holding) → IsTaken file text old.held held → new ≡ with_held held old
-      → after ≡ before → IsNoted file path text old new before after true
+  NotedTaken : (held : Holding) → IsFileTaken file text old.held held → new ≡ with_held held old
+      → after ≡ before → IsTextNoted file path text old new before after true
   NotedRefused : (fault : EditFault) → IsVersionRefused file text old.held.texts fault
-      → new ≡ with_refusal old → after ≡ before ++ refusal_of path fault
-      → IsNoted file path text old new before after false
+      → new ≡ with_refusal old → after ≡ before ++ file_refusal path fault
+      → IsTextNoted file path text old new before after false
 
 -- lines for which this holds were answered, and files read for them
-pub record HasAnswers (model : List ℕ) (tests : List (List ℕ)) (asks : List (List ℕ) → Type 0)
+pub record HasLineAnswers (model : List ℕ) (tests : List (List ℕ)) (asks : List (List ℕ) → Type 0)
     (old new : Standing)
-    (read_before read_after : Option (List Reading)) (before after : Option (List ℕ)) : Type 0 where
+    (read_before read_after : Option (List FileReading)) (before after : Option (List ℕ))
+    : Type 0 where
   pub lines : List (List ℕ)
   pub asked : asks lines
-  pub read : List Reading
+  pub read : List FileReading
   pub text : List ℕ
-  pub answers : AreAnswers model tests lines old new read text
-  pub reads : AreRead read_before read_after read
+  pub answers : AreLineAnswers model tests lines old new read text
+  pub reads : AreReadBetween read_before read_after read
   pub gains : Appends before after text
 
 -- Answers to lines for which this holds were made, for which files were read, and a front of them
 -- was written. For the next line a file was read at most once.
-pub record HasFront (model : List ℕ) (tests : List (List ℕ)) (asks : List (List ℕ) → Type 0)
+pub record HasAnswersPrefix (model : List ℕ) (tests : List (List ℕ)) (asks : List (List ℕ) → Type 0)
     (old : Standing)
-    (read_before read_after : Option (List Reading)) (before after : Option (List ℕ)) : Type 0 where
+    (read_before read_after : Option (List FileReading)) (before after : Option (List ℕ))
+    : Type 0 where
   pub lines : List (List ℕ)
   pub asked : asks lines
   pub new : Standing
-  pub read : List Reading
-  pub more : List Reading
+  pub read : List FileReading
+  pub more : List FileReading
   pub text : List ℕ
-  pub answers : AreAnswers model tests lines old new read text
+  pub answers : AreLineAnswers model tests lines old new read text
   pub few : length more ≤ 1
-  pub reads : AreRead read_before read_after (read ++ more)
-  pub front : WritesFront before after text
+  pub reads : AreReadBetween read_before read_after (read ++ more)
+  pub front : WritesPrefix before after text
 
 -- first lines: of one that may be empty; of those that end in these bytes, behind the first part of
 -- the first
-abbrev pub IsFrontLine : (line : List ℕ) → List (List ℕ) → Type 0
-IsFrontLine line lines = (more : List (List ℕ)) × (line_before line [] ≡ lines ++ more)
+abbrev pub IsPrefixOfLine : (line : List ℕ) → List (List ℕ) → Type 0
+IsPrefixOfLine line lines = (more : List (List ℕ)) × (line_before line [] ≡ lines ++ more)
 
-abbrev pub AreFrontIn : (front bytes : List ℕ) → List (List ℕ) → Type 0
-AreFrontIn front bytes lines =
+abbrev pub ArePrefixIn : (front bytes : List ℕ) → List (List ℕ) → Type 0
+ArePrefixIn front bytes lines =
     (rest : List ℕ) → (more : List (List ℕ)) × (lines_from front (bytes ++ rest) ≡ lines ++ more)
 
 -- it is the line, if it is not empty
-abbrev pub IsLine : (line : List ℕ) → List (List ℕ) → Type 0
-IsLine line lines = lines ≡ line_before line []
+abbrev pub IsLineAlone : (line : List ℕ) → List (List ℕ) → Type 0
+IsLineAlone line lines = lines ≡ line_before line []
 
 -- the lines that end in these bytes, behind the first part of the first, where the second part is
 -- left
@@ -274,30 +279,30 @@ abbrev pub AreAll : (source : Option (List ℕ)) → List (List ℕ) → Type 0
 AreAll source lines = (bytes : List ℕ) → source ≡ Some bytes → lines ≡ lines_from [] bytes
 
 -- a line was answered, for which this was read
-pub record IsAnswered (path : List ℕ) (file : Option File) (old new : Standing)
-    (read_before read_after : Option (List Reading)) (said : List ℕ) : Type 0 where
-  pub read : List Reading
-  pub answer : IsAnswer path old new file read said
-  pub reads : AreRead read_before read_after read
+pub record IsLineAnswered (path : List ℕ) (file : Option File) (old new : Standing)
+    (read_before read_after : Option (List FileReading)) (said : List ℕ) : Type 0 where
+  pub read : List FileReading
+  pub answer : IsLineAnswer path old new file read said
+  pub reads : AreReadBetween read_before read_after read
 
 -- some files were begun, for which these were read, and what is told of them stands behind what was
-pub record HasBegun (files : List FilePath) (old new : Standing)
-    (read_before read_after : Option (List Reading)) (told : List ℕ) : Type 0 where
-  pub read : List Reading
-  pub begun : AreBegun files old new read told
-  pub reads : AreRead read_before read_after read
+pub record HasBegunFiles (files : List FilePath) (old new : Standing)
+    (read_before read_after : Option (List FileReading)) (told : List ℕ) : Type 0 where
+  pub read : List FileReading
+  pub begun : AreFilesBegun files old new read told
+  pub reads : AreReadBetween read_before read_after read
 
 -- one file more was
 abbrev pub BeginsFile : FilePath → (old new : Standing)
-    → (read_before read_after : Option (List Reading)) → (before after : List ℕ) → Type 0
+    → (read_before read_after : Option (List FileReading)) → (before after : List ℕ) → Type 0
 BeginsFile file old new read_before read_after before after =
     (text : Vec ℕ Global)
-    × AreRead read_before read_after (record { path = file.path; version = Text text } ∷ [])
-    × (accepted : Bool) × IsNoted file.file file.path text.items old new before after accepted
+    × AreReadBetween read_before read_after (record { path = file.path; version = Text text } ∷ [])
+    × (accepted : Bool) × IsTextNoted file.file file.path text.items old new before after accepted
 
 -- a run was begun, for which these were read
 pub record HasBegunRun (model : List ℕ) (tests lasts : List (List ℕ)) (new : Standing)
-    (read_before read_after : Option (List Reading)) (said : List ℕ) : Type 0 where
-  pub read : List Reading
-  pub begun : IsBegun model tests lasts new read said
-  pub reads : AreRead read_before read_after read
+    (read_before read_after : Option (List FileReading)) (said : List ℕ) : Type 0 where
+  pub read : List FileReading
+  pub begun : IsRunStart model tests lasts new read said
+  pub reads : AreReadBetween read_before read_after read

@@ -4,15 +4,15 @@ ghost use Rattle.std.specs.Prelude.{◌≡◌, ◌≢◌, ◌+◌, ◌-◌, ◌<
 ghost use Rattle.std.specs.Prelude.{Some, IfOk, IfSome, OnOk, OnErr, IsTrue, Ok, Err};
 ghost use Rattle.std.specs.Io.KnownBytes.{Appends};
 ghost use Rattle.session_script.specs.Reading.{IsPaid};
-ghost use Rattle.session_script.specs.Written.{WritesFront};
+ghost use Rattle.session_script.specs.Written.{WritesPrefix};
 ghost use Rattle.command_answers.specs.Answer.{IsReadFault};
-ghost use Rattle.watch_run.specs.Readings.{AreRead, HasReadAtMost};
+ghost use Rattle.watch_run.specs.Readings.{AreReadBetween, HasReadAtMost};
 ghost use Rattle.watch_run.specs.declared.versions.Version.TheVariants.{Unread};
 ghost use Rattle.watch_run.specs.Holding.{file_at, all_files};
 ghost use Rattle.watch_run.specs.Edits.{file_of, model_path, test_paths, IsVersionTaken};
 ghost use Rattle.watch_run.specs.Boards.{lists_of, KnowsItsTexts, holding, standing};
 ghost use Rattle.watch_run.specs.Ends.{HasFailedRead};
-ghost use Rattle.watch_run.specs.Runs.{refusal_of, at_first, IsSettled, IsNoted, IsTextAnswer, IsAnswer, IsAnswered, HasAnswers, IsLine, AreIn, AreOfTurn, AreAll, BeginsFile, HasBegun, HasBegunRun, EndsUnread, IsRun, IsCut, HasFront, IsFrontLine, AreFrontIn, AreFrontOf};
+ghost use Rattle.watch_run.specs.Runs.{file_refusal, at_first, AreLinesSettled, IsTextNoted, IsTextAnswer, IsLineAnswer, IsLineAnswered, HasLineAnswers, IsLineAlone, AreIn, AreOfTurn, AreAll, BeginsFile, HasBegunFiles, HasBegunRun, EndsUnread, IsWatchRun, IsCutRun, HasAnswersPrefix, IsPrefixOfLine, ArePrefixIn, ArePrefixOf};
 
 use crate::author::Author;
 use crate::lines::put_answer;
@@ -48,7 +48,7 @@ fn push_byte(line: &mut Vec<u8>, byte: u8) -> Result<(), AllocError>
 fn write_text<K: ByteSink>(sink: &mut K, text: &[u8]) -> Result<(), SessionFault>
     requires { K.failed_calls sink.old < 2 ^ 64 - 1 }
     ensures gains { OnOk result (Appends (K.contents sink.old) (K.contents sink.new) text.now) }
-    ensures front { WritesFront (K.contents sink.old) (K.contents sink.new) text.now }
+    ensures front { WritesPrefix (K.contents sink.old) (K.contents sink.new) text.now }
     ensures writes { OnOk result (K.failed_calls sink.new ≡ K.failed_calls sink.old) }
     ensures wrote { OnErr result (K.failed_calls sink.new ≡ K.failed_calls sink.old + 1) }
     ensures fault { OnErr result (result ≡ Err SessionFault.Write) }
@@ -66,7 +66,7 @@ fn put_refused(
     path: &[u8],
     fault: EditFault,
 ) -> Result<(), AllocError>
-    ensures { OnOk result (text.new.items ≡ text.old.items ++ refusal_of path.now fault) }
+    ensures { OnOk result (text.new.items ≡ text.old.items ++ file_refusal path.now fault) }
 {
     let answer = refused_edit(alloc, fault)?;
     put_bytes(text, path)?;
@@ -148,7 +148,7 @@ impl<'a, A: Author> Run<'a, A> {
         requires ready { KnowsItsTexts A.seen self.old.watched }
         ensures ready { OnOk result (KnowsItsTexts A.seen self.new.watched) }
         ensures paths { self.new.paths ≡ self.old.paths }
-        ensures noted { IfOk result (IsNoted (file_of file) path.now version.items
+        ensures noted { IfOk result (IsTextNoted (file_of file) path.now version.items
             (standing self.old) (standing self.new) text.old.items text.new.items) }
     {
         match self.take(rt, alloc, file, version)? {
@@ -172,7 +172,7 @@ impl<'a, A: Author> Run<'a, A> {
         ensures ready { OnOk result (KnowsItsTexts A.seen self.new.watched) }
         ensures paths { self.new.paths ≡ self.old.paths }
         ensures fault { OnErr result (result ≡ Err SessionFault.Memory) }
-        ensures settled { OnOk result (IsSettled (standing self.old) (standing self.new)
+        ensures settled { OnOk result (AreLinesSettled (standing self.old) (standing self.new)
             text.old.items text.new.items) }
     {
         let (jobs, lines) = self.watched.settled_lines(rt, alloc)?;
@@ -202,7 +202,7 @@ impl<'a, A: Author> Run<'a, A> {
         ensures readings { OnErr result (HasReadAtMost 1 (V.readings versions.old)
             (V.readings versions.new)) }
         ensures read { result ≡ Err SessionFault.Read
-            → AreRead (V.readings versions.old) (V.readings versions.new)
+            → AreReadBetween (V.readings versions.old) (V.readings versions.new)
             (record { path = path.now; version = Unread } ∷ []) }
     {
         match versions.version(alloc, path) {
@@ -228,7 +228,7 @@ impl<'a, A: Author> Run<'a, A> {
         ensures paths { self.new.paths ≡ self.old.paths }
         ensures fault { result ≢ Err SessionFault.Write }
         ensures unshared { result ≢ Err SessionFault.Shared }
-        ensures begun { IfOk result (λ t. HasBegun
+        ensures begun { IfOk result (λ t. HasBegunFiles
             (all_files (model_path paths.entry) (test_paths paths.entry)) (standing self.old)
             (standing self.new) (V.readings versions.old) (V.readings versions.new) t.items) }
         ensures readings { OnErr result (HasReadAtMost
@@ -323,7 +323,8 @@ impl<'a, A: Author> Run<'a, A> {
         ensures ready { OnOk result (KnowsItsTexts A.seen self.new.watched) }
         ensures paths { self.new.paths ≡ self.old.paths }
         ensures fault { OnErr result (result ≡ Err SessionFault.Memory) }
-        ensures answer { IfOk result (λ t. IsAnswer path.now (standing self.old) (standing self.new)
+        ensures answer { IfOk result
+            (λ t. IsLineAnswer path.now (standing self.old) (standing self.new)
             (Some (file_of file)) (record { path = path.now; version = version } ∷ [])
             t.items) }
     {
@@ -350,7 +351,7 @@ impl<'a, A: Author> Run<'a, A> {
         ensures ready { OnOk result (KnowsItsTexts A.seen self.new.watched) }
         ensures paths { self.new.paths ≡ self.old.paths }
         ensures fault { OnErr result (result ≡ Err SessionFault.Memory) }
-        ensures answer { IfOk result (λ t. IsAnswered line.now
+        ensures answer { IfOk result (λ t. IsLineAnswered line.now
             (file_at (model_path self.old.paths) (test_paths self.old.paths) line.now)
             (standing self.old) (standing self.new) (V.readings versions.old)
             (V.readings versions.new) t.items) }
@@ -387,16 +388,17 @@ impl<'a, A: Author> Run<'a, A> {
         ensures writes { OnOk result (K.failed_calls sink.new ≡ K.failed_calls sink.old) }
         ensures wrote { result ≡ Err SessionFault.Write
             → K.failed_calls sink.new ≡ K.failed_calls sink.old + 1 }
-        ensures cut { OnErr result (HasFront (model_path self.old.paths) (test_paths self.old.paths)
-            (IsFrontLine line.now) (standing self.old) (V.readings versions.old)
+        ensures cut { OnErr result
+            (HasAnswersPrefix (model_path self.old.paths) (test_paths self.old.paths)
+            (IsPrefixOfLine line.now) (standing self.old) (V.readings versions.old)
             (V.readings versions.new) (K.contents sink.old) (K.contents sink.new)) }
         ensures unfailed { result ≢ Err SessionFault.Write
             → K.failed_calls sink.new ≡ K.failed_calls sink.old }
         ensures unread { result ≢ Err SessionFault.Read }
         ensures unshared { result ≢ Err SessionFault.Shared }
         // nothing for an empty line, and else one write, of what is answered to it
-        ensures answers { OnOk result (HasAnswers (model_path self.old.paths)
-            (test_paths self.old.paths) (IsLine line.now) (standing self.old)
+        ensures answers { OnOk result (HasLineAnswers (model_path self.old.paths)
+            (test_paths self.old.paths) (IsLineAlone line.now) (standing self.old)
             (standing self.new) (V.readings versions.old) (V.readings versions.new)
             (K.contents sink.old) (K.contents sink.new)) }
     {
@@ -425,12 +427,13 @@ impl<'a, A: Author> Run<'a, A> {
         ensures writes { OnOk result (K.failed_calls sink.new ≡ K.failed_calls sink.old) }
         ensures wrote { result ≡ Err SessionFault.Write
             → K.failed_calls sink.new ≡ K.failed_calls sink.old + 1 }
-        ensures answers { OnOk result (HasAnswers (model_path self.old.paths)
+        ensures answers { OnOk result (HasLineAnswers (model_path self.old.paths)
             (test_paths self.old.paths) (AreIn line.old.items (byte ∷ []) line.new.items)
             (standing self.old) (standing self.new) (V.readings versions.old)
             (V.readings versions.new) (K.contents sink.old) (K.contents sink.new)) }
-        ensures cut { OnErr result (HasFront (model_path self.old.paths) (test_paths self.old.paths)
-            (AreFrontIn line.old.items (byte ∷ [])) (standing self.old)
+        ensures cut { OnErr result
+            (HasAnswersPrefix (model_path self.old.paths) (test_paths self.old.paths)
+            (ArePrefixIn line.old.items (byte ∷ [])) (standing self.old)
             (V.readings versions.old) (V.readings versions.new) (K.contents sink.old)
             (K.contents sink.new)) }
         ensures unfailed { result ≢ Err SessionFault.Write
@@ -464,12 +467,13 @@ impl<'a, A: Author> Run<'a, A> {
         ensures writes { OnOk result (K.failed_calls sink.new ≡ K.failed_calls sink.old) }
         ensures wrote { result ≡ Err SessionFault.Write
             → K.failed_calls sink.new ≡ K.failed_calls sink.old + 1 }
-        ensures answers { OnOk result (HasAnswers (model_path self.old.paths)
+        ensures answers { OnOk result (HasLineAnswers (model_path self.old.paths)
             (test_paths self.old.paths) (AreIn line.old.items bytes.now line.new.items)
             (standing self.old) (standing self.new) (V.readings versions.old)
             (V.readings versions.new) (K.contents sink.old) (K.contents sink.new)) }
-        ensures cut { OnErr result (HasFront (model_path self.old.paths) (test_paths self.old.paths)
-            (AreFrontIn line.old.items bytes.now) (standing self.old) (V.readings versions.old)
+        ensures cut { OnErr result
+            (HasAnswersPrefix (model_path self.old.paths) (test_paths self.old.paths)
+            (ArePrefixIn line.old.items bytes.now) (standing self.old) (V.readings versions.old)
             (V.readings versions.new) (K.contents sink.old) (K.contents sink.new)) }
         ensures unfailed { result ≢ Err SessionFault.Write
             → K.failed_calls sink.new ≡ K.failed_calls sink.old }
@@ -502,7 +506,7 @@ impl<'a, A: Author> Run<'a, A> {
         ensures writes { OnOk result (K.failed_calls sink.new ≡ K.failed_calls sink.old) }
         ensures wrote { result ≡ Err SessionFault.Write
             → K.failed_calls sink.new ≡ K.failed_calls sink.old + 1 }
-        ensures answers { IfOk result (λ goes_on. HasAnswers (model_path self.old.paths)
+        ensures answers { IfOk result (λ goes_on. HasLineAnswers (model_path self.old.paths)
             (test_paths self.old.paths)
             (AreOfTurn goes_on line.old.items line.new.items (S.remaining source.old)
             (S.remaining source.new))
@@ -512,8 +516,9 @@ impl<'a, A: Author> Run<'a, A> {
             (V.readings versions.new)
             (K.contents sink.old)
             (K.contents sink.new)) }
-        ensures cut { OnErr result (HasFront (model_path self.old.paths) (test_paths self.old.paths)
-            (AreFrontOf line.old.items (S.remaining source.old)) (standing self.old)
+        ensures cut { OnErr result
+            (HasAnswersPrefix (model_path self.old.paths) (test_paths self.old.paths)
+            (ArePrefixOf line.old.items (S.remaining source.old)) (standing self.old)
             (V.readings versions.old) (V.readings versions.new) (K.contents sink.old)
             (K.contents sink.new)) }
         ensures unfailed { result ≢ Err SessionFault.Write
@@ -558,12 +563,13 @@ impl<'a, A: Author> Run<'a, A> {
         ensures writes { OnOk result (K.failed_calls sink.new ≡ K.failed_calls sink.old) }
         ensures wrote { result ≡ Err SessionFault.Write
             → K.failed_calls sink.new ≡ K.failed_calls sink.old + 1 }
-        ensures answers { OnOk result (HasAnswers (model_path self.old.paths)
+        ensures answers { OnOk result (HasLineAnswers (model_path self.old.paths)
             (test_paths self.old.paths) (AreAll (S.remaining source.old)) (standing self.old)
             (standing self.new) (V.readings versions.old) (V.readings versions.new)
             (K.contents sink.old) (K.contents sink.new)) }
-        ensures cut { OnErr result (HasFront (model_path self.old.paths) (test_paths self.old.paths)
-            (AreFrontOf [] (S.remaining source.old)) (standing self.old)
+        ensures cut { OnErr result
+            (HasAnswersPrefix (model_path self.old.paths) (test_paths self.old.paths)
+            (ArePrefixOf [] (S.remaining source.old)) (standing self.old)
             (V.readings versions.old) (V.readings versions.new) (K.contents sink.old)
             (K.contents sink.new)) }
         ensures unfailed { result ≢ Err SessionFault.Write
@@ -604,11 +610,11 @@ impl<'a, A: Author> Run<'a, A> {
         ensures writes { OnOk result (K.failed_calls sink.new ≡ K.failed_calls sink.old) }
         ensures wrote { result ≡ Err SessionFault.Write
             → K.failed_calls sink.new ≡ K.failed_calls sink.old + 1 }
-        ensures run { IfOk result (λ refused. IsRun (model_path self.old.paths)
+        ensures run { IfOk result (λ refused. IsWatchRun (model_path self.old.paths)
             (test_paths self.old.paths) (lists_of self.old.lines.items) refused
             (S.remaining source.old) (V.readings versions.old) (V.readings versions.new)
             (K.contents sink.old) (K.contents sink.new)) }
-        ensures cut { OnErr result (IsCut (model_path self.old.paths) (test_paths self.old.paths)
+        ensures cut { OnErr result (IsCutRun (model_path self.old.paths) (test_paths self.old.paths)
             (lists_of self.old.lines.items) (S.remaining source.old) (V.readings versions.old)
             (V.readings versions.new) (K.contents sink.old) (K.contents sink.new)) }
         ensures unfailed { result ≢ Err SessionFault.Write

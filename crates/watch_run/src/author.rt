@@ -4,7 +4,7 @@ ghost use Rattle.std.specs.Prelude.{◌≡◌, List, IfOk, IfSome, OnOk, OnErr, 
 ghost use mathlib.Core.List.{IsPrefix};
 ghost use Rattle.board.specs.declared.operation.BoardOp.{BoardOp};
 ghost use Rattle.session_views.specs.Knowing.{HasOwnEdit};
-ghost use Rattle.watch_run.specs.Boards.{lists_of, AreOwn};
+ghost use Rattle.watch_run.specs.Boards.{lists_of, AreOwnLines};
 
 use bench_texts::Edit;
 use command_answers::SessionFault;
@@ -40,5 +40,5 @@ pub trait Author {
     ) -> Result<Option<Vec<Vec<u8>>>, AllocError>
         ensures begins { IsPrefix (seen self.old) (seen self.new) }
         ensures lines { IfOk result (λ o. IfSome o (λ v.
-            AreOwn (seen self.new) made names.now (lists_of v.items))) };
+            AreOwnLines (seen self.new) made names.now (lists_of v.items))) };
 }

@@ -6,12 +6,12 @@ ghost use Rattle.text_values.specs.ModelValues.{clauses_of};
 ghost use Rattle.text_values.specs.TestValue.{Content, content_of};
 ghost use Rattle.litmus_grammar.specs.Texts.{ReadsTest};
 ghost use Rattle.bench_texts.specs.BenchTexts.{test_index, put_at, changed_at};
-ghost use Rattle.bench_texts.specs.Edits.{edit_of, Refuses};
-ghost use Rattle.bench_texts.specs.Held.{model_of, texts_of};
+ghost use Rattle.bench_texts.specs.Edits.{edit_of, RefusesEdit};
+ghost use Rattle.bench_texts.specs.Held.{plain_model, texts_of};
 ghost use Rattle.session_answers.specs.Cells.{test_named, model_named};
-ghost use Rattle.session_edits.specs.Faults.{IsAnswer};
-ghost use Rattle.watch_run.specs.Holding.{model_name, is_name, without_unheld, name_at, HoldsItems, IsTestTaken, ModelFile, TestFile};
-ghost use Rattle.watch_run.specs.Edits.{IsMade, IsVersionTaken, IsOfModel, AreChanges, AreParts, AreSameBut};
+ghost use Rattle.session_edits.specs.Faults.{HasFaultLine};
+ghost use Rattle.watch_run.specs.Holding.{model_name, holds_name, without_unheld, held_name, HoldsItems, IsTestTaken, ModelFile, TestFile};
+ghost use Rattle.watch_run.specs.Edits.{IsEditTried, IsVersionTaken, IsModelEdit, AreChanges, AreTestParts, AreSameBut};
 ghost use Rattle.watch_run.specs.Boards.{KnowsItsTexts, holding};
 
 use crate::author::Author;
@@ -32,7 +32,7 @@ const MOST_EDITS: u64 = u64::MAX - 1;
 // A fault that is told. Errors: out of memory, where that is the fault.
 fn told_fault(fault: EditFault) -> Result<EditFault, AllocError>
     ensures same { IfOk result (λ f. f ≡ fault) }
-    ensures answer { IfOk result IsAnswer }
+    ensures answer { IfOk result HasFaultLine }
 {
     match fault {
         EditFault::OutOfMemory(error) => Err(error),
@@ -63,7 +63,7 @@ fn is_full(fault: &EditFault) -> bool {
 
 // The model, if it is there.
 fn held_model<'t>(texts: &'t Texts) -> Option<&'t NamedModel>
-    ensures { option_map (λ m. model_of m.now) result
+    ensures { option_map (λ m. plain_model m.now) result
         ≡ model_named (texts_of texts.now) model_name }
 {
     let index = texts.model_index(model_name());
@@ -112,7 +112,7 @@ fn edit_to(
     new: &ModelText,
     change: ItemChange,
 ) -> Result<Option<Edit>, AllocError>
-    ensures { IfOk result (λ o. IfSome o (λ e. IsOfModel (edit_of e))) }
+    ensures { IfOk result (λ o. IfSome o (λ e. IsModelEdit (edit_of e))) }
 {
     match held_model(texts) {
         Some(model) => Ok(Some(item_edit(alloc, model, &new.items, change)?)),
@@ -125,7 +125,7 @@ fn edit_to(
 #[tactic(auto, using(crate::proofs::Taking::parts_of))]
 fn parts_to(alloc: Global, texts: &Texts, new: &Test) -> Result<Option<Vec<TestPart>>, AllocError>
     ensures { IfOk result (λ o.
-        IfSome o (λ ps. AreParts (texts_of texts.now) (content_of new.now) ps.items)) }
+        IfSome o (λ ps. AreTestParts (texts_of texts.now) (content_of new.now) ps.items)) }
 {
     let old = match held_test(texts, new.name.as_bytes()) {
         Some(old) => old,
@@ -150,7 +150,7 @@ fn holds_test(alloc: Global, texts: &Texts, new: &Test) -> Result<bool, AllocErr
 
 // Whether this is the name of the test that a file holds.
 fn is_of(held: &Option<Name>, name: &Name) -> bool
-    ensures { result ≡ is_name name.now held.now }
+    ensures { result ≡ holds_name name.now held.now }
 {
     match held {
         Some(held) => held.as_bytes() == name.as_bytes(),
@@ -160,7 +160,7 @@ fn is_of(held: &Option<Name>, name: &Name) -> bool
 
 // Whether some file holds the test of this name.
 fn is_held(names: &[Option<Name>], name: &Name) -> bool
-    ensures { result ≡ list_any (is_name name.now) names.now }
+    ensures { result ≡ list_any (holds_name name.now) names.now }
 {
     for held in names {
         if is_of(held, name) {
@@ -193,7 +193,7 @@ fn is_leaving(names: &[Option<Name>], index: usize, new: &Name) -> bool {
 #[tactic(auto, using(crate::proofs::Lists::changed_set, crate::proofs::Lists::got_set, crate::proofs::Lists::got_past))]
 fn put_name(names: &mut Vec<Option<Name>>, index: usize, name: Name) -> Option<Name>
     ensures names { names.new.items ≡ changed_at index (λ old. Some name) names.old.items }
-    ensures old { result ≡ name_at index names.old.items }
+    ensures old { result ≡ held_name index names.old.items }
 {
     if index < names.len() {
         replace(&mut names[index], Some(name))
@@ -214,7 +214,7 @@ impl<A: Author> Watched<A> {
         requires ready { KnowsItsTexts A.seen self.old }
         ensures ready { OnOk result (KnowsItsTexts A.seen self.new) }
         ensures made { IfOk result (λ o.
-            IsMade (texts_of self.old.texts) (edit_of edit) o (texts_of self.new.texts)) }
+            IsEditTried (texts_of self.old.texts) (edit_of edit) o (texts_of self.new.texts)) }
         ensures names { self.new.names ≡ self.old.names }
     {
         own_edits_are_known(&self.texts);
@@ -235,8 +235,8 @@ impl<A: Author> Watched<A> {
     fn refusal(&mut self, alloc: Global, edit: &Edit) -> Result<Option<EditFault>, AllocError>
         requires ready { KnowsItsTexts A.seen self.old }
         ensures ready { KnowsItsTexts A.seen self.new }
-        ensures fault { IfOk result (λ o. IfSome o (λ fault. IsAnswer fault
-            × Refuses (texts_of self.old.texts) false (edit_of edit.now) fault)) }
+        ensures fault { IfOk result (λ o. IfSome o (λ fault. HasFaultLine fault
+            × RefusesEdit (texts_of self.old.texts) false (edit_of edit.now) fault)) }
         ensures texts { texts_of self.new.texts ≡ texts_of self.old.texts }
         ensures names { self.new.names ≡ self.old.names }
     {
@@ -306,7 +306,7 @@ impl<A: Author> Watched<A> {
         whole: Edit,
     ) -> Result<(), AllocError>
         requires ready { KnowsItsTexts A.seen self.old }
-        requires whole { IsOfModel (edit_of whole) }
+        requires whole { IsModelEdit (edit_of whole) }
         ensures ready { OnOk result (KnowsItsTexts A.seen self.new) }
         ensures items { OnOk result (HoldsItems (clauses_of new.now.items.items)
             (texts_of self.new.texts)) }

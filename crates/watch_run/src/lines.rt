@@ -7,8 +7,8 @@ ghost use Rattle.outcome_texts.specs.Cells.{cell_of};
 ghost use Rattle.bench_texts.specs.Held.{texts_of};
 ghost use Rattle.board.specs.Legal.{IsLegal};
 ghost use Rattle.watch_run.specs.Holding.{model_name};
-ghost use Rattle.watch_run.specs.Lines.{test_table, behind_line, AreLinesOf, changed_line, changed_lines, jobs_line, AreWritten};
-ghost use Rattle.watch_run.specs.Boards.{lists_of, shown_line, IsClosed, shown_by, IsClosedBy, shown_lines, AreOwn, KnowsItsTexts};
+ghost use Rattle.watch_run.specs.Lines.{test_table, behind_line, AreLinesOf, changed_line, changed_lines, jobs_line, AreLinesWritten};
+ghost use Rattle.watch_run.specs.Boards.{lists_of, shown_line, IsCellClosed, shown_line_of, IsClosedBy, shown_lines, AreOwnLines, KnowsItsTexts};
 
 use crate::author::Author;
 use crate::watched::Watched;
@@ -61,7 +61,7 @@ pub fn test_line<J: Naming>(
 ) -> Result<Option<Vec<u8>>, AllocError>
     requires { IsLegal view.now }
     ensures line { IfOk result (λ o. IfSome o (λ v. v.items ≡ shown_line view.now name.now)) }
-    ensures closed { IfOk result (λ o. IfSome o (λ v. IsClosed view.now name.now)) }
+    ensures closed { IfOk result (λ o. IfSome o (λ v. IsCellClosed view.now name.now)) }
 {
     match result_in(view, name, model_name()) {
         Cell::Open => Ok(None),
@@ -80,7 +80,7 @@ fn line_now<J: Naming>(
     name: &Option<Name>,
 ) -> Result<Option<Vec<u8>>, AllocError>
     requires { IsLegal view.now }
-    ensures line { IfOk result (λ o. IfSome o (λ v. v.items ≡ shown_by view.now name.now)) }
+    ensures line { IfOk result (λ o. IfSome o (λ v. v.items ≡ shown_line_of view.now name.now)) }
     ensures closed { IfOk result (λ o. IfSome o (λ v. IsClosedBy view.now name.now)) }
 {
     match name {
@@ -134,7 +134,7 @@ pub fn read_board<'p, J: Naming>(
 )
     ensures begins { IsPrefix viewer result.0 }
     ensures lines { IfOk result.1 (λ o. IfSome o (λ v.
-        AreOwn result.0 asked.entry.made asked.entry.names.now (lists_of v.items))) }
+        AreOwnLines result.0 asked.entry.made asked.entry.names.now (lists_of v.items))) }
 {
     match newest_view(viewer) {
         Ok(view) => {
@@ -200,7 +200,7 @@ pub fn put_answer(
     nows: &[Vec<u8>],
     jobs: u64,
 ) -> Result<(), AllocError>
-    ensures { OnOk result (AreWritten (lists_of lasts.now) (lists_of nows.now) text.old.items
+    ensures { OnOk result (AreLinesWritten (lists_of lasts.now) (lists_of nows.now) text.old.items
         text.new.items) }
 {
     put_changed_lines(text, lasts, nows)?;

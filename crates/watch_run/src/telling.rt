@@ -1,7 +1,7 @@
 //! What people are told of the versions of files.
 
 ghost use Rattle.std.specs.Prelude.{◌≡◌, List, [], ◌∷◌, Option};
-ghost use Rattle.watch_run.specs.Readings.{AreRead};
+ghost use Rattle.watch_run.specs.Readings.{AreReadBetween};
 
 use crate::versions::{Version, Versions};
 use command_answers::{TextFile, model_fault, model_refusal_lines, test_refusal_lines};

@@ -1,7 +1,7 @@
 //! Where the versions of files come from.
 
 ghost use Rattle.std.specs.Prelude.{List, [], ◌∷◌, Option, None};
-ghost use Rattle.watch_run.specs.Readings.{Reading, AreRead};
+ghost use Rattle.watch_run.specs.Readings.{FileReading, AreReadBetween};
 
 use command_answers::{OfRead, SessionFault, read_text};
 use std::alloc::Global;
@@ -25,11 +25,11 @@ pub enum Version {
 /// A source of the present versions of files.
 pub trait Versions {
     // What calls have read so far, where it is known.
-    ghost readings: { Self → Option (List Reading) };
+    ghost readings: { Self → Option (List FileReading) };
 
     /// The present version of the file of this path.
     fn version(&mut self, alloc: Global, path: &str) -> Version
-        ensures { AreRead (readings self.old) (readings self.new)
+        ensures { AreReadBetween (readings self.old) (readings self.new)
             (record { path = path.now; version = result } ∷ []) };
 }
 

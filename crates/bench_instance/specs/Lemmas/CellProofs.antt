@@ -27,13 +27,13 @@ use Rattle.bench_texts.specs.declared.model.NamedModel.{NamedModel}
 use Rattle.bench_texts.specs.declared.reading.Reading.{Reading}
 use Rattle.bench_texts.specs.declared.reading.Reading.TheVariants as readings
 use Rattle.bench_texts.specs.BenchTexts.{PlainModel, test_index, model_index}
-use Rattle.bench_texts.specs.Edits.{Edit, edit_of, Applies, Refuses}
-use Rattle.bench_texts.specs.Held.{texts_of, IsRead}
+use Rattle.bench_texts.specs.Edits.{Edit, edit_of, Applies, RefusesEdit}
+use Rattle.bench_texts.specs.Held.{texts_of, IsModelRead}
 use Rattle.bench_texts.specs.Held as held
-use Rattle.bench_texts.specs.Readings.{IsReading}
+use Rattle.bench_texts.specs.Readings.{IsModelReading}
 use Rattle.bench_edits.specs.Owed as owed
 use Rattle.bench_edits.specs.Readings.{reading_by, reading_of, readings_of}
-use Rattle.bench_edits.specs.Kept.{id_in, IsKept, IsTestAt, verdict_node}
+use Rattle.bench_edits.specs.Kept.{id_in, IsKeptState, IsTestAt, verdict_node}
 use Rattle.bench_edits.proofs.Nodes.{verdict_used}
 use Rattle.bench_edits.proofs.Scratch.{sound_scratch, faulty_scratch}
 use Rattle.bench_edits.proofs.Standing.{needed}
@@ -41,7 +41,7 @@ use Rattle.bench_text_laws.specs.Orderly.{AreApart}
 use Rattle.bench_edits.specs.Left.{AreOrderlyParts}
 use Rattle.bench_edits.proofs.Kept.{id_of, parts_are_kept}
 use Rattle.bench_instance.specs.declared.stamped_texts.StampedTexts.{StampedTexts}
-use Rattle.bench_instance.specs.StampedTexts.{state_of, net_of, verdict_by, verdict_of, IsSound}
+use Rattle.bench_instance.specs.StampedTexts.{stamped_state, stamped_net, verdict_by, verdict_of, AreSoundTexts}
 use Rattle.bench_instance.specs.Edited.{IsEdited}
 use Rattle.bench_instance.specs.Lemmas.Commits.{all_are}
 use Rattle.bench_instance.specs.StampedCells.{scratch_by, from_scratch, test_of, model_of as model_named}
@@ -59,10 +59,10 @@ edited_alike t u e f number same h = record {
 }
 
 pub refused_alike : (t : StampedTexts) (e f : Code) (spent : Bool) (fault : EditFault)
-    → edit_of e ≡ edit_of f → Refuses (texts_of t.texts) spent (edit_of e) fault
-    → Refuses (texts_of t.texts) spent (edit_of f) fault
+    → edit_of e ≡ edit_of f → RefusesEdit (texts_of t.texts) spent (edit_of e) fault
+    → RefusesEdit (texts_of t.texts) spent (edit_of f) fault
 refused_alike t e f spent fault same h =
-    subst (λ (x : Edit). Refuses (texts_of t.texts) spent x fault) same h
+    subst (λ (x : Edit). RefusesEdit (texts_of t.texts) spent x fault) same h
 
 -- ---- lists
 
@@ -81,7 +81,7 @@ test_names [] = refl
 test_names (t ∷ ts) = ap (λ (l : List (List ℕ)). t.name ∷ l) (test_names ts)
 
 model_names : (ms : List NamedModel)
-    → map (λ m. m.name) (map held.model_of ms) ≡ map (λ m. m.name) ms
+    → map (λ m. m.name) (map held.plain_model ms) ≡ map (λ m. m.name) ms
 model_names [] = refl
 model_names (m ∷ ms) = ap (λ (l : List (List ℕ)). m.name ∷ l) (model_names ms)
 
@@ -194,10 +194,10 @@ model_row_there (r ∷ rs) (x ∷ ms) zero m l e = (r, refl)
 model_row_there (r ∷ rs) (x ∷ ms) (suc j) m l e =
     let n : length rs ≡ length ms = omega arith in model_row_there rs ms j m n e
 
-pub read_at : (ms : List NamedModel) (j : ℕ) (m : NamedModel) → All IsRead ms
-    → slice_get ms j ≡ Some m → IsRead m
+pub read_at : (ms : List NamedModel) (j : ℕ) (m : NamedModel) → All IsModelRead ms
+    → slice_get ms j ≡ Some m → IsModelRead m
 read_at [] j m h e = none_is e
-read_at (x ∷ ms) zero m h e = subst IsRead (some_is e) (h 0 x (omega arith))
+read_at (x ∷ ms) zero m h e = subst IsModelRead (some_is e) (h 0 x (omega arith))
 read_at (x ∷ ms) (suc j) m h e = read_at ms j m (λ k d lt. h (suc k) d (omega arith)) e
 
 -- the cell of a test and a model of these names
@@ -216,7 +216,7 @@ pub record IsCellIn (t : StampedTexts) (test model : List ℕ) (n : Node) : Type
       (reading_of model_row of_model)
   pub node_is : verdict_node row.id model_row.id ≡ n
 
-pub cell_in : (t : StampedTexts) (test model : List ℕ) (n : Node) → IsSound t
+pub cell_in : (t : StampedTexts) (test model : List ℕ) (n : Node) → AreSoundTexts t
     → verdict_of t test model ≡ Some n → IsCellIn t test model n
 cell_in t test model n s h =
     let i = test_index test (texts_of t.texts).tests in
@@ -237,7 +237,7 @@ cell_in t test model n s h =
       node_is = cell.node_is;
     }
 
-module _ (t : StampedTexts) (s : IsSound t) where
+module _ (t : StampedTexts) (s : AreSoundTexts t) where
   abbrev here : List ModelReading
   here = readings_of t.parts.table.models.items t.texts.models.items
 
@@ -246,7 +246,7 @@ module _ (t : StampedTexts) (s : IsSound t) where
       apart_of _ (subst (λ (l : List ℕ). AreApart l) (all_are t.texts.models.items)
       (s.orderly).items)
 
-  kept : IsKept (state_of t) here
+  kept : IsKeptState (stamped_state t) here
   kept =
       parts_are_kept t.parts t.texts.tests.items t.texts.models.items s.parts_are s.read items_apart
 
@@ -275,7 +275,7 @@ module _ (t : StampedTexts) (s : IsSound t) where
       → Has (used t.parts.table) n
   verdict_is_used test model n h =
       let cell = cell_in t test model n s h in
-      let there = verdict_used (state_of t) here kept (test_index test (texts_of t.texts).tests) cell.row cell.of_test (record { row_is = cell.row_is; test_is = cell.test_is }) (reading_of cell.model_row cell.of_model) cell.there in
+      let there = verdict_used (stamped_state t) here kept (test_index test (texts_of t.texts).tests) cell.row cell.of_test (record { row_is = cell.row_is; test_is = cell.test_is }) (reading_of cell.model_row cell.of_model) cell.there in
       subst (λ (m : Node). Has (used t.parts.table) m)
       (ap (verdict_node (cell.row).id)
       (id_of (cell.model_row).id (cell.of_model).numbers.items (cell.of_model).reading) ∙
@@ -306,13 +306,13 @@ module _ (t : StampedTexts) (s : IsSound t) where
   at_index (r ∷ rs) (x ∷ ms) m (inr h) =
       let k = at_index rs ms m h in (suc k.0, k.1, k.2, k.3, k.4, k.5)
 
-  pub node_is_needed : UsedIsNeeded (net_of t) (verdict_of t)
+  pub node_is_needed : UsedIsNeeded (stamped_net t) (verdict_of t)
   node_is_needed n h =
-      let under = needed (state_of t) here n kept h in
+      let under = needed (stamped_state t) here n kept h in
       let test = row_of_id t.parts.last t.parts.table.tests.items t.texts.tests.items t.parts.locations.items n.test ((s.parts_are).built).tests (used_test t.parts.table n h) in
       let model = at_index t.parts.table.models.items t.texts.models.items under.model under.there in
       let test_at = stands_there (λ (c : Content). c.name) content_of test.2.name t.texts.tests.items test.0 test.2 tests_apart test.4 refl in
-      let model_at = stands_there (λ (m : PlainModel). m.name) held.model_of model.2.name t.texts.models.items model.0 model.2 models_apart model.4 refl in
+      let model_at = stands_there (λ (m : PlainModel). m.name) held.plain_model model.2.name t.texts.models.items model.0 model.2 models_apart model.4 refl in
       let id : model.1.id ≡ id_in under.model = sym (id_of model.1.id model.2.numbers.items model.2.reading) ∙ ap id_in model.5 in
       record {
         test = test.2.name;
@@ -339,18 +339,18 @@ module _ (t : StampedTexts) (s : IsSound t) where
 
   module _ (test model : List ℕ) where
     abbrev Scratch : Option Test → Option NamedModel → Option Node → Type 0
-    Scratch c m n = SolvedIsFromScratch makes (net_of t) outcome_in n (λ o. scratch_by c m o)
+    Scratch c m n = SolvedIsFromScratch makes (stamped_net t) outcome_in n (λ o. scratch_by c m o)
 
     by_reading : (i : ℕ) (row : TestRow) (c : Test) (id : ℕ) (m : NamedModel) (rd : Reading)
-        → IsTestAt (state_of t) i row c → Has here (reading_by id m.numbers.items rd)
-        → IsReading m.text.items.items rd
+        → IsTestAt (stamped_state t) i row c → Has here (reading_by id m.numbers.items rd)
+        → IsModelReading m.text.items.items rd
         → Scratch (Some c) (Some m) (Some (verdict_node row.id id))
     by_reading i row c id m (readings.Sound resolved us) at there read =
-        sound_scratch (state_of t) here kept i row c at id m.numbers.items
+        sound_scratch (stamped_state t) here kept i row c at id m.numbers.items
         (arc_value resolved).items.items us.items there m.text (read.0).no_fault
         ((read.0).as_resolved, (read.0).labelled)
     by_reading i row c id m (readings.Faulty fault) at there read =
-        faulty_scratch (state_of t) here kept i row c at id fault there m.text read
+        faulty_scratch (stamped_state t) here kept i row c at id fault there m.text read
 
     -- where the cell is there
     scratch_at : (n : Node) → verdict_of t test model ≡ Some n
@@ -363,18 +363,18 @@ module _ (t : StampedTexts) (s : IsSound t) where
         (λ (k : Node). Scratch (Some cell.of_test) (Some cell.of_model) (Some k))
         cell.node_is one)
 
-    pub cell_is_solved : SolvedIsFromScratch makes (net_of t) outcome_in (verdict_of t test model)
+    pub cell_is_solved : SolvedIsFromScratch makes (stamped_net t) outcome_in (verdict_of t test model)
         (from_scratch t test model)
     cell_is_solved memos n all e settled = scratch_at n e memos n all refl settled
 
-pub verdicts_used : (t : StampedTexts) (test model : List ℕ) (n : Node) → IsSound t
+pub verdicts_used : (t : StampedTexts) (test model : List ℕ) (n : Node) → AreSoundTexts t
     → verdict_of t test model ≡ Some n → Has (used t.parts.table) n
 verdicts_used t test model n s h = verdict_is_used t s test model n h
 
-pub all_needed : (t : StampedTexts) → IsSound t → UsedIsNeeded (net_of t) (verdict_of t)
+pub all_needed : (t : StampedTexts) → AreSoundTexts t → UsedIsNeeded (stamped_net t) (verdict_of t)
 all_needed t s = node_is_needed t s
 
-pub cells_solved : (t : StampedTexts) (test model : List ℕ) → IsSound t
-    → SolvedIsFromScratch makes (net_of t) outcome_in (verdict_of t test model)
+pub cells_solved : (t : StampedTexts) (test model : List ℕ) → AreSoundTexts t
+    → SolvedIsFromScratch makes (stamped_net t) outcome_in (verdict_of t test model)
     (from_scratch t test model)
 cells_solved t test model s = cell_is_solved t s test model

@@ -6,9 +6,9 @@ use Rattle.text_values.specs.declared.test.Test.{Test}
 use Rattle.text_values.specs.declared.model.Item.{Item}
 use Rattle.bench_texts.specs.declared.edit.Edit.{Edit}
 use Rattle.bench_texts.specs.declared.model.NamedModel.{NamedModel}
-use Rattle.bench_texts.specs.BenchTexts.{BenchTexts, PlainModel, put_at, items_of}
+use Rattle.bench_texts.specs.BenchTexts.{BenchTexts, PlainModel, put_at, items_with_numbers}
 use Rattle.bench_texts.specs.Edits.{Edit as Change, edit_of, Applies}
-use Rattle.bench_texts.specs.Held.{model_of, texts_of, IsRead, AreRead}
+use Rattle.bench_texts.specs.Held.{plain_model, texts_of, IsModelRead, AreModelsRead}
 use Rattle.bench_texts.specs.Replacements.{texts_with, tests_with, models_with}
 use Rattle.bench_parts.specs.declared.parts.Parts.{Parts}
 use Rattle.bench_parts.specs.Contents as contents
@@ -23,7 +23,7 @@ use Rattle.bench_edits.specs.declared.edited.EditedParts.TheVariants as edited
 use Rattle.bench_edits.proofs.ModelEdits.{edits_keep}
 use Rattle.bench_edits.proofs.Stamped.{edits_stamped}
 use Rattle.bench_edits.specs.Edited.{AreTestsSame, AreModelsSame, Changes}
-use Rattle.bench_edits.specs.Laws.{IsEdit, EditsKeepParts, AreWritten, ItemsFollow, EditsAreStamped}
+use Rattle.bench_edits.specs.Laws.{IsEdit, EditsKeepParts, AreModelsWritten, ItemsFollow, EditsAreStamped}
 use Rattle.bench_edits.specs.Readings.{written_state}
 use Rattle.bench_edits.specs.Owed.{ArePartsOf, item_numbers}
 use Rattle.bench_edits.specs.Owed as owed
@@ -33,8 +33,8 @@ use Rattle.bench_edits.proofs.Lists.{has_map}
 use Rattle.bench_instance.specs.declared.stamped_texts.StampedTexts.{StampedTexts}
 use Rattle.bench_instance.specs.declared.stamped_texts.PreparedEdit.{PreparedEdit}
 use Rattle.bench_text_laws.specs.Orderly.{AreApart, numbers_of, all_numbers, IsOrderly}
-use Rattle.bench_text_laws.specs.Order.{ItemsGoOn, AreInOneOrder}
-use Rattle.bench_instance.specs.StampedTexts.{written_of, IsSound}
+use Rattle.bench_text_laws.specs.Order.{PlainItemsGoOn, AreNumbersInOneOrder}
+use Rattle.bench_instance.specs.StampedTexts.{written_of, AreSoundTexts}
 use Rattle.bench_instance.specs.Edited.{IsPrepared, IsCommitted, IsPartsEdit, IsEdited}
 use Rattle.bench_text_laws.proofs.Orderly.{applied_orderly}
 use Rattle.bench_text_laws.proofs.Order.{applied_go_on, models_in_order}
@@ -44,13 +44,13 @@ use Rattle.bench_text_laws.proofs.Together.{applied_together}
 -- ---- parts that were the same
 
 tests_from : (p u q : Parts) (ts us : List Test)
-    → IsSameState (contents.state_of p ts) (contents.state_of u us) → AreTestsSame u q
+    → IsSameState (contents.parts_state p ts) (contents.parts_state u us) → AreTestsSame u q
     → AreTestsSame p q
 tests_from p u q ts us s h =
     record { rows = h.rows ∙ s.test_rows; locations = h.locations ∙ s.locations }
 
 models_from : (p u q : Parts) (ts us : List Test)
-    → IsSameState (contents.state_of p ts) (contents.state_of u us) → AreModelsSame u q
+    → IsSameState (contents.parts_state p ts) (contents.parts_state u us) → AreModelsSame u q
     → AreModelsSame p q
 models_from p u q ts us s h = record {
   rows = h.rows ∙ s.model_rows;
@@ -62,7 +62,7 @@ models_from p u q ts us s h = record {
 }
 
 changes_from : (p u q : Parts) (ts us : List Test) (number : ℕ) (e : EditedParts)
-    → IsSameState (contents.state_of p ts) (contents.state_of u us) → Changes u number e q
+    → IsSameState (contents.parts_state p ts) (contents.parts_state u us) → Changes u number e q
     → Changes p number e q
 changes_from p u q ts us number (edited.PutTest at row locations) s h = record {
   new = h.new;
@@ -89,22 +89,22 @@ changes_from p u q ts us number (edited.Models m) s h = record {
 -- ---- numbers
 
 numbers_are : (ns : List ℕ) (is : List Item) → length ns ≡ length is
-    → map (λ i. i.number) (items_of ns is) ≡ ns
+    → map (λ i. i.number) (items_with_numbers ns is) ≡ ns
 numbers_are [] is e = refl
 numbers_are (n ∷ ns) [] e = absurd (omega (arith, e))
 numbers_are (n ∷ ns) (i ∷ is) e =
     let f : length ns ≡ length is = omega (arith, e) in
     ap (λ (ms : List ℕ). n ∷ ms) (numbers_are ns is f)
 
-numbers_in : (m : NamedModel) → numbers_of (model_of m) ≡ m.numbers.items
+numbers_in : (m : NamedModel) → numbers_of (plain_model m) ≡ m.numbers.items
 numbers_in m =
     numbers_are m.numbers.items m.text.items.items
     (sym (m.numbers).ok.0 ∙ m.paired ∙ ((m.text).items).ok.0)
 
-pub all_are : (ms : List NamedModel) → all_numbers (map model_of ms) ≡ item_numbers ms
+pub all_are : (ms : List NamedModel) → all_numbers (map plain_model ms) ≡ item_numbers ms
 all_are [] = refl
 all_are (m ∷ ms) =
-    ap (λ (ns : List ℕ). ns ++ all_numbers (map model_of ms)) (numbers_in m) ∙ ap
+    ap (λ (ns : List ℕ). ns ++ all_numbers (map plain_model ms)) (numbers_in m) ∙ ap
     (λ (ns : List ℕ). m.numbers.items ++ ns) (all_are ms)
 
 apart_of : (ns : List ℕ) → AreApart ns → owed.AreApart ns
@@ -113,7 +113,7 @@ apart_of (n ∷ ns) h = (h.0, apart_of ns h.1)
 
 -- ---- models as they are written
 
-pub are_written : (t : StampedTexts) → IsSound t → AreWritten t.texts.models.items t.texts.next
+pub are_written : (t : StampedTexts) → AreSoundTexts t → AreModelsWritten t.texts.models.items t.texts.next
 are_written t s = record {
   read = s.read;
   apart = apart_of _ (subst AreApart (all_are t.texts.models.items) (s.orderly).items);
@@ -132,7 +132,7 @@ of_map f (x ∷ xs) y (inr h) = let found = of_map f xs y h in (found.0, inr fou
 -- the texts before an edit, and those after it
 module _ (t w : StampedTexts) (e : Change) (orderly : IsOrderly (texts_of t.texts))
     (applies : Applies (texts_of t.texts) false e (texts_of w.texts)) where
-  goes_on : ItemsGoOn (texts_of t.texts) (texts_of w.texts)
+  goes_on : PlainItemsGoOn (texts_of t.texts) (texts_of w.texts)
   goes_on = applied_go_on (texts_of t.texts) (texts_of w.texts) false e orderly applies
 
   -- two items of a model that are still there are so of one model
@@ -141,10 +141,10 @@ module _ (t w : StampedTexts) (e : Change) (orderly : IsOrderly (texts_of t.text
       (n : NamedModel) × Has w.texts.models.items n × Has n.numbers.items first
       × Has n.numbers.items second
 
-  named_together : (first second : ℕ) (v : PlainModel) → Has (map model_of w.texts.models.items) v
+  named_together : (first second : ℕ) (v : PlainModel) → Has (map plain_model w.texts.models.items) v
       → Has (numbers_of v) first → Has (numbers_of v) second → StandTogether first second
   named_together first second v there one other =
-      let found = of_map model_of w.texts.models.items v there in
+      let found = of_map plain_model w.texts.models.items v there in
       let same : numbers_of v ≡ found.0.numbers.items = ap numbers_of (sym found.2) ∙ numbers_in found.0 in (
         found.0,
         found.1,
@@ -153,12 +153,12 @@ module _ (t w : StampedTexts) (e : Change) (orderly : IsOrderly (texts_of t.text
       )
 
   still_there : (number : ℕ) → Has (item_numbers w.texts.models.items) number
-      → Has (all_numbers (map model_of w.texts.models.items)) number
+      → Has (all_numbers (map plain_model w.texts.models.items)) number
   still_there number there =
       subst (λ (ns : List ℕ). Has ns number) (sym (all_are w.texts.models.items)) there
 
   in_model : (m : NamedModel) (index number : ℕ) → slice_get m.numbers.items index ≡ Some number
-      → Has (numbers_of (model_of m)) number
+      → Has (numbers_of (plain_model m)) number
   in_model m index number at =
       subst (λ (ns : List ℕ). Has ns number) (sym (numbers_in m))
       (has_at m.numbers.items index number at)
@@ -168,20 +168,20 @@ module _ (t w : StampedTexts) (e : Change) (orderly : IsOrderly (texts_of t.text
       → Has (item_numbers w.texts.models.items) first
       → Has (item_numbers w.texts.models.items) second → StandTogether first second
   together m a b first second there at_a at_b la lb =
-      let stays = applied_together (texts_of t.texts) (texts_of w.texts) false e orderly applies (model_of m) first second (has_map model_of t.texts.models.items m there)
+      let stays = applied_together (texts_of t.texts) (texts_of w.texts) false e orderly applies (plain_model m) first second (has_map plain_model t.texts.models.items m there)
       (in_model m a first at_a) (in_model m b second at_b) (still_there first la)
       (still_there second lb) in
       named_together first second stays.0 stays.1 stays.2 stays.3
 
   in_order : (m n : NamedModel) → Has t.texts.models.items m → Has w.texts.models.items n
-      → AreInOneOrder m.numbers.items n.numbers.items
+      → AreNumbersInOneOrder m.numbers.items n.numbers.items
   in_order m n there later =
-      subst (λ (ns : List ℕ). AreInOneOrder m.numbers.items ns) (numbers_in n)
-      (subst (λ (ns : List ℕ). AreInOneOrder ns (numbers_of (model_of n))) (numbers_in m)
-      (models_in_order (texts_of t.texts) (texts_of w.texts) (model_of m) (model_of n)
+      subst (λ (ns : List ℕ). AreNumbersInOneOrder m.numbers.items ns) (numbers_in n)
+      (subst (λ (ns : List ℕ). AreNumbersInOneOrder ns (numbers_of (plain_model n))) (numbers_in m)
+      (models_in_order (texts_of t.texts) (texts_of w.texts) (plain_model m) (plain_model n)
       (applied_orderly (texts_of t.texts) (texts_of w.texts) false e orderly applies) goes_on
-      (has_map model_of t.texts.models.items m there)
-      (has_map model_of w.texts.models.items n later)))
+      (has_map plain_model t.texts.models.items m there)
+      (has_map plain_model w.texts.models.items n later)))
 
   pub items_follow : ItemsFollow t.texts.models.items w.texts.models.items t.texts.next w.texts.next
   items_follow = record {
@@ -226,7 +226,7 @@ module _ (keep : EditsKeepParts) (stamp : EditsAreStamped) (t u w : StampedTexts
   later =
       record { later = subst (λ (l : ℕ). l < number) ((h.same).state).last c.later; fits = c.fits }
 
-  is_edit : IsSound t
+  is_edit : AreSoundTexts t
       → IsEdit t.parts t.texts.tests.items t.texts.models.items p.texts.replacement number p.parts
       w.parts
   is_edit s = record {
@@ -241,24 +241,24 @@ module _ (keep : EditsKeepParts) (stamp : EditsAreStamped) (t u w : StampedTexts
     };
   }
 
-  orderly : IsSound t → IsOrderly (texts_of w.texts)
+  orderly : AreSoundTexts t → IsOrderly (texts_of w.texts)
   orderly s =
       applied_orderly (texts_of t.texts) (texts_of w.texts) false (edit_of e) s.orderly applies
 
-  read : IsSound t → AreRead w.texts
+  read : AreSoundTexts t → AreModelsRead w.texts
   read s = c.read ((h.same).read s.read)
 
-  apart : IsSound t
+  apart : AreSoundTexts t
       → owed.AreApart (item_numbers (models_with p.texts.replacement t.texts.models.items))
   apart s =
       apart_of _ (subst AreApart (all_are (models_with p.texts.replacement t.texts.models.items))
-      (subst (λ (ms : List NamedModel). AreApart (all_numbers (map model_of ms))) models_are
+      (subst (λ (ms : List NamedModel). AreApart (all_numbers (map plain_model ms))) models_are
       (orderly s).items))
 
-  all_read : IsSound t → All IsRead (models_with p.texts.replacement t.texts.models.items)
-  all_read s = subst (λ (ms : List NamedModel). All IsRead ms) models_are (read s)
+  all_read : AreSoundTexts t → All IsModelRead (models_with p.texts.replacement t.texts.models.items)
+  all_read s = subst (λ (ms : List NamedModel). All IsModelRead ms) models_are (read s)
 
-  parts_are : IsSound t → ArePartsOf w.parts w.texts.tests.items w.texts.models.items
+  parts_are : AreSoundTexts t → ArePartsOf w.parts w.texts.tests.items w.texts.models.items
   parts_are s =
       subst (λ (ts : List Test). ArePartsOf w.parts ts w.texts.models.items) (sym tests_are)
       (subst
@@ -268,13 +268,13 @@ module _ (keep : EditsKeepParts) (stamp : EditsAreStamped) (t u w : StampedTexts
       (keep t.parts w.parts t.texts.tests.items t.texts.models.items p.texts.replacement number
       p.parts (is_edit s) (apart s) (all_read s)))
 
-  kinds : IsSound t → AreKindsOf w.parts w.texts.models.items
+  kinds : AreSoundTexts t → AreKindsOf w.parts w.texts.models.items
   kinds s =
       subst (λ (ms : List NamedModel). AreKindsOf w.parts ms) (sym models_are)
       (kinds_after t.parts w.parts t.texts.tests.items t.texts.models.items p.texts.replacement
       number p.parts (is_edit s) (apart s) s.kinds)
 
-  parts_edit : IsSound t → IsPartsEdit t number w
+  parts_edit : AreSoundTexts t → IsPartsEdit t number w
   parts_edit s =
       record {
         replacement = p.texts.replacement;
@@ -284,10 +284,10 @@ module _ (keep : EditsKeepParts) (stamp : EditsAreStamped) (t u w : StampedTexts
         models = models_are;
       }
 
-  sound : IsSound t → IsSound w
+  sound : AreSoundTexts t → AreSoundTexts w
   sound s = record { read = read s; parts_are = parts_are s; orderly = orderly s; kinds = kinds s }
 
-  follow : IsSound t
+  follow : AreSoundTexts t
       → ItemsFollow t.texts.models.items (models_with p.texts.replacement t.texts.models.items)
       t.texts.next w.texts.next
   follow s =
@@ -295,13 +295,13 @@ module _ (keep : EditsKeepParts) (stamp : EditsAreStamped) (t u w : StampedTexts
       (λ (ms : List NamedModel). ItemsFollow t.texts.models.items ms t.texts.next w.texts.next)
       models_are (items_follow t w (edit_of e) s.orderly applies)
 
-  written_after : IsSound t
-      → AreWritten (models_with p.texts.replacement t.texts.models.items) w.texts.next
+  written_after : AreSoundTexts t
+      → AreModelsWritten (models_with p.texts.replacement t.texts.models.items) w.texts.next
   written_after s =
-      subst (λ (ms : List NamedModel). AreWritten ms w.texts.next) models_are
+      subst (λ (ms : List NamedModel). AreModelsWritten ms w.texts.next) models_are
       (are_written w (sound s))
 
-  stamped : IsSound t → IsStamped (written_of t) number (written_of w)
+  stamped : AreSoundTexts t → IsStamped (written_of t) number (written_of w)
   stamped s =
       subst
       (λ (ts : List Test). IsStamped (written_of t) number

@@ -29,22 +29,22 @@ use Rattle.desk.specs.Boards.{BoardCell, with_outcome}
 use Rattle.board.specs.declared.operation.BoardOp.{BoardOp}
 use Rattle.board.specs.declared.operation.BoardOp.TheVariants as ops
 use Rattle.board.specs.Contents.{RowContent, ColumnContent, BoardContent}
-use Rattle.board.specs.Legal.{Held, held_of, held_with, held_after, nothing_held, texts_after, IsRightAt}
+use Rattle.board.specs.Legal.{TestsAndModels, tests_and_models, tests_and_models_with, tests_and_models_after, no_tests_or_models, texts_after, IsRightAt}
 use Rattle.board.specs.Legal.{number_after, last_number, MayFollow}
-use Rattle.board.specs.Operations.{with_cell, settled, after_operation, no_board, board_after}
+use Rattle.board.specs.Operations.{with_cell, with_settled_cell, after_operation, no_board, board_after}
 use Rattle.board.specs.Right.{HasNamesOf}
 use Rattle.board.proofs.Names.{IsNamed, as_many, names_from, one_more_is_legal}
 use Rattle.board.proofs.Changed.{map-kept}
 use Rattle.bench_instance.specs.declared.stamped_texts.StampedTexts.{StampedTexts}
 use Rattle.bench_instance.specs.declared.stamped_texts.PreparedEdit.{PreparedEdit}
-use Rattle.bench_instance.specs.StampedTexts.{IsSound, IsSince, verdict_of}
+use Rattle.bench_instance.specs.StampedTexts.{AreSoundTexts, AreTextsSince, verdict_of}
 use Rattle.bench_instance.specs.Edited.{IsPrepared, IsCommitted}
 use Rattle.bench_instance.specs.StampedCells.{from_scratch, scratch_by, test_of, model_of}
 use Rattle.bench_instance.specs.Lemmas.CellProofs.{cell_in, is_named, stands_there, tests_apart, models_apart}
 use Rattle.bench_instance.specs.Cells.{cell_with, all_cells, IsCountable, board_cells}
 use Rattle.board.specs.Histories.{no_contents, contents_with, contents_after, IsMadeOn, AreMadeFrom, IsHistory, MayComeNext, IsEditAfter, IsSettle}
 use Rattle.bench_instance.specs.Texts.{AreAfter}
-use Rattle.bench_instance.specs.Texts.{Announced, Settles}
+use Rattle.bench_instance.specs.Texts.{IsAnnounced, SettlesCell}
 use Rattle.bench_instance.specs.Lemmas.Listing.{are_all, all_get, all_put, cell_of_row, row_cell, outcome_at}
 
 -- ---- names
@@ -55,10 +55,10 @@ board_tests b = map (λ r. r.name) b.rows
 abbrev board_models : BoardContent → List (List ℕ)
 board_models b = map (λ c. c.name) b.columns
 
-abbrev held_tests : Held → List (List ℕ)
+abbrev held_tests : TestsAndModels → List (List ℕ)
 held_tests h = map (λ t. t.name) h.tests
 
-abbrev held_models : Held → List (List ℕ)
+abbrev held_models : TestsAndModels → List (List ℕ)
 held_models h = map (λ m. m.name) h.models
 
 -- ---- one operation more
@@ -72,13 +72,13 @@ one_more_is_made (o ∷ all) op t made may =
 pub goes_on : (all : List BoardOp) (op : BoardOp) → IsHistory all → MayComeNext all op
     → IsHistory (all ++ op ∷ [])
 goes_on all op history may = (
-  one_more_is_legal all op nothing_held 0 history.0 may.0,
+  one_more_is_legal all op no_tests_or_models 0 history.0 may.0,
   one_more_is_made all op no_contents history.1 may.1,
 )
 
 texts_push : (all : List BoardOp) (op : BoardOp)
-    → texts_after (all ++ op ∷ []) ≡ held_after (texts_after all) op
-texts_push all op = fold_push held_after nothing_held all op
+    → texts_after (all ++ op ∷ []) ≡ tests_and_models_after (texts_after all) op
+texts_push all op = fold_push tests_and_models_after no_tests_or_models all op
 
 contents_push : (all : List BoardOp) (op : BoardOp)
     → contents_after (all ++ op ∷ []) ≡ contents_with (contents_after all) op
@@ -105,7 +105,7 @@ names_push all op last names may =
 
 -- ---- texts that are the same
 
-abbrev held : List Test → List NamedModel → Held
+abbrev held : List Test → List NamedModel → TestsAndModels
 held ts ms = record { tests = ts; models = ms }
 
 held_same : (ts us : List Test) (ms ns : List NamedModel) → us ≡ ts → ns ≡ ms
@@ -114,12 +114,12 @@ held_same ts us ms ns e f = ap (λ (cs : List Test). held cs ns) e ∙ ap (held 
 
 held_alike : (t u : StampedTexts) → u.texts.tests.items ≡ t.texts.tests.items
     → u.texts.models.items ≡ t.texts.models.items
-    → held_of u.texts ≡ held_of t.texts
+    → tests_and_models u.texts ≡ tests_and_models t.texts
 held_alike t u e f =
     held_same t.texts.tests.items u.texts.tests.items t.texts.models.items u.texts.models.items e f
 
 pub same_after : (t u : StampedTexts) (all : List BoardOp)
-    → IsSound t → u.parts.last ≡ t.parts.last → IsSince t u → AreAfter t all → AreAfter u all
+    → AreSoundTexts t → u.parts.last ≡ t.parts.last → AreTextsSince t u → AreAfter t all → AreAfter u all
 same_after t u all sound last since a =
     let same = since.same last in
     record {
@@ -131,7 +131,7 @@ same_after t u all sound last since a =
     }
 
 prepared_held : (t u : StampedTexts) (e : Edit) (p : PreparedEdit) → IsPrepared t e p u
-    → held_of u.texts ≡ held_of t.texts
+    → tests_and_models u.texts ≡ tests_and_models t.texts
 prepared_held t u e p h = held_alike t u ((h.same).state).tests (h.same).models
 
 -- ---- edits
@@ -176,43 +176,43 @@ committed_few t u w e p number h c =
     let full = not_full (is_full (texts_made t p)) false (is_spent (texts_of t.texts)) (h.applies).within in
     let few = few_by (texts_of w.texts) (ap is_full (committed_texts t u w e p number h c) ∙ full) in
     let tests : length w.texts.tests.items ≤ 512 = subst (λ (n : ℕ). n ≤ 512) (length-map w.texts.tests.items content_of) few.0 in
-    let models : length w.texts.models.items ≤ 16 = subst (λ (n : ℕ). n ≤ 16) (length-map w.texts.models.items plain.model_of) few.1 in
+    let models : length w.texts.models.items ≤ 16 = subst (λ (n : ℕ). n ≤ 16) (length-map w.texts.models.items plain.plain_model) few.1 in
     (tests, models)
 
 committed_held : (t u w : StampedTexts) (e : Edit) (p : PreparedEdit) (number : ℕ)
     → IsPrepared t e p u → IsCommitted u p number w
-    → held_of w.texts ≡ held_with p.texts.replacement (held_of t.texts)
+    → tests_and_models w.texts ≡ tests_and_models_with p.texts.replacement (tests_and_models t.texts)
 committed_held t u w e p number h c =
-    let put : held_of w.texts ≡ held_with p.texts.replacement (held_of u.texts) =
+    let put : tests_and_models w.texts ≡ tests_and_models_with p.texts.replacement (tests_and_models u.texts) =
     held_same _ w.texts.tests.items _ w.texts.models.items c.tests c.models in
-    put ∙ ap (held_with p.texts.replacement) (prepared_held t u e p h)
+    put ∙ ap (tests_and_models_with p.texts.replacement) (prepared_held t u e p h)
 
 after_by : (u : StampedTexts) (all : List BoardOp)
-    → held_of u.texts ≡ texts_after all → texts_of u.texts ≡ contents_after all → HasNamesOf all
+    → tests_and_models u.texts ≡ texts_after all → texts_of u.texts ≡ contents_after all → HasNamesOf all
     → AreFew u → AreAfter u all
 after_by u all e f names few = record {
   held = e;
   contents = f;
   names = names;
-  few_tests = subst (λ (h : Held). length h.tests ≤ 512) e few.0;
-  few_models = subst (λ (h : Held). length h.models ≤ 16) e few.1;
+  few_tests = subst (λ (h : TestsAndModels). length h.tests ≤ 512) e few.0;
+  few_models = subst (λ (h : TestsAndModels). length h.models ≤ 16) e few.1;
 }
 
 pub edits_after : (t u w : StampedTexts) (e : Edit) (p : PreparedEdit) (number : ℕ) (op : BoardOp)
     (all : List BoardOp)
-    → IsSound t → AreAfter t all → IsPrepared t e p u → Announced u p number op
+    → AreSoundTexts t → AreAfter t all → IsPrepared t e p u → IsAnnounced u p number op
     → IsCommitted u p number w
     → AreAfter w (all ++ op ∷ [])
 edits_after t u w e p number (ops.Edit b) all sound a h n c =
-    let same : held_of u.texts ≡ texts_after all = prepared_held t u e p h ∙ a.held in
+    let same : tests_and_models u.texts ≡ texts_after all = prepared_held t u e p h ∙ a.held in
     let may : MayFollow (texts_after all) u.parts.last (ops.Edit b) =
-    subst (λ (g : Held). MayFollow g u.parts.last (ops.Edit b)) same (n.2 u.parts.last c.later) in
+    subst (λ (g : TestsAndModels). MayFollow g u.parts.last (ops.Edit b)) same (n.2 u.parts.last c.later) in
     let put : p.texts.replacement ≡ b.prepared.value.replacement = ap (λ (q : Prepared). q.replacement) (sym n.1) in
-    let held_is : held_of w.texts ≡ held_with b.prepared.value.replacement (texts_after all) =
+    let held_is : tests_and_models w.texts ≡ tests_and_models_with b.prepared.value.replacement (texts_after all) =
     committed_held t u w e p number h c
     ∙
-    (ap (held_with p.texts.replacement) a.held ∙ ap
-    (λ (r : Replacement). held_with r (texts_after all)) put) in
+    (ap (tests_and_models_with p.texts.replacement) a.held ∙ ap
+    (λ (r : Replacement). tests_and_models_with r (texts_after all)) put) in
     let contents_are : texts_of w.texts ≡ texts_with b.prepared.value.replacement (contents_after all) =
     committed_texts t u w e p number h c
     ∙
@@ -227,7 +227,7 @@ edits_after t u w e p number (ops.Settle at outcome) all sound a h n c = absurd 
 
 pub edits_named : (t u : StampedTexts) (e : Edit) (p : PreparedEdit) (number : ℕ) (op : BoardOp)
     (all : List BoardOp)
-    → IsSound t → AreAfter t all → IsPrepared t e p u → Announced u p number op
+    → AreSoundTexts t → AreAfter t all → IsPrepared t e p u → IsAnnounced u p number op
     → IsEditAfter all op e number
 edits_named t u e p number (ops.Edit b) all sound a h n =
     let now = contents_after all in
@@ -252,24 +252,24 @@ edits_named t u e p number (ops.Settle at outcome) all sound a h n = absurd n
 
 pub edits_follow : (t u : StampedTexts) (e : Edit) (p : PreparedEdit) (number : ℕ) (op : BoardOp)
     (all : List BoardOp)
-    → IsSound t → AreAfter t all → last_number all < number → IsPrepared t e p u
-    → Announced u p number op → MayComeNext all op
+    → AreSoundTexts t → AreAfter t all → last_number all < number → IsPrepared t e p u
+    → IsAnnounced u p number op → MayComeNext all op
 edits_follow t u e p number (ops.Edit b) all sound a lt h n =
-    let same : held_of u.texts ≡ texts_after all = prepared_held t u e p h ∙ a.held in
-    let may = subst (λ (g : Held). MayFollow g (last_number all) (ops.Edit b)) same (n.2 (last_number all) lt) in
+    let same : tests_and_models u.texts ≡ texts_after all = prepared_held t u e p h ∙ a.held in
+    let may = subst (λ (g : TestsAndModels). MayFollow g (last_number all) (ops.Edit b)) same (n.2 (last_number all) lt) in
     (may, (edit_of e, (edits_named t u e p number (ops.Edit b) all sound a h n).1))
 edits_follow t u e p number (ops.Settle at outcome) all sound a lt h n = absurd n
 
 pub edits_numbered : (u : StampedTexts) (p : PreparedEdit) (number : ℕ) (op : BoardOp)
     (all : List BoardOp)
-    → Announced u p number op → last_number (all ++ op ∷ []) ≡ number
+    → IsAnnounced u p number op → last_number (all ++ op ∷ []) ≡ number
 edits_numbered u p number (ops.Edit b) all n = fold_push number_after 0 all (ops.Edit b) ∙ n.0
 edits_numbered u p number (ops.Settle at outcome) all n = absurd n
 
 -- ---- cells that are settled
 
 pub settles_named : (b : BoardContent) (index : ℕ) (o : Outcome) (op : BoardOp)
-    → Settles b index o op → IsSettle op
+    → SettlesCell b index o op → IsSettle op
 settles_named b index o (ops.Edit edit) s = absurd s
 settles_named b index o (ops.Settle at outcome) s = tt
 
@@ -306,8 +306,8 @@ settles_after t all op a s =
       held = a.held ∙ sym e;
       contents = a.contents ∙ sym (settle_contents all op s);
       names = settle_names all op s a.names;
-      few_tests = subst (λ (h : Held). length h.tests ≤ 512) (sym e) a.few_tests;
-      few_models = subst (λ (h : Held). length h.models ≤ 16) (sym e) a.few_models;
+      few_tests = subst (λ (h : TestsAndModels). length h.tests ≤ 512) (sym e) a.few_tests;
+      few_models = subst (λ (h : TestsAndModels). length h.models ≤ 16) (sym e) a.few_models;
     }
 
 pub settles_numbered : (all : List BoardOp) (op : BoardOp) → IsSettle op
@@ -317,16 +317,16 @@ settles_numbered all (ops.Settle at outcome) s =
     fold_push number_after 0 all (ops.Settle at outcome)
 
 pub settles_show : (b : BoardContent) (index : ℕ) (o : Outcome) (op : BoardOp)
-    → Settles b index o op
+    → SettlesCell b index o op
     → board_cells (after_operation b op) ≡ with_outcome index o (board_cells b)
 settles_show b index o (ops.Edit edit) s = absurd s
 settles_show b index o (ops.Settle at outcome) s =
     let new = arc_value outcome in
     let cell = s.1 in
     let as_long = length-changed_at (with_cell at.model (Some new)) b.rows at.test in
-    let countable : IsCountable (settled at new b) =
+    let countable : IsCountable (with_settled_cell at new b) =
     subst (λ (n : ℕ). n * length b.columns < 2 ^ 64) (sym as_long) cell.countable in
-    are_all (settled at new b) countable
+    are_all (with_settled_cell at new b) countable
     ∙ (all_put b.columns b.rows at.test at.model new (cell.there).0 (cell.is_index).1 (cell.there).1
     ∙ (ap (λ (k : ℕ). with_outcome k new (all_cells b.columns b.rows)) (sym (cell.is_index).0)
     ∙ (ap (λ (q : Outcome). with_outcome index q (all_cells b.columns b.rows)) s.0
@@ -389,7 +389,7 @@ right_by test model a b o e f right =
 
 -- the test of a name is the one at its index, and so is the model
 test_here : (t : StampedTexts) (i : ℕ) (test : Test) (name : List ℕ)
-    → IsSound t → slice_get t.texts.tests.items i ≡ Some test → test.name ≡ name
+    → AreSoundTexts t → slice_get t.texts.tests.items i ≡ Some test → test.name ≡ name
     → test_of t name ≡ Some test
 test_here t i test name sound there named =
     let at : test_index name (texts_of t.texts).tests ≡ i =
@@ -398,18 +398,18 @@ test_here t i test name sound there named =
     ap (slice_get t.texts.tests.items) at ∙ there
 
 model_here : (t : StampedTexts) (j : ℕ) (model : NamedModel) (name : List ℕ)
-    → IsSound t → slice_get t.texts.models.items j ≡ Some model → model.name ≡ name
+    → AreSoundTexts t → slice_get t.texts.models.items j ≡ Some model → model.name ≡ name
     → model_of t name ≡ Some model
 model_here t j model name sound there named =
     let at : model_index name (texts_of t.texts).models ≡ j =
-    stands_there (λ (k : PlainModel). k.name) plain.model_of name t.texts.models.items j model
+    stands_there (λ (k : PlainModel). k.name) plain.plain_model name t.texts.models.items j model
     (models_apart t sound) there named in
     ap (slice_get t.texts.models.items) at ∙ there
 
 pub settles_follow : (t : StampedTexts) (all : List BoardOp) (index : ℕ) (c : BoardCell Outcome)
     (o : Outcome) (op : BoardOp)
-    → IsSound t → AreAfter t all → slice_get (board_cells (board_after all)) index ≡ Some c
-    → from_scratch t c.test c.model o → Settles (board_after all) index o op → MayComeNext all op
+    → AreSoundTexts t → AreAfter t all → slice_get (board_cells (board_after all)) index ≡ Some c
+    → from_scratch t c.test c.model o → SettlesCell (board_after all) index o op → MayComeNext all op
 settles_follow t all index c o (ops.Edit edit) sound a h right s = absurd s
 settles_follow t all index c o (ops.Settle at outcome) sound a h right s =
     let b = board_after all in
@@ -424,8 +424,8 @@ settles_follow t all index c o (ops.Settle at outcome) sound a h right s =
     (sym (all_get b.columns b.rows at.test at.model is.1) ∙ listed) in
     let test = named_there (λ r. r.name) (λ x. x.name) b.rows texts.tests at.test cell.of_test (a.names).tests cell.row_is in
     let model = named_there (λ m. m.name) (λ x. x.name) b.columns texts.models at.model cell.of_model (a.names).models cell.column_is in
-    let test_there = ap (λ (g : Held). slice_get g.tests at.test) a.held ∙ test.1 in
-    let model_there = ap (λ (g : Held). slice_get g.models at.model) a.held ∙ model.1 in
+    let test_there = ap (λ (g : TestsAndModels). slice_get g.tests at.test) a.held ∙ test.1 in
+    let model_there = ap (λ (g : TestsAndModels). slice_get g.models at.model) a.held ∙ model.1 in
     let test_is = test_here t at.test test.0 c.test sound test_there (test.2 ∙ cell.test_is) in
     let model_is = model_here t at.model model.0 c.model sound model_there (model.2 ∙ cell.model_is) in
     let there : IsRightAt texts at.test at.model (arc_value outcome) = record {
@@ -491,7 +491,7 @@ IsListedInRow b row test model =
     (j : ℕ) × (j < length b.columns) × IsListedAt b (row * length b.columns + j) test model
 
 pub cells_are_in_rows : (t : StampedTexts) (all : List BoardOp) (test model : List ℕ) (n : Node)
-    → IsSound t → AreAfter t all → verdict_of t test model ≡ Some n
+    → AreSoundTexts t → AreAfter t all → verdict_of t test model ≡ Some n
     → IsListedInRow (board_after all) (test_index test (texts_of t.texts).tests) test model
 cells_are_in_rows t all test model n sound a h =
     let b = board_after all in
@@ -499,8 +499,8 @@ cells_are_in_rows t all test model n sound a h =
     let i = test_index test (texts_of t.texts).tests in
     let j = model_index model (texts_of t.texts).models in
     let cell = cell_in t test model n sound h in
-    let test_there = ap (λ (g : Held). slice_get g.tests i) (sym a.held) ∙ cell.test_is in
-    let model_there = ap (λ (g : Held). slice_get g.models j) (sym a.held) ∙ cell.model_is in
+    let test_there = ap (λ (g : TestsAndModels). slice_get g.tests i) (sym a.held) ∙ cell.test_is in
+    let model_there = ap (λ (g : TestsAndModels). slice_get g.models j) (sym a.held) ∙ cell.model_is in
     let row = named_there (λ x. x.name) (λ r. r.name) texts.tests b.rows i cell.of_test (sym (a.names).tests) test_there in
     let column = named_there (λ x. x.name) (λ m. m.name) texts.models b.columns j cell.of_model (sym (a.names).models) model_there in (
       j,
@@ -510,7 +510,7 @@ cells_are_in_rows t all test model n sound a h =
         cell_listed b i j row.0 column.0 (is_countable t all a) row.1 column.1,
         row.2 ∙ is_named (λ (k : Content). k.name) content_of test t.texts.tests.items cell.of_test
             cell.test_is,
-        column.2 ∙ is_named (λ (k : PlainModel). k.name) plain.model_of model t.texts.models.items
+        column.2 ∙ is_named (λ (k : PlainModel). k.name) plain.plain_model model t.texts.models.items
             cell.of_model cell.model_is,
       ),
     )
@@ -522,7 +522,7 @@ IsListed b test model =
     × (c.test ≡ test) × (c.model ≡ model)
 
 pub cells_are_known : (t : StampedTexts) (all : List BoardOp) (test model : List ℕ) (n : Node)
-    → IsSound t → AreAfter t all → verdict_of t test model ≡ Some n
+    → AreSoundTexts t → AreAfter t all → verdict_of t test model ≡ Some n
     → IsListed (board_after all) test model
 cells_are_known t all test model n sound a h =
     let k = cells_are_in_rows t all test model n sound a h in (

@@ -29,13 +29,13 @@ use Rattle.cells.specs.Cells.{UnreachedIsUntouched}
 use Rattle.bench_edits.proofs.SliceCells.{same_cells}
 use Rattle.bench_edits.proofs.Stable.{IsCertain, nat_stable, untouched_stable}
 use Rattle.bench_edits.proofs.Untouched.{left_untouched}
-use Rattle.bench_edits.specs.Left.{AreOrderlyParts, CellRows, model_in, IsCellOf, IsSameFor, IsSameCell, IsLeft}
+use Rattle.bench_edits.specs.Left.{AreOrderlyParts, CellRows, model_in, IsCellOfParts, IsSameFor, IsSameCell, IsLeft}
 use Rattle.bench_edits.proofs.Kept.{id_of}
 use Rattle.bench_edits.proofs.LeftCells.{cell_left}
 use Rattle.bench_instance.specs.declared.stamped_texts.StampedTexts.{StampedTexts}
-use Rattle.bench_instance.specs.StampedTexts.{written_of, net_of, verdict_by, verdict_of, IsSound}
+use Rattle.bench_instance.specs.StampedTexts.{written_of, stamped_net, verdict_by, verdict_of, AreSoundTexts}
 use Rattle.bench_instance.specs.Edited.{IsEdited, IsPartsEdit}
-use Rattle.bench_instance.specs.StampedCells.{test_of, model_of, slice_of, Reaches}
+use Rattle.bench_instance.specs.StampedCells.{test_of, model_of, slice_by_names, ReachesCellNamed}
 use Rattle.bench_instance.specs.Lemmas.CellProofs.{IsCellIn, cell_in, orderly_parts, is_named, read_at, row_there, model_row_there}
 
 none_is : {A : Type 0} {P : Type 0} {a : A} → None ≡ Some a → P
@@ -83,16 +83,16 @@ sliced (Some c) (Some m) of e =
 left_in : (p q : Parts) (tests after : List Test) (models ms : List NamedModel) (r : Replacement)
     (number : ℕ) (e : EditedParts) (next later : ℕ) (a b : CellRows)
     → after ≡ tests_with r tests → ms ≡ models_with r models → IsEdit p tests models r number e q
-    → AreOrderlyParts p tests models → AreOrderlyParts q after ms → IsCellOf p tests models a
-    → IsCellOf q after ms b → IsSameCell a b
+    → AreOrderlyParts p tests models → AreOrderlyParts q after ms → IsCellOfParts p tests models a
+    → IsCellOfParts q after ms b → IsSameCell a b
     → IsLeft (written_state p tests models next) (written_state q after ms later) a b
 left_in p q tests after models ms r number e next later a b te me edit before =
     rw (te, me) (λ now was is same. cell_left p q tests models r number e next later a b
     (record { edit = edit; before = before; after = now }) was is same)
 
-module _ (t u : StampedTexts) (e : Code) (number : ℕ) (test model : List ℕ) (s : IsSound t)
+module _ (t u : StampedTexts) (e : Code) (number : ℕ) (test model : List ℕ) (s : AreSoundTexts t)
     (h : IsEdited t e number u) (n : Node) (v : verdict_of t test model ≡ Some n) where
-  now : IsSound u
+  now : AreSoundTexts u
   now = h.sound s
 
   made : IsPartsEdit t number u
@@ -110,7 +110,7 @@ module _ (t u : StampedTexts) (e : Code) (number : ℕ) (test model : List ℕ) 
         model_row = cell.model_row;
       }
 
-  was : IsCellOf t.parts t.texts.tests.items t.texts.models.items before
+  was : IsCellOfParts t.parts t.texts.tests.items t.texts.models.items before
   was =
       record {
         at = test_index test (texts_of t.texts).tests;
@@ -121,12 +121,12 @@ module _ (t u : StampedTexts) (e : Code) (number : ℕ) (test model : List ℕ) 
         model_row_is = cell.model_row_is;
       }
 
-  slice_before : slice_of t test model ≡ Some (slice (content_of cell.of_test) cell.of_model)
+  slice_before : slice_by_names t test model ≡ Some (slice (content_of cell.of_test) cell.of_model)
   slice_before =
       ap (λ (c : Option Test). cell_slice c (model_of t model)) cell.test_is ∙ ap
       (λ (m : Option NamedModel). cell_slice (Some cell.of_test) m) cell.model_is
 
-  module _ (same : slice_of u test model ≡ slice_of t test model) where
+  module _ (same : slice_by_names u test model ≡ slice_by_names t test model) where
     there : IsSliced (test_of u test) (model_of u model)
         (slice (content_of cell.of_test) cell.of_model)
     there =
@@ -152,7 +152,7 @@ module _ (t u : StampedTexts) (e : Code) (number : ℕ) (test model : List ℕ) 
     after =
         record { test = there.test; model = there.model; test_row = row.0; model_row = model_row.0 }
 
-    is : IsCellOf u.parts u.texts.tests.items u.texts.models.items after
+    is : IsCellOfParts u.parts u.texts.tests.items u.texts.models.items after
     is =
         record {
           at = test_index test (texts_of u.texts).tests;
@@ -172,9 +172,9 @@ module _ (t u : StampedTexts) (e : Code) (number : ℕ) (test model : List ℕ) 
 
     model_name : there.model.name ≡ cell.of_model.name
     model_name =
-        is_named (λ (m : PlainModel). m.name) held.model_of model u.texts.models.items there.model
+        is_named (λ (m : PlainModel). m.name) held.plain_model model u.texts.models.items there.model
         there.model_is
-        ∙ sym (is_named (λ (m : PlainModel). m.name) held.model_of model t.texts.models.items
+        ∙ sym (is_named (λ (m : PlainModel). m.name) held.plain_model model t.texts.models.items
         cell.of_model cell.model_is)
 
     left : IsLeft (written_of t) (written_of u) before after
@@ -210,10 +210,10 @@ module _ (t u : StampedTexts) (e : Code) (number : ℕ) (test model : List ℕ) 
         verdict_after ∙ ap (λ (k : ℕ). Some (verdict_node k (model_row.0).id)) left.test ∙ ap
         (λ (k : ℕ). Some (verdict_node (cell.row).id k)) left.model ∙ ap Some cell.node_is
 
-    untouched : (d : ℕ) → IsUntouchedBy d (λ m. keeps u.parts m) (net_of t) (net_of u) n
+    untouched : (d : ℕ) → IsUntouchedBy d (λ m. keeps u.parts m) (stamped_net t) (stamped_net u) n
     untouched d =
         let law = left_untouched (written_of t) (written_of u) (model_in before) (model_in after) (cell.row).id left.left in
-        subst (λ (m : Node). IsUntouchedBy d (λ k. keeps u.parts k) (net_of t) (net_of u) m)
+        subst (λ (m : Node). IsUntouchedBy d (λ k. keeps u.parts k) (stamped_net t) (stamped_net u) m)
         (ap (verdict_node (cell.row).id)
         (id_of (cell.model_row).id (cell.of_model).numbers.items (cell.of_model).reading) ∙
         cell.node_is)
@@ -230,17 +230,17 @@ module _ (t u : StampedTexts) (e : Code) (number : ℕ) (test model : List ℕ) 
       ap Some (sym other.node_is ∙ (ap (λ (x : ℕ). verdict_node x (other.model_row).id) tests ∙
       (ap (verdict_node (cell.row).id) models ∙ cell.node_is)))
 
-  cell_stays : IsCertain (slice_of u test model ≡ slice_of t test model)
+  cell_stays : IsCertain (slice_by_names u test model ≡ slice_by_names t test model)
       → (verdict_of u test model ≡ Some n)
-      × ((d : ℕ) → IsUntouchedBy d (λ m. keeps u.parts m) (net_of t) (net_of u) n)
+      × ((d : ℕ) → IsUntouchedBy d (λ m. keeps u.parts m) (stamped_net t) (stamped_net u) n)
   cell_stays k = (
     verdict_stable (verdict_of u test model) refl (λ no. k (λ same. no (verdict_same same))),
-    λ d. untouched_stable d (λ m. keeps u.parts m) (net_of t) (net_of u) n
+    λ d. untouched_stable d (λ m. keeps u.parts m) (stamped_net t) (stamped_net u) n
         (λ no. k (λ same. no (untouched same d))),
   )
 
-pub cells_left : (t u : StampedTexts) (e : Code) (number : ℕ) (test model : List ℕ) → IsSound t
-    → IsEdited t e number u → (Reaches t e u test model → ⊥)
-    → UnreachedIsUntouched (λ n. keeps u.parts n) (net_of t) (net_of u) (verdict_of t test model)
+pub cells_left : (t u : StampedTexts) (e : Code) (number : ℕ) (test model : List ℕ) → AreSoundTexts t
+    → IsEdited t e number u → (ReachesCellNamed t e u test model → ⊥)
+    → UnreachedIsUntouched (λ n. keeps u.parts n) (stamped_net t) (stamped_net u) (verdict_of t test model)
     (verdict_of u test model)
 cells_left t u e number test model s h left n v = cell_stays t u e number test model s h n v left

@@ -7,63 +7,63 @@ use Rattle.memo_core.specs.Right as core
 use Rattle.bench_nodes.specs.Nodes.{used, users, rank}
 use Rattle.bench_nodes.proofs.Laws as nodes
 use Rattle.bench_parts.specs.States as states
-use Rattle.bench_parts.specs.States.{given, is_given, makes}
-use Rattle.bench_parts.specs.Written.{IsWhole}
+use Rattle.bench_parts.specs.States.{given_to_node, is_given, makes}
+use Rattle.bench_parts.specs.Written.{IsWholeState}
 use Rattle.bench_parts.proofs.Built.{built_valid}
 use Rattle.bench_parts.proofs.Keeping as keeping
 use Rattle.bench_parts.proofs.Since as later
 use Rattle.bench_instance.specs.declared.stamped_texts.StampedTexts.{StampedTexts}
 use Rattle.bench_edits.specs.Readings.{readings_of}
 use Rattle.bench_edits.proofs.Wholes.{parts_whole}
-use Rattle.bench_instance.specs.StampedTexts.{state_of, written_of, IsSound, IsSince, net_of, IsThere}
+use Rattle.bench_instance.specs.StampedTexts.{stamped_state, written_of, AreSoundTexts, AreTextsSince, stamped_net, IsNodeThere}
 use Rattle.bench_instance.specs.Lemmas.Commits.{are_written}
 use Rattle.bench_instance.specs.Edited.{IsEdited}
 use Rattle.bench_texts.specs.declared.edit.Edit.{Edit}
 
-pub valid_of : (t : StampedTexts) → IsSound t → states.IsValid (state_of t)
+pub valid_of : (t : StampedTexts) → AreSoundTexts t → states.IsValidState (stamped_state t)
 valid_of t sound =
-    built_valid (state_of t) (readings_of t.parts.table.models.items t.texts.models.items)
+    built_valid (stamped_state t) (readings_of t.parts.table.models.items t.texts.models.items)
     (sound.parts_are).built
 
-pub texts_are_sound : (t : StampedTexts) → IsSound t → core.IsSound makes (net_of t) (IsThere t)
-texts_are_sound t sound = keeping.states_are_sound (state_of t) (valid_of t sound)
+pub texts_are_sound : (t : StampedTexts) → AreSoundTexts t → core.IsSoundNet makes (stamped_net t) (IsNodeThere t)
+texts_are_sound t sound = keeping.states_are_sound (stamped_state t) (valid_of t sound)
 
-whole_of : (t : StampedTexts) → IsSound t → IsWhole (written_of t)
+whole_of : (t : StampedTexts) → AreSoundTexts t → IsWholeState (written_of t)
 whole_of t sound =
     parts_whole t.parts t.texts.tests.items t.texts.models.items t.texts.next sound.parts_are
     (are_written t sound)
 
-pub since_itself : (t : StampedTexts) → IsSound t → IsSince t t
+pub since_itself : (t : StampedTexts) → AreSoundTexts t → AreTextsSince t t
 since_itself t sound = record {
   sound = sound;
   since = later.since_itself (written_of t) (whole_of t sound);
   same = λ e. record { texts = refl; tests = refl; models = refl };
 }
 
-pub given_stays : GivenStays IsSound IsSince net_of
+pub given_stays : GivenStays AreSoundTexts AreTextsSince stamped_net
 given_stays t u n g sound since same parts gives =
     later.given_is_kept (written_of t) (written_of u) n g since.since same parts gives
 
-pub used_there : (t : StampedTexts) → IsSound t → Each (IsThere t) (used t.parts.table)
-used_there t sound = keeping.used_are_there (state_of t) (valid_of t sound)
+pub used_there : (t : StampedTexts) → AreSoundTexts t → Each (IsNodeThere t) (used t.parts.table)
+used_there t sound = keeping.used_are_there (stamped_state t) (valid_of t sound)
 
-pub used_closed : (t : StampedTexts) → IsSound t → IsUsedClosed (net_of t)
+pub used_closed : (t : StampedTexts) → AreSoundTexts t → IsUsedClosed (stamped_net t)
 used_closed t sound =
-    nodes.used_is_closed t.parts.table (λ n g. is_given (given (state_of t) n) g)
+    nodes.used_is_closed t.parts.table (λ n g. is_given (given_to_node (stamped_state t) n) g)
     (valid_of t sound).ordered
 
-pub users_listed : (t : StampedTexts) → AreUsers (net_of t) (users t.parts.table)
-users_listed t = nodes.users_are_among t.parts.table (λ n g. is_given (given (state_of t) n) g)
+pub users_listed : (t : StampedTexts) → AreUsers (stamped_net t) (users t.parts.table)
+users_listed t = nodes.users_are_among t.parts.table (λ n g. is_given (given_to_node (stamped_state t) n) g)
 
-pub ranks_fall : (t : StampedTexts) → IsSound t → Falls (net_of t) (rank t.parts.table)
+pub ranks_fall : (t : StampedTexts) → AreSoundTexts t → Falls (stamped_net t) (rank t.parts.table)
 ranks_fall t sound =
-    nodes.ranks_fall t.parts.table (λ n g. is_given (given (state_of t) n) g)
+    nodes.ranks_fall t.parts.table (λ n g. is_given (given_to_node (stamped_state t) n) g)
     (valid_of t sound).ordered
 
 -- ---- edits
 
-pub since_edited : (t u w : StampedTexts) (e : Edit) (number : ℕ) → IsSince t u
-    → IsEdited u e number w → IsSince t w
+pub since_edited : (t u w : StampedTexts) (e : Edit) (number : ℕ) → AreTextsSince t u
+    → IsEdited u e number w → AreTextsSince t w
 since_edited t u w e number since after =
     let stamped = after.stamped since.sound in
     record {
@@ -74,11 +74,11 @@ since_edited t u w e number since after =
       same = λ e. absurd (omega (arith, e, stamped.last, stamped.above, since.since.later));
     }
 
-pub valid_edited : (t u : StampedTexts) (e : Edit) (number : ℕ) → IsSound t → IsEdited t e number u
-    → IsSound u
+pub valid_edited : (t u : StampedTexts) (e : Edit) (number : ℕ) → AreSoundTexts t → IsEdited t e number u
+    → AreSoundTexts u
 valid_edited t u e number sound after = after.sound sound
 
-pub goes_on : (t u : StampedTexts) (e : Edit) (number : ℕ) → IsSound t → IsEdited t e number u
-    → PartsGoOn (net_of t) number (net_of u)
+pub goes_on : (t u : StampedTexts) (e : Edit) (number : ℕ) → AreSoundTexts t → IsEdited t e number u
+    → PartsGoOn (stamped_net t) number (stamped_net u)
 goes_on t u e number sound after =
     later.parts_go_on (written_of t) (written_of u) number (after.stamped sound)

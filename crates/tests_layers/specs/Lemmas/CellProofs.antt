@@ -3,8 +3,8 @@ use Rattle.std.proofs.Common.{◌≡◌, ◌⊎◌, inl, inr, ℕ, zero, suc, �
 use Rattle.std.proofs.lemmas.Bool.{cases_Bool}
 use Rattle.memo_core.specs.declared.keys.Node.{Node}
 use Rattle.memo_core.specs.declared.keys.Key.TheVariants.{Part, Output}
-use Rattle.memo_core.specs.Graph.{Memo, at, stored_at, stamp_in, named_values, IsSettled, IsSettledBy}
-use Rattle.memo_core.specs.Right.{ArePresent, IsSolved, IsUntouchedBy}
+use Rattle.memo_core.specs.Graph.{Memo, at, stored_output, stamp_or_zero, named_values, IsSettled, IsSettledBy}
+use Rattle.memo_core.specs.Right.{ArePresent, IsSolvedNode, IsUntouchedBy}
 use Rattle.memo_core.specs.Step.{Has}
 use Rattle.memo_core.proofs.Headline.{plain_at}
 use Rattle.cells.specs.Cells.{AreSolved, Carries, SolvedIsFromScratch, UsedIsNeeded, UnreachedIsUntouched}
@@ -14,7 +14,7 @@ use Rattle.tests_layers.specs.declared.benches.sheet.Change.{Change}
 use Rattle.tests_layers.specs.declared.benches.sheet.Change.TheVariants.{Put, Remove, SetBase}
 use Rattle.tests_layers.specs.Rows.{row_of, put_row, without_row}
 use Rattle.tests_layers.specs.declared.benches.sheet.SheetFault.{SheetFault}
-use Rattle.tests_layers.specs.Sheet.{tens, cell_of, cells_of, net_of, makes, first_of, keeps_memo, rows_after, stamp_after, IsChanged, IsRefused}
+use Rattle.tests_layers.specs.Sheet.{tens, cell_of, cells_of, sheet_net, makes, first_of, keeps_memo, rows_after, stamp_after, IsChanged, IsSheetRefused}
 use Rattle.tests_layers.specs.SheetCells.{cell_at, verdict_at, IsSum, from_scratch, reaches}
 
 abbrev Found : Type 0
@@ -33,8 +33,8 @@ pub edited_alike : (s u : Sheet) (e f : Change) (number : ℕ) → e ≡ f → I
 edited_alike s u e f number is h = subst (λ (x : Change). IsChanged s x number u) is h
 
 pub refused_alike : (s : Sheet) (e f : Change) (spent : Bool) (fault : SheetFault) → e ≡ f
-    → IsRefused s e spent fault → IsRefused s f spent fault
-refused_alike s e f spent fault is h = subst (λ (x : Change). IsRefused s x spent fault) is h
+    → IsSheetRefused s e spent fault → IsSheetRefused s f spent fault
+refused_alike s e f spent fault is h = subst (λ (x : Change). IsSheetRefused s x spent fault) is h
 
 -- ---- the cells and the rows
 
@@ -87,7 +87,7 @@ verdicts_used rs (t ∷ u ∷ ts) [] n h = absurd (none_node n h)
 verdicts_used rs [] (m ∷ ms) n h = absurd (none_node n h)
 verdicts_used rs (t ∷ ts) (m ∷ ms) n h = absurd (none_node n h)
 
-pub all_needed : (s : Sheet) → UsedIsNeeded (net_of s) (verdict_at s.rows.items)
+pub all_needed : (s : Sheet) → UsedIsNeeded (sheet_net s) (verdict_at s.rows.items)
 all_needed s n h = elim h [
   | inl e ↦ record {
     test = [];
@@ -113,16 +113,16 @@ value_in None = 0
 value_in (Some p) = p.1
 
 -- a solved node shows what it makes
-shows : (s : Sheet) (ms : List (Memo ℕ)) (n : Node) (v : ℕ) (k : IsSolved makes (net_of s) ms n)
+shows : (s : Sheet) (ms : List (Memo ℕ)) (n : Node) (v : ℕ) (k : IsSolvedNode makes (sheet_net s) ms n)
     → named_values (k.memo).outputs ≡ (0, v) ∷ []
     → (stamp : ℕ) × (at ms (Output n 0) ≡ Some (stamp, v))
 shows s ms n v k made =
     let p = plain_at 0 (k.memo).outputs v (rw made refl) in
-    (p.0, ap (stored_at 0) k.found ∙ p.1)
+    (p.0, ap (stored_output 0) k.found ∙ p.1)
 
 -- so does what it uses
-below : (s : Sheet) (ms : List (Memo ℕ)) (t d : ℕ) → IsSettledBy d (net_of s) ms (cell_of t)
-    → IsSettled (net_of s) ms tens
+below : (s : Sheet) (ms : List (Memo ℕ)) (t d : ℕ) → IsSettledBy d (sheet_net s) ms (cell_of t)
+    → IsSettled (sheet_net s) ms tens
 below s ms t zero h = absurd h
 below s ms t (suc d) h = (d, (h.1).0)
 
@@ -133,8 +133,8 @@ first_is ms t b [] p k = absurd p
 first_is ms t b (v ∷ []) p k = sym (ap value_in (p.0).1) ∙ ap value_in k.1
 first_is ms t b (v ∷ w ∷ vs) p k = absurd p.1
 
-module _ (s : Sheet) (ms : List (Memo ℕ)) (solved : AreSolved makes (net_of s) ms) where
-  tens_show : IsSettled (net_of s) ms tens
+module _ (s : Sheet) (ms : List (Memo ℕ)) (solved : AreSolved makes (sheet_net s) ms) where
+  tens_show : IsSettled (sheet_net s) ms tens
       → (stamp : ℕ) × (at ms (Output tens 0) ≡ Some (stamp, s.base / 10))
   tens_show settled =
       let k = solved.solved tens (inl refl) settled in
@@ -143,7 +143,7 @@ module _ (s : Sheet) (ms : List (Memo ℕ)) (solved : AreSolved makes (net_of s)
       (shows s ms tens ((k.made).given / 10) k (k.made).made)
 
   cell_shows : (t : ℕ) (r : ℕ × ℕ) → row_of t s.rows.items ≡ Some r
-      → IsSettled (net_of s) ms (cell_of t)
+      → IsSettled (sheet_net s) ms (cell_of t)
       → (stamp : ℕ) × (at ms (Output (cell_of t) 0) ≡ Some (stamp, (r.1 + s.base / 10) % 2 ^ 64))
   cell_shows t r found settled =
       let k = solved.solved (cell_of t) (inr (has_cell s.rows.items t r found)) settled in
@@ -168,25 +168,25 @@ module _ (s : Sheet) (ms : List (Memo ℕ)) (solved : AreSolved makes (net_of s)
       }
 
   row_solved : (t : ℕ) (o : Found) (n : Node) → row_of t s.rows.items ≡ o → cell_at t o ≡ Some n
-      → IsSettled (net_of s) ms n
+      → IsSettled (sheet_net s) ms n
       → (v : ℕ) × Carries (λ (v : ℕ). Some v) ms n v × IsSum (s.base / 10) o v
   row_solved t None n is h settled = absurd (none_node n h)
   row_solved t (Some r) n is h settled =
       let e = some_node (cell_of t) n h in (
         (r.1 + s.base / 10) % 2 ^ 64,
         held (cell_of t) n ((r.1 + s.base / 10) % 2 ^ 64) e (cell_shows t r is
-            (subst (IsSettled (net_of s) ms) (sym e) settled)),
+            (subst (IsSettled (sheet_net s) ms) (sym e) settled)),
         refl,
       )
 
   cell_solved : (test model : List ℕ) (n : Node) → verdict_at s.rows.items test model ≡ Some n
-      → IsSettled (net_of s) ms n
+      → IsSettled (sheet_net s) ms n
       → (v : ℕ) × Carries (λ (v : ℕ). Some v) ms n v × from_scratch s test model v
   cell_solved [] [] n h settled =
       let e = some_node tens n h in (
         s.base / 10,
         held tens n (s.base / 10) e (tens_show
-            (subst (IsSettled (net_of s) ms) (sym e) settled)),
+            (subst (IsSettled (sheet_net s) ms) (sym e) settled)),
         refl,
       )
   cell_solved (t ∷ []) [] n h settled = row_solved t (row_of t s.rows.items) n refl h settled
@@ -195,7 +195,7 @@ module _ (s : Sheet) (ms : List (Memo ℕ)) (solved : AreSolved makes (net_of s)
   cell_solved (t ∷ ts) (m ∷ models) n h settled = absurd (none_node n h)
 
 pub cells_solved : (s : Sheet) (test model : List ℕ)
-    → SolvedIsFromScratch makes (net_of s) (λ (v : ℕ). Some v) (verdict_at s.rows.items test model)
+    → SolvedIsFromScratch makes (sheet_net s) (λ (v : ℕ). Some v) (verdict_at s.rows.items test model)
     (from_scratch s test model)
 cells_solved s test model ms n solved is settled = cell_solved s ms solved test model n is settled
 
@@ -247,37 +247,37 @@ module _ (s u : Sheet) (base : u.base_stamp ≡ s.base_stamp) where
   abbrev keep : Node → Bool
   keep n = keeps_memo n.kind n.test u.rows.items
 
-  tens_untouched : (d : ℕ) → IsUntouchedBy d keep (net_of s) (net_of u) tens
+  tens_untouched : (d : ℕ) → IsUntouchedBy d keep (sheet_net s) (sheet_net u) tens
   tens_untouched zero = tt
   tens_untouched (suc d) = (refl, refl, (base, tt), tt)
 
   cell_untouched : (t : ℕ) (r : ℕ × ℕ) → row_of t s.rows.items ≡ Some r
       → row_of t u.rows.items ≡ row_of t s.rows.items → (d : ℕ)
-      → IsUntouchedBy d keep (net_of s) (net_of u) (cell_of t)
+      → IsUntouchedBy d keep (sheet_net s) (sheet_net u) (cell_of t)
   cell_untouched t r found same zero = tt
   cell_untouched t r found same (suc d) =
-      (refl, rw (same, found) refl, (ap stamp_in same, (tt, tt)), (tens_untouched d, tt))
+      (refl, rw (same, found) refl, (ap stamp_or_zero same, (tt, tt)), (tens_untouched d, tt))
 
   row_left : (t : ℕ) (o : Found) (n : Node) → row_of t s.rows.items ≡ o
       → row_of t u.rows.items ≡ row_of t s.rows.items → cell_at t o ≡ Some n
       → (cell_at t (row_of t u.rows.items) ≡ Some n)
-      × ((d : ℕ) → IsUntouchedBy d keep (net_of s) (net_of u) n)
+      × ((d : ℕ) → IsUntouchedBy d keep (sheet_net s) (sheet_net u) n)
   row_left t None n is same h = absurd (none_node n h)
   row_left t (Some r) n is same h = (
     rw (same, is) h,
-    (λ d. subst (IsUntouchedBy d keep (net_of s) (net_of u)) (some_node (cell_of t) n h)
+    (λ d. subst (IsUntouchedBy d keep (sheet_net s) (sheet_net u)) (some_node (cell_of t) n h)
         (cell_untouched t r is same d)),
   )
 
 pub cells_left : (s u : Sheet) (e : Change) (number : ℕ) (test model : List ℕ)
     → IsChanged s e number u → (reaches s e test ≡ true → ⊥)
-    → UnreachedIsUntouched (λ n. keeps_memo n.kind n.test u.rows.items) (net_of s) (net_of u)
+    → UnreachedIsUntouched (λ n. keeps_memo n.kind n.test u.rows.items) (sheet_net s) (sheet_net u)
     (verdict_at s.rows.items test model) (verdict_at u.rows.items test model)
 cells_left s u e number [] [] c away n h = (
   h,
   (λ d. subst
-      (IsUntouchedBy d (λ n. keeps_memo n.kind n.test u.rows.items) (net_of s)
-      (net_of u))
+      (IsUntouchedBy d (λ n. keeps_memo n.kind n.test u.rows.items) (sheet_net s)
+      (sheet_net u))
       (some_node tens n h)
       (tens_untouched s u (c.stamp ∙ same_base s e [] number away) d)),
 )

@@ -4,8 +4,8 @@ use Rattle.std.specs.List.{AllByRecursion as Each}
 use Rattle.memo_core.specs.declared.keys.Kind.{Kind}
 use Rattle.memo_core.specs.declared.keys.Kind.TheVariants.{Space, Group, Check, Verdict}
 use Rattle.memo_core.specs.declared.keys.Node.{Node}
-use Rattle.memo_core.specs.Graph.{input_nodes, stamp_in, lookup}
-use Rattle.memo_core.specs.Right.{HasValue, IsSound, PartsGoOn, IsSamePart}
+use Rattle.memo_core.specs.Graph.{input_nodes, stamp_or_zero, lookup}
+use Rattle.memo_core.specs.Right.{HasOutputValue, IsSoundNet, PartsGoOn, IsSamePart}
 use Rattle.memo_core.specs.Laws.{AreUsers}
 use Rattle.memo_core.specs.Step.{Has}
 use Rattle.tests_layers.specs.declared.benches.rows.Row.{Row}
@@ -14,12 +14,12 @@ use Rattle.tests_layers.specs.declared.benches.sheet.Change.{Change}
 use Rattle.tests_layers.specs.declared.benches.sheet.Change.TheVariants.{Put, Remove, SetBase}
 use Rattle.tests_layers.specs.declared.benches.sheet.Prepared.{Prepared}
 use Rattle.tests_layers.specs.Rows.{row_of, put_row, without_row}
-use Rattle.tests_layers.specs.Sheet.{tens, cells_of, inputs_of, net_of, holds_number, gives_in, makes, is_there, users_of, rank_of, rows_after, base_after, stamp_after, IsValid, IsSince, IsChanged, IsPrepared}
+use Rattle.tests_layers.specs.Sheet.{tens, cells_of, inputs_of, sheet_net, holds_number, gives_in, makes, is_there, users_of, rank_of, rows_after, base_after, stamp_after, IsSheetValid, IsSheetSince, IsChanged, IsSheetPrepared}
 
 pub numbers_exact : (a b : ℕ) → ((a == b) ≡ true) ↔ (a ≡ b)
 numbers_exact a b = (eqb-true a b, eq-eqb a b)
 
-pub prepared_changes : (s u w : Sheet) (e : Change) (p : Prepared) (number : ℕ) → IsPrepared s e p u
+pub prepared_changes : (s u w : Sheet) (e : Change) (p : Prepared) (number : ℕ) → IsSheetPrepared s e p u
     → IsChanged u p.change number w → IsChanged s e number w
 prepared_changes s u w e p number h c = record {
   later = rw h.last at c.later;
@@ -34,7 +34,7 @@ made_value r os e = (r, rw e refl)
 
 module _ (s : Sheet) where
   has_values : (k : Kind) (t : ℕ) → is_there k t s.rows.items
-      → Each (HasValue makes (net_of s)) (inputs_of k t)
+      → Each (HasOutputValue makes (sheet_net s)) (inputs_of k t)
   has_values Space t h = (tt, tt)
   has_values Group t h = tt
   has_values Check t h = tt
@@ -47,7 +47,7 @@ module _ (s : Sheet) where
   inputs_there Check t h = tt
   inputs_there Verdict t h = (tt, tt)
 
-  pub sheet_sound : IsSound makes (net_of s) (λ n. is_there n.kind n.test s.rows.items)
+  pub sheet_sound : IsSoundNet makes (sheet_net s) (λ n. is_there n.kind n.test s.rows.items)
   sheet_sound = record {
     has_values = λ n h. has_values n.kind n.test h;
     inputs_there = λ n h. inputs_there n.kind n.test h;
@@ -117,7 +117,7 @@ users_used Group rs u h = absurd h
 users_used Check rs u h = absurd h
 users_used Verdict rs u h = absurd h
 
-pub users_listed : (s : Sheet) → AreUsers (net_of s) (λ n. users_of n.kind s.rows.items)
+pub users_listed : (s : Sheet) → AreUsers (sheet_net s) (λ n. users_of n.kind s.rows.items)
 users_listed s = record {
   listed = λ n u h i. users_known s.rows.items n u h i;
   are_used = λ n u h l. users_used n.kind s.rows.items u l;
@@ -141,7 +141,7 @@ value_in None = 0
 value_in (Some p) = p.1
 
 some_stamp : (a b s v : ℕ) → some_pair a b ≡ some_pair s v → a ≡ s
-some_stamp a b s v h = ap stamp_in h
+some_stamp a b s v h = ap stamp_or_zero h
 
 none_some : (s v : ℕ) → None ≡ some_pair s v → ⊥
 none_some s v e = cc
@@ -228,13 +228,13 @@ base_goes_on (SetBase v) number stamp base = elim (either (v == base)) [
 
 row_goes_on : (old new : Option (ℕ × ℕ)) (number : ℕ)
     → ((s w : ℕ) → new ≡ Some (s, w) → (old ≡ Some (s, w)) ⊎ (s ≡ number))
-    → (stamp_in new ≡ stamp_in old) ⊎ (stamp_in new ≡ number) ⊎ (stamp_in new ≡ 0)
+    → (stamp_or_zero new ≡ stamp_or_zero old) ⊎ (stamp_or_zero new ≡ number) ⊎ (stamp_or_zero new ≡ 0)
 row_goes_on old None number f = inr (inr refl)
 row_goes_on old (Some r) number f =
-    elim (f r.0 r.1 refl) [ inl was ↦ inl (sym (ap stamp_in was)) | inr is ↦ inr (inl is) ]
+    elim (f r.0 r.1 refl) [ inl was ↦ inl (sym (ap stamp_or_zero was)) | inr is ↦ inr (inl is) ]
 
 pub changes_go_on : (p q : Sheet) (e : Change) (number : ℕ) → IsChanged p e number q
-    → PartsGoOn (net_of p) number (net_of q)
+    → PartsGoOn (sheet_net p) number (sheet_net q)
 changes_go_on p q e number h zero x =
     row_goes_on (row_of x p.rows.items) (row_of x q.rows.items) number
     (λ s w g. rows_go_on e number p.rows.items x s w (ap (row_of x) (sym h.rows) ∙ g))
@@ -245,7 +245,7 @@ changes_go_on p q e number h (suc part) x =
           inr (inl (h.stamp ∙ is))
     ]
 
-pub since_same : (s : Sheet) → IsValid s → IsSince s s
+pub since_same : (s : Sheet) → IsSheetValid s → IsSheetSince s s
 since_same s valid =
     record {
       valid = valid;
@@ -254,8 +254,8 @@ since_same s valid =
       base = inl (refl, refl);
     }
 
-pub since_changed : (t u w : Sheet) (e : Change) (number : ℕ) → IsSince t u → IsChanged u e number w
-    → IsSince t w
+pub since_changed : (t u w : Sheet) (e : Change) (number : ℕ) → IsSheetSince t u → IsChanged u e number w
+    → IsSheetSince t w
 since_changed t u w e number s c = record {
   valid = s.valid;
   last = omega (arith, s.last, c.later, c.last);
@@ -272,8 +272,8 @@ since_changed t u w e number s c = record {
   ];
 }
 
-pub changes_valid : (t u : Sheet) (e : Change) (number : ℕ) → IsValid t → IsChanged t e number u
-    → IsValid u
+pub changes_valid : (t u : Sheet) (e : Change) (number : ℕ) → IsSheetValid t → IsChanged t e number u
+    → IsSheetValid u
 changes_valid t u e number valid c = record {
   rows =
       λ x stamp v h.
@@ -289,8 +289,8 @@ changes_valid t u e number valid c = record {
 }
 
 -- a row of one stamp is one row
-row_again : (t u : Sheet) (x : ℕ) → IsSince t u → (old new : Option (ℕ × ℕ))
-    → row_of x t.rows.items ≡ old → row_of x u.rows.items ≡ new → stamp_in new ≡ stamp_in old
+row_again : (t u : Sheet) (x : ℕ) → IsSheetSince t u → (old new : Option (ℕ × ℕ))
+    → row_of x t.rows.items ≡ old → row_of x u.rows.items ≡ new → stamp_or_zero new ≡ stamp_or_zero old
     → (g : ℕ) → holds_number old g ≡ true → holds_number new g ≡ true
 row_again t u x s None new o n same g h = cc
 row_again t u x s (Some r) None o n same g h =
@@ -304,8 +304,8 @@ row_again t u x s (Some r) (Some q) o n same g h = elim (s.rows x q.0 q.1 n) [
     some_value : (a b c d : ℕ) → some_pair a b ≡ some_pair c d → b ≡ d
     some_value a b c d h = ap value_in h
 
-given_by : (t u : Sheet) (k : Kind) (x g : ℕ) → IsSince t u
-    → Each (IsSamePart (net_of t) (net_of u)) (inputs_of k x)
+given_by : (t u : Sheet) (k : Kind) (x g : ℕ) → IsSheetSince t u
+    → Each (IsSamePart (sheet_net t) (sheet_net u)) (inputs_of k x)
     → gives_in t.rows.items t.base k x g ≡ true → gives_in u.rows.items u.base k x g ≡ true
 given_by t u Space x g s p h = elim s.base [
   | inl same ↦ ap (λ (b : ℕ). g == b) same.1 ∙ h
@@ -316,9 +316,9 @@ given_by t u Check x g s p h = cc
 given_by t u Verdict x g s p h =
     row_again t u x s (row_of x t.rows.items) (row_of x u.rows.items) refl refl p.0 g h
 
-pub given_again : (t u : Sheet) (n : Node) (g : ℕ) → IsValid u → IsSince t u
+pub given_again : (t u : Sheet) (n : Node) (g : ℕ) → IsSheetValid u → IsSheetSince t u
     → inputs_of n.kind n.test ≡ inputs_of n.kind n.test
-    → Each (IsSamePart (net_of t) (net_of u)) (inputs_of n.kind n.test)
+    → Each (IsSamePart (sheet_net t) (sheet_net u)) (inputs_of n.kind n.test)
     → gives_in t.rows.items t.base n.kind n.test g ≡ true
     → gives_in u.rows.items u.base n.kind n.test g ≡ true
 given_again t u n g valid s same p h = given_by t u n.kind n.test g s p h

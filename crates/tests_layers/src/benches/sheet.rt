@@ -56,14 +56,14 @@ impl Texts for Sheet {
     type Fault = SheetFault;
 
     ghost use Rattle.std.specs.Prelude.{◌≡◌, ◌==◌, ◌<◌, ◌+◌, length, vec_len, vec_capacity};
-    ghost use Rattle.tests_layers.specs.Sheet.{net_of, makes, is_there, users_of, rank_of, keeps_memo, IsValid, IsSince, IsChanged, IsRefused, IsPrepared};
+    ghost use Rattle.tests_layers.specs.Sheet.{sheet_net, makes, is_there, users_of, rank_of, keeps_memo, IsSheetValid, IsSheetSince, IsChanged, IsSheetRefused, IsSheetPrepared};
     ghost use Rattle.tests_layers.specs.Lemmas.Laws.{numbers_exact, sheet_sound, since_same, since_changed, given_again, changes_valid, prepared_changes, all_there, inputs_used, users_listed, ranks_fall, changes_go_on};
 
-    ghost is_valid = { IsValid };
+    ghost is_valid = { IsSheetValid };
 
-    ghost net = { net_of };
+    ghost net = { sheet_net };
 
-    ghost since = { IsSince };
+    ghost since = { IsSheetSince };
 
     ghost last = { λ s. s.last };
 
@@ -81,9 +81,9 @@ impl Texts for Sheet {
 
     ghost edited = { IsChanged };
 
-    ghost refuses = { IsRefused };
+    ghost refuses = { IsSheetRefused };
 
-    ghost prepares = { IsPrepared };
+    ghost prepares = { IsSheetPrepared };
 
     ghost is_ready = { λ s p. (vec_len s.rows < vec_capacity s.rows)
         × (p.used ≡ length s.rows.items + 2) };

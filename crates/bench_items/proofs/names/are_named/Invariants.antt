@@ -1,9 +1,9 @@
 use Rattle.std.proofs.Common.{◌↔◌, drop}
 use Rattle.std.specs.List.{AllByRecursion as Each}
-use Rattle.bench_items.specs.Naming.{body_names, IsNamed}
+use Rattle.bench_items.specs.Naming.{body_names, IsInHistory}
 use Rattle.bench_items.proofs.names.are_named.Given as goal
 
 abbrev pub invariant-loop-body : goal.invariant-loop-body
 invariant-loop-body l =
-    Each (IsNamed l.history) (body_names l.bodies)
-    ↔ Each (IsNamed l.history) (body_names (drop l.body-index l.bodies))
+    Each (IsInHistory l.history) (body_names l.bodies)
+    ↔ Each (IsInHistory l.history) (body_names (drop l.body-index l.bodies))

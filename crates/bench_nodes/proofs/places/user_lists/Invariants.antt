@@ -1,8 +1,8 @@
 use Rattle.std.proofs.Common.{◌≡◌, ◌++◌, drop, map}
-use Rattle.bench_nodes.specs.Places.{user_lists, names_in}
+use Rattle.bench_nodes.specs.Places.{user_lists, slot_names}
 use Rattle.bench_nodes.proofs.places.user_lists.Given as goal
 
 abbrev pub invariant-loop-slot : goal.invariant-loop-slot
 invariant-loop-slot l =
-    map names_in l.lists.items ++ user_lists l.slots (drop l.slot-index l.slots)
+    map slot_names l.lists.items ++ user_lists l.slots (drop l.slot-index l.slots)
     ≡ user_lists l.slots l.slots

@@ -4,7 +4,7 @@ use Rattle.bench_items.specs.Items.{role_at, held_history}
 use Rattle.bench_items.specs.Naming.{with_role_names}
 use Rattle.bench_parts.specs.Contents.{role_part}
 use Rattle.bench_parts.specs.Held.{held_part}
-use Rattle.bench_parts.specs.Items.{held_after}
+use Rattle.bench_parts.specs.Items.{part_after}
 use Rattle.bench_parts.proofs.Histories.{new_held}
 use Rattle.bench_parts.proofs.ItemStamps.{role_within, role_past}
 use Rattle.bench_parts.proofs.items.shared_item.Goals as goal
@@ -26,5 +26,5 @@ pub returns-else-index-len : goal.returns-else-index-len
 returns-else-index-len c =
     let items = (arc_value c.args.resolved.now).items.items in
     let past : length items ≤ c.args.index = search rules in
-    subst (λ o. IfOk c.again.result (λ r. role_part r ≡ held_after o (held_part c.args.held.now)))
+    subst (λ o. IfOk c.again.result (λ r. role_part r ≡ part_after o (held_part c.args.held.now)))
     (sym (role_past items c.args.index past)) c.again.ensures

@@ -1,7 +1,7 @@
 use Rattle.std.proofs.Common.{rules, ℕ, List, subst}
 use Rattle.command_answers.proofs.Answering.{unread}
 use Rattle.command_answers.proofs.Kept.{streamed_front}
-use Rattle.command_answers.specs.Cut.{IsCut}
+use Rattle.command_answers.specs.Cut.{IsInputCut}
 use Rattle.command_answers.proofs.stream.eval_stream.Goals as goal
 
 pub returns-in-Err-clause-written : goal.returns-in-Err-clause-written
@@ -9,8 +9,8 @@ returns-in-Err-clause-written g c = unread _ _ c.in-Err.fault (search rules) (se
 
 pub returns-clause-written : goal.returns-clause-written
 returns-clause-written g c =
-    let cut : IsCut c.in-Ok.bytes.items c.cut_at_dot.result.0.now c.cut_at_dot.result.1.now =
-    subst (λ (l : List ℕ). IsCut l c.cut_at_dot.result.0.now c.cut_at_dot.result.1.now)
+    let cut : IsInputCut c.in-Ok.bytes.items c.cut_at_dot.result.0.now c.cut_at_dot.result.1.now =
+    subst (λ (l : List ℕ). IsInputCut l c.cut_at_dot.result.0.now c.cut_at_dot.result.1.now)
     c.deref.ensures.value c.cut_at_dot.ensures in
     streamed_front _ _ _ c.write_answer-answered.result c.in-Ok.bytes.items
     c.cut_at_dot.result.0.now c.cut_at_dot.result.1.now c.in-Ok.ensures.bytes cut

@@ -1,6 +1,6 @@
 use Rattle.std.proofs.Common.{ℕ, ◌<◌, ◌≤◌, length, fold}
 use Rattle.cells.specs.Cells.{cells as cells_of}
-use Rattle.desk.specs.Boards.{AreKept}
+use Rattle.desk.specs.Boards.{AreCellsKept}
 use Rattle.desk.specs.Posts.{IsPosted, Posts}
 use Rattle.desk.proofs.posting.post_range.Given as goal
 
@@ -15,6 +15,6 @@ invariant-loop-index g l =
     g.X.CellTexts.from_scratch g.X.CellTexts.reaches) l.bench
     (g.X.BoardTexts.cells (fold g.X.Operations.after g.X.Operations.none l.press.all))
     k)
-    × AreKept
+    × AreCellsKept
     (g.X.BoardTexts.cells (fold g.X.Operations.after g.X.Operations.none l.initial.press.all))
     (g.X.BoardTexts.cells (fold g.X.Operations.after g.X.Operations.none l.press.all))

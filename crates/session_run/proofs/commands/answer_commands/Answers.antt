@@ -1,6 +1,6 @@
 use Rattle.std.proofs.Common.{rules, ◌+◌, ◌<◌, ◌∙◌, ◌||◌, Bool, ℕ, ap, refl, subst, Option, IfSome}
 use Rattle.std.proofs.lemmas.Result.{err_from_is_err_and}
-use Rattle.session_script.specs.Reading.{waiting_in, left_to, turns_of, work_of, IsNext}
+use Rattle.session_script.specs.Reading.{waiting_in, left_to, turns_of, work_of, IsNextCommand}
 use Rattle.session_script.specs.declared.command.Command.{Command}
 use Rattle.bench_texts.specs.Held.{texts_of}
 use Rattle.session_run.proofs.Sessions.{begins, ended, read_fails, reply_fails, goes_on, read_refused, starts_paid, paid_on}
@@ -60,7 +60,7 @@ returns-in-None-clause-written g c =
     ended (g.S.ByteSource.remaining c.args.source.now) now next
     (g.K.ByteSink.contents c.args.sink.now) (g.K.ByteSink.contents c.commands.sink)
     (texts_of c.commands.session.texts) c.commands.is_refused c.commands.invariant.under_way
-    (subst (λ (o : Option Command). IsNext now next o) c.in-None.is c.in_ok-read.ensures.next)
+    (subst (λ (o : Option Command). IsNextCommand now next o) c.in-None.is c.in_ok-read.ensures.next)
 
 pub returns-in-None-clause-read : goal.returns-in-None-clause-read
 returns-in-None-clause-read g c = λ e. let z : ⊥ = cc in absurd z
@@ -89,7 +89,7 @@ returns-in_err-answer-in-Some-clause-written g c =
     (g.K.ByteSink.contents c.write_reply.new.sink) (texts_of c.commands.session.texts)
     c.commands.is_refused c.in-Some.command c.in_err-answer-in-Some.field-0.0
     c.commands.invariant.under_way
-    (subst (λ (o : Option Command). IsNext now next o) c.in-Some.is c.in_ok-read.ensures.next)
+    (subst (λ (o : Option Command). IsNextCommand now next o) c.in-Some.is c.in_ok-read.ensures.next)
     c.in_err-answer-in-Some.ensures.stopped)
 
 pub returns-in_err-answer-in-Some-clause-read : goal.returns-in_err-answer-in-Some-clause-read
@@ -131,7 +131,7 @@ commands-preserved g c =
           (texts_of c.write_reply.new.session.texts) c.commands.is_refused _
           c.in-Some.command c.in_ok-answer-in-Some.answer
           c.commands.invariant.under_way
-          (subst (λ (o : Option Command). IsNext now next o) c.in-Some.is c.in_ok-read.ensures.next)
+          (subst (λ (o : Option Command). IsNextCommand now next o) c.in-Some.is c.in_ok-read.ensures.next)
           c.in_ok-answer-in-Some.ensures.written (ap (λ (b : Bool). c.commands.is_refused || b)
           c.is_refused-is_refused.ensures);
       paid =

@@ -1,7 +1,7 @@
 use Rattle.std.proofs.Common.{◌≡◌}
 use Rattle.session_script.specs.Reading.{left_to, turns_of, work_of, IsPaid}
 use Rattle.bench_texts.specs.Held.{texts_of}
-use Rattle.session_run.specs.Ready.{IsReady}
+use Rattle.session_views.specs.Knowing.{KnowsTexts}
 use Rattle.session_run.proofs.Sessions.{IsUnderWay}
 use Rattle.session_run.proofs.commands.answer_commands.Given as goal
 
@@ -13,7 +13,7 @@ invariant-commands g l = record {
       (g.K.ByteSink.contents l.sink) (texts_of l.session.texts) l.is_refused;
   paid : IsPaid 16777216 (turns_of l.script) (g.S.ByteSource.remaining l.initial.source)
       (g.S.ByteSource.remaining l.source);
-  ready : IsReady l.session.viewer l.session.made (texts_of l.session.texts);
+  ready : KnowsTexts l.session.viewer l.session.made (texts_of l.session.texts);
   reads : g.S.ByteSource.failed_calls l.source ≡ g.S.ByteSource.failed_calls l.initial.source;
   writes : g.K.ByteSink.failed_calls l.sink ≡ g.K.ByteSink.failed_calls l.initial.sink;
 }

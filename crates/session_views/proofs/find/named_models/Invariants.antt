@@ -3,7 +3,7 @@ use Rattle.std.specs.Prelude.{All}
 use Rattle.bench_texts.specs.Held.{texts_of}
 use Rattle.session_answers.specs.Cells.{models_named}
 use Rattle.session_answers.proofs.Named.{joined}
-use Rattle.session_views.specs.Asked.{IsThere, asked_index, asked_model}
+use Rattle.session_views.specs.Asked.{IsModelAt, asked_index, asked_model}
 use Rattle.session_views.specs.Waiting.{model_indexes}
 use Rattle.session_views.proofs.find.named_models.Given as goal
 
@@ -15,5 +15,5 @@ invariant-loop-name l = record {
       (drop l.name-index l.names));
   indexes : map asked_index l.found.items
       ≡ model_indexes (texts_of l.texts) (take l.name-index l.names);
-  there : All (IsThere l.texts) l.found.items;
+  there : All (IsModelAt l.texts) l.found.items;
 }

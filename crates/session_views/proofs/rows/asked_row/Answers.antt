@@ -1,7 +1,7 @@
 use Rattle.std.proofs.Common.{rules}
 use Rattle.outcome_texts.specs.Cells.{cell_of}
 use Rattle.text_values.specs.TestValue.{content_of}
-use Rattle.session_answers.specs.Cells.{IsCell}
+use Rattle.session_answers.specs.Cells.{IsPlainCell}
 use Rattle.session_answers.proofs.Joined.{zip_more}
 use Rattle.session_views.specs.Asked.{asked_model}
 use Rattle.session_views.proofs.Opening.{open_among}
@@ -9,7 +9,7 @@ use Rattle.session_views.proofs.rows.asked_row.Goals as goal
 
 pub loop-asked-preserved : goal.loop-asked-preserved
 loop-asked-preserved c =
-    zip_more (IsCell (content_of c.args.test.now)) asked_model cell_of c.args.models.now
+    zip_more (IsPlainCell (content_of c.args.test.now)) asked_model cell_of c.args.models.now
     c.loop-asked.asked-index c.asked-item.result c.loop-asked.cells.items c.push.new.self.items
     c.in-Some.cell
     (search rules) (search rules) (search rules) c.loop-asked.invariant c.in-Some.ensures.settled

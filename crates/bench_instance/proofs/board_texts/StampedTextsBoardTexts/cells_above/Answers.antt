@@ -1,7 +1,7 @@
 use Rattle.std.proofs.Common.{sym, subst}
 use Rattle.board.specs.Contents.{BoardContent}
 use Rattle.desk.specs.Boards.{HoldsAbove}
-use Rattle.bench_instance.specs.StampedTexts.{net_of, verdict_of}
+use Rattle.bench_instance.specs.StampedTexts.{stamped_net, verdict_of}
 use Rattle.bench_instance.specs.Cells.{board_cells}
 use Rattle.bench_instance.proofs.Above.{holds_above}
 use Rattle.bench_instance.proofs.board_texts.StampedTextsBoardTexts.cells_above.Goals as goal
@@ -14,6 +14,6 @@ returns-clause-holds c =
     let row_is = c.test_row-row.ensures in
     let holds = holds_above t after.0 c.args.node c.test_row-row.result c.row_range.result.first c.row_range.result.end c.requires.valid after.1 row_is range in
     subst
-    (λ (b : BoardContent). HoldsAbove (net_of t) (verdict_of t) c.args.node (board_cells b)
+    (λ (b : BoardContent). HoldsAbove (stamped_net t) (verdict_of t) c.args.node (board_cells b)
     c.row_range.result.first c.row_range.result.end)
     (sym after.2) holds

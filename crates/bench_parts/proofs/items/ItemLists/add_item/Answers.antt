@@ -2,7 +2,7 @@ use Rattle.std.proofs.Common.{◌≡◌, ◌∷◌, ◌++◌, [], get_or, sym, a
 use Rattle.bench_nodes.specs.declared.table.ItemRow.{ItemRow}
 use Rattle.bench_nodes.specs.Nodes.{item_stamp}
 use Rattle.bench_parts.specs.Contents.{item_content}
-use Rattle.bench_parts.specs.Items.{held_after, fact_at, read_role, resolved_items}
+use Rattle.bench_parts.specs.Items.{part_after, fact_at, read_role, resolved_items}
 use Rattle.bench_parts.proofs.ItemStamps.{items_more, stamp_along}
 use Rattle.bench_parts.proofs.items.ItemLists.add_item.Goals as goal
 
@@ -24,7 +24,7 @@ returns c = λ texts facts was before.
       number_is = is;
       role_is =
           c.in_ok-role.ensures
-          ∙ ap (held_after read) (held.role
+          ∙ ap (part_after read) (held.role
           ∙ ap (item_content p.table.items.items p.roles.items) is);
       stamp =
           stamp_along c.args.fresh _ _ _ _ _ _ stamp (sym was)

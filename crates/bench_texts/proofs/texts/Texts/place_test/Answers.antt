@@ -3,7 +3,7 @@ use Rattle.text_values.specs.TestValue.{content_of}
 use Rattle.bench_texts.specs.declared.change.Change.TheVariants as changes
 use Rattle.bench_texts.specs.BenchTexts.{with_tests}
 use Rattle.bench_texts.specs.Held.{texts_of}
-use Rattle.bench_texts.specs.Changes.{texts_after}
+use Rattle.bench_texts.specs.Changes.{changed_texts}
 use Rattle.bench_texts.proofs.Refusing.{limited_answers}
 use Rattle.std.proofs.Common.{◌≡◌, arith, IfOk, subst, ◌∙◌}
 use Rattle.std.proofs.lemmas.Grind.{common_steps}
@@ -25,7 +25,7 @@ returns-clause-answer c = λ text reads.
     )
     (λ r put. subst (IsTextPut (texts_of c.args.self.now) text) (sym put) (e, reads))
     (c.limited.ensures
-    (texts_after (changes.PutTest c.test_index-at.result c.args.test)
+    (changed_texts (changes.PutTest c.test_index-at.result c.args.test)
     (texts_of c.args.self.now))
     (grind (
       arith,
@@ -41,10 +41,10 @@ returns-clause-change c =
     subst (λ i. IfOk c.limited.result (λ d. d ≡ changes.PutTest i c.args.test)) e
     (limited_is (texts_of c.args.self.now) c.args.spent
     (changes.PutTest c.test_index-at.result c.args.test)
-    (texts_after (changes.PutTest c.test_index-at.result c.args.test)
+    (changed_texts (changes.PutTest c.test_index-at.result c.args.test)
     (texts_of c.args.self.now)) c.limited.result
     (c.limited.ensures
-    (texts_after (changes.PutTest c.test_index-at.result c.args.test)
+    (changed_texts (changes.PutTest c.test_index-at.result c.args.test)
     (texts_of c.args.self.now))
     (grind (
       arith,

@@ -3,7 +3,7 @@ use Rattle.text_values.specs.TestValue.{formula_of}
 use Rattle.bench_texts.specs.declared.change.Change.TheVariants as changes
 use Rattle.bench_texts.specs.BenchTexts.{changed_at, with_condition, with_tests}
 use Rattle.bench_texts.specs.Held.{texts_of}
-use Rattle.bench_texts.specs.Changes.{texts_after}
+use Rattle.bench_texts.specs.Changes.{changed_texts}
 use Rattle.bench_texts.specs.Edits.{SetCond}
 use Rattle.bench_texts.proofs.Lists.{length-changed_at}
 use Rattle.bench_texts.proofs.Refusing.{limited_answers, limited_ready}
@@ -27,7 +27,7 @@ returns-in-Ok-clause-answer c =
     )
     (λ r put. subst (λ i. IsTestPut i r) c.in_ok-at.ensures.0 put)
     (c.limited_alike.ensures
-    (texts_after (changes.SetCond c.in_ok-at.at c.in-Ok.condition)
+    (changed_texts (changes.SetCond c.in_ok-at.at c.in-Ok.condition)
     (texts_of c.args.self.now))
     (length-changed_at
     (with_condition (
@@ -40,10 +40,10 @@ pub returns-in-Ok-clause-ready : goal.returns-in-Ok-clause-ready
 returns-in-Ok-clause-ready c =
     limited_ready (texts_of c.args.self.now) c.args.self.now c.args.spent
     (changes.SetCond c.in_ok-at.at c.in-Ok.condition)
-    (texts_after (changes.SetCond c.in_ok-at.at c.in-Ok.condition) (texts_of c.args.self.now))
+    (changed_texts (changes.SetCond c.in_ok-at.at c.in-Ok.condition) (texts_of c.args.self.now))
     c.limited_alike.result (c.in_ok-at.ensures.2)
     (c.limited_alike.ensures
-    (texts_after (changes.SetCond c.in_ok-at.at c.in-Ok.condition)
+    (changed_texts (changes.SetCond c.in_ok-at.at c.in-Ok.condition)
     (texts_of c.args.self.now))
     (length-changed_at
     (with_condition (

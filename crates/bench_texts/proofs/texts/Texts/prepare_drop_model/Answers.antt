@@ -1,7 +1,7 @@
 use Rattle.std.proofs.Common.{refl, ap}
 use Rattle.bench_texts.specs.declared.change.Change.TheVariants as changes
 use Rattle.bench_texts.specs.Held.{texts_of}
-use Rattle.bench_texts.specs.Changes.{texts_after}
+use Rattle.bench_texts.specs.Changes.{changed_texts}
 use Rattle.bench_texts.proofs.Refusing.{limited_answers, limited_ready}
 use Rattle.std.proofs.Common.{remove, min, sym, ◌∙◌, arith}
 use Rattle.std.proofs.lemmas.Grind.{common_steps}
@@ -21,7 +21,7 @@ returns-clause-answer c =
     (λ i. with_models (λ ms. remove ms i) (texts_of c.args.self.now).next
     (texts_of c.args.self.now)) c.in_ok-at.ensures.0)
     (λ r put. put ∙ ap made.DropModel c.in_ok-at.ensures.0)
-    (c.limited.ensures (texts_after (changes.DropModel c.in_ok-at.at) (texts_of c.args.self.now))
+    (c.limited.ensures (changed_texts (changes.DropModel c.in_ok-at.at) (texts_of c.args.self.now))
     (grind (arith, common_steps))
     (grind (
       arith,
@@ -36,9 +36,9 @@ pub returns-clause-ready : goal.returns-clause-ready
 returns-clause-ready c =
     limited_ready (texts_of c.args.self.now) c.args.self.now c.args.spent
     (changes.DropModel c.in_ok-at.at)
-    (texts_after (changes.DropModel c.in_ok-at.at) (texts_of c.args.self.now)) c.limited.result
+    (changed_texts (changes.DropModel c.in_ok-at.at) (texts_of c.args.self.now)) c.limited.result
     c.in_ok-at.ensures.2
-    (c.limited.ensures (texts_after (changes.DropModel c.in_ok-at.at) (texts_of c.args.self.now))
+    (c.limited.ensures (changed_texts (changes.DropModel c.in_ok-at.at) (texts_of c.args.self.now))
     (grind (arith, common_steps))
     (grind (
       arith,

@@ -2,7 +2,7 @@ use Rattle.std.proofs.Common.{refl, ap, ◌∙◌}
 use Rattle.bench_texts.specs.declared.change.Change.TheVariants as changes
 use Rattle.bench_texts.specs.BenchTexts.{with_tests}
 use Rattle.bench_texts.specs.Held.{texts_of}
-use Rattle.bench_texts.specs.Changes.{texts_after}
+use Rattle.bench_texts.specs.Changes.{changed_texts}
 use Rattle.bench_texts.proofs.Refusing.{limited_answers, limited_ready}
 use Rattle.std.proofs.Common.{remove, arith}
 use Rattle.std.proofs.lemmas.Grind.{common_steps}
@@ -18,7 +18,7 @@ returns-clause-answer c =
     (rw c.in_ok-at.ensures.1 refl)
     (ap (λ i. with_tests (λ ts. remove ts i) (texts_of c.args.self.now)) c.in_ok-at.ensures.0)
     (λ r put. put ∙ ap made.DropTest c.in_ok-at.ensures.0)
-    (c.limited.ensures (texts_after (changes.DropTest c.in_ok-at.at) (texts_of c.args.self.now))
+    (c.limited.ensures (changed_texts (changes.DropTest c.in_ok-at.at) (texts_of c.args.self.now))
     (grind (
       arith,
       common_steps,
@@ -30,9 +30,9 @@ pub returns-clause-ready : goal.returns-clause-ready
 returns-clause-ready c =
     limited_ready (texts_of c.args.self.now) c.args.self.now c.args.spent
     (changes.DropTest c.in_ok-at.at)
-    (texts_after (changes.DropTest c.in_ok-at.at) (texts_of c.args.self.now)) c.limited.result
+    (changed_texts (changes.DropTest c.in_ok-at.at) (texts_of c.args.self.now)) c.limited.result
     c.in_ok-at.ensures.2
-    (c.limited.ensures (texts_after (changes.DropTest c.in_ok-at.at) (texts_of c.args.self.now))
+    (c.limited.ensures (changed_texts (changes.DropTest c.in_ok-at.at) (texts_of c.args.self.now))
     (grind (
       arith,
       common_steps,

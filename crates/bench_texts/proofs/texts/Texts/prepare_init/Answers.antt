@@ -2,7 +2,7 @@ use Rattle.std.proofs.Common.{refl, ap, subst}
 use Rattle.bench_texts.specs.declared.change.Change.TheVariants as changes
 use Rattle.bench_texts.specs.BenchTexts.{changed_at, with_init, with_tests}
 use Rattle.bench_texts.specs.Held.{texts_of}
-use Rattle.bench_texts.specs.Changes.{texts_after}
+use Rattle.bench_texts.specs.Changes.{changed_texts}
 use Rattle.bench_texts.specs.Edits.{SetInit}
 use Rattle.bench_texts.proofs.Lists.{length-changed_at}
 use Rattle.bench_texts.proofs.Refusing.{limited_answers, limited_ready}
@@ -22,7 +22,7 @@ returns-in-Ok-clause-answer c =
     )
     (λ r put. subst (λ i. IsTestPut i r) c.in_ok-at.ensures.0 put)
     (c.limited_alike.ensures
-    (texts_after (changes.SetInit c.in_ok-at.at c.in-Ok.init) (texts_of c.args.self.now))
+    (changed_texts (changes.SetInit c.in_ok-at.at c.in-Ok.init) (texts_of c.args.self.now))
     (length-changed_at (with_init c.in-Ok.init.items) (texts_of c.args.self.now).tests
     c.in_ok-at.at) refl)
 
@@ -30,9 +30,9 @@ pub returns-in-Ok-clause-ready : goal.returns-in-Ok-clause-ready
 returns-in-Ok-clause-ready c =
     limited_ready (texts_of c.args.self.now) c.args.self.now c.args.spent
     (changes.SetInit c.in_ok-at.at c.in-Ok.init)
-    (texts_after (changes.SetInit c.in_ok-at.at c.in-Ok.init) (texts_of c.args.self.now))
+    (changed_texts (changes.SetInit c.in_ok-at.at c.in-Ok.init) (texts_of c.args.self.now))
     c.limited_alike.result (c.in_ok-at.ensures.2)
     (c.limited_alike.ensures
-    (texts_after (changes.SetInit c.in_ok-at.at c.in-Ok.init) (texts_of c.args.self.now))
+    (changed_texts (changes.SetInit c.in_ok-at.at c.in-Ok.init) (texts_of c.args.self.now))
     (length-changed_at (with_init c.in-Ok.init.items) (texts_of c.args.self.now).tests
     c.in_ok-at.at) refl)

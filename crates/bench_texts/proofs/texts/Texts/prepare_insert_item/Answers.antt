@@ -4,8 +4,8 @@ use Rattle.text_values.specs.ModelValues.{clause_of}
 use Rattle.bench_texts.specs.declared.change.Change.TheVariants as changes
 use Rattle.bench_texts.specs.BenchTexts.{NumberedItem, model_index, changed_at, with_items, with_models}
 use Rattle.bench_texts.specs.Limits.{items_outputs}
-use Rattle.bench_texts.specs.Held.{model_of, texts_of}
-use Rattle.bench_texts.specs.Changes.{texts_after}
+use Rattle.bench_texts.specs.Held.{plain_model, texts_of}
+use Rattle.bench_texts.specs.Changes.{changed_texts}
 use Rattle.bench_texts.specs.Edits.{InsertItem, model_items}
 use Rattle.bench_texts.proofs.Lists.{length-changed_at, get_or-map, held_here, index-map}
 use Rattle.bench_texts.proofs.Counts.{outputs-with, items-insert, counted-more}
@@ -15,7 +15,7 @@ use Rattle.bench_texts.proofs.texts.Texts.prepare_insert_item.Goals as goal
 
 pub returns-then-len-ge-MAX_ITEMS-clause-answer : goal.returns-then-len-ge-MAX_ITEMS-clause-answer
 returns-then-len-ge-MAX_ITEMS-clause-answer c =
-    let held : model_items (texts_of c.args.self.now) c.args.model.now ≡ (model_of c.index.result.now).items = rw (← c.in_ok-at.ensures.0) (index-map model_of (λ m. m.items) c.args.self.now.models.items c.in_ok-at.at c.index.result.now [] (omega (arith, c.in_ok-at.ensures.2)) c.index.ensures) in (
+    let held : model_items (texts_of c.args.self.now) c.args.model.now ≡ (plain_model c.index.result.now).items = rw (← c.in_ok-at.ensures.0) (index-map plain_model (λ m. m.items) c.args.self.now.models.items c.in_ok-at.at c.index.result.now [] (omega (arith, c.in_ok-at.ensures.2)) c.index.ensures) in (
       rw (c.in_ok-at.ensures.1, c.in_ok-index.ensures.1) refl,
       inr (record {
         item = clause_of c.in-Ok.item;
@@ -28,14 +28,14 @@ returns-then-len-ge-MAX_ITEMS-clause-answer c =
 
 pub returns-clause-answer : goal.returns-clause-answer
 returns-clause-answer c =
-    let held : model_items (texts_of c.args.self.now) c.args.model.now ≡ (model_of c.index.result.now).items = rw (← c.in_ok-at.ensures.0) (index-map model_of (λ m. m.items) c.args.self.now.models.items c.in_ok-at.at c.index.result.now [] (omega (arith, c.in_ok-at.ensures.2)) c.index.ensures) in
+    let held : model_items (texts_of c.args.self.now) c.args.model.now ≡ (plain_model c.index.result.now).items = rw (← c.in_ok-at.ensures.0) (index-map plain_model (λ m. m.items) c.args.self.now.models.items c.in_ok-at.at c.index.result.now [] (omega (arith, c.in_ok-at.ensures.2)) c.index.ensures) in
     let t = texts_of c.args.self.now in
-    let m = model_of c.index-2.result.now in
+    let m = plain_model c.index-2.result.now in
     let y : NumberedItem = record { number = t.next; clause = clause_of c.in-Ok.item } in
-    let here : m ≡ get_or t.models c.in_ok-at.at m = get_or-map model_of c.args.self.now.models.items c.in_ok-at.at c.index-2.result.now (omega (arith, c.in_ok-at.ensures.2)) c.index-2.ensures in
+    let here : m ≡ get_or t.models c.in_ok-at.at m = get_or-map plain_model c.args.self.now.models.items c.in_ok-at.at c.index-2.result.now (omega (arith, c.in_ok-at.ensures.2)) c.index-2.ensures in
     let of_items = c.saturating_add-of_items.ensures ∙ counted-more _ _ _ _ c.outputs-others.ensures c.outputs_of.ensures ∙ ap (λ n. min n 18446744073709551615) (sym (items-insert m.items c.in_ok-index.index y)) in
     let total = c.outputs_with-of_models.ensures (items_outputs (insert m.items c.in_ok-index.index y)) of_items ∙ ap (λ n. min n 18446744073709551615) (sym (outputs-with (λ is. insert is c.in_ok-index.index y) t.models c.in_ok-at.at m (grind (arith, common_steps, c.in_ok-at.ensures.2)) here)) in
-    let within = c.limited.ensures (texts_after (changes.InsertItem c.in_ok-at.at c.in_ok-index.index c.in-Ok.item) t) (grind (arith, common_steps)) (length-changed_at (with_items (λ is. insert is c.in_ok-index.index y)) t.models c.in_ok-at.at ∙ grind (arith, common_steps)) total in
+    let within = c.limited.ensures (changed_texts (changes.InsertItem c.in_ok-at.at c.in_ok-index.index c.in-Ok.item) t) (grind (arith, common_steps)) (length-changed_at (with_items (λ is. insert is c.in_ok-index.index y)) t.models c.in_ok-at.at ∙ grind (arith, common_steps)) total in
     limited_answers t c.args.spent (InsertItem c.args.model.now c.args.before c.args.text.now)
     (changes.InsertItem c.in_ok-at.at c.in_ok-index.index c.in-Ok.item) c.limited.result
     (rw (c.in_ok-at.ensures.1, c.in_ok-index.ensures.1) refl) (
@@ -58,22 +58,22 @@ returns-clause-answer c =
 pub returns-clause-ready : goal.returns-clause-ready
 returns-clause-ready c =
     let t = texts_of c.args.self.now in
-    let m = model_of c.index-2.result.now in
+    let m = plain_model c.index-2.result.now in
     let y : NumberedItem = record { number = t.next; clause = clause_of c.in-Ok.item } in
-    let here : m ≡ get_or t.models c.in_ok-at.at m = get_or-map model_of c.args.self.now.models.items c.in_ok-at.at c.index-2.result.now (omega (arith, c.in_ok-at.ensures.2)) c.index-2.ensures in
+    let here : m ≡ get_or t.models c.in_ok-at.at m = get_or-map plain_model c.args.self.now.models.items c.in_ok-at.at c.index-2.result.now (omega (arith, c.in_ok-at.ensures.2)) c.index-2.ensures in
     let of_items = c.saturating_add-of_items.ensures ∙ counted-more _ _ _ _ c.outputs-others.ensures c.outputs_of.ensures ∙ ap (λ n. min n 18446744073709551615) (sym (items-insert m.items c.in_ok-index.index y)) in
     let total = c.outputs_with-of_models.ensures (items_outputs (insert m.items c.in_ok-index.index y)) of_items ∙ ap (λ n. min n 18446744073709551615) (sym (outputs-with (λ is. insert is c.in_ok-index.index y) t.models c.in_ok-at.at m (grind (arith, common_steps, c.in_ok-at.ensures.2)) here)) in
-    let within = c.limited.ensures (texts_after (changes.InsertItem c.in_ok-at.at c.in_ok-index.index c.in-Ok.item) t) (grind (arith, common_steps)) (length-changed_at (with_items (λ is. insert is c.in_ok-index.index y)) t.models c.in_ok-at.at ∙ grind (arith, common_steps)) total in
-    let below : length (model_of c.index.result.now).items < 256 = omega arith in
-    let room = held_here model_of (λ m. length m.items < 256) c.args.self.now.models.items c.in_ok-at.at c.index.result.now (omega (arith, c.in_ok-at.ensures.2)) c.index.ensures below in
+    let within = c.limited.ensures (changed_texts (changes.InsertItem c.in_ok-at.at c.in_ok-index.index c.in-Ok.item) t) (grind (arith, common_steps)) (length-changed_at (with_items (λ is. insert is c.in_ok-index.index y)) t.models c.in_ok-at.at ∙ grind (arith, common_steps)) total in
+    let below : length (plain_model c.index.result.now).items < 256 = omega arith in
+    let room = held_here plain_model (λ m. length m.items < 256) c.args.self.now.models.items c.in_ok-at.at c.index.result.now (omega (arith, c.in_ok-at.ensures.2)) c.index.ensures below in
     limited_ready_within t c.args.self.now c.args.spent
     (changes.InsertItem c.in_ok-at.at c.in_ok-index.index c.in-Ok.item)
-    (texts_after (changes.InsertItem c.in_ok-at.at c.in_ok-index.index c.in-Ok.item) t)
+    (changed_texts (changes.InsertItem c.in_ok-at.at c.in_ok-index.index c.in-Ok.item) t)
     c.limited.result
     (λ fits.
     let left =
     unspent t
-    (texts_after (changes.InsertItem c.in_ok-at.at c.in_ok-index.index c.in-Ok.item) t)
+    (changed_texts (changes.InsertItem c.in_ok-at.at c.in_ok-index.index c.in-Ok.item) t)
     c.args.spent fits in
     (c.in_ok-at.ensures.2, c.in_ok-index.ensures.2, room, omega (arith, left)))
     within

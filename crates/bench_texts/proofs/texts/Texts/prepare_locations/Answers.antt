@@ -2,7 +2,7 @@ use Rattle.std.proofs.Common.{refl, ap, subst}
 use Rattle.bench_texts.specs.declared.change.Change.TheVariants as changes
 use Rattle.bench_texts.specs.BenchTexts.{changed_at, with_observed, with_tests}
 use Rattle.bench_texts.specs.Held.{texts_of}
-use Rattle.bench_texts.specs.Changes.{texts_after}
+use Rattle.bench_texts.specs.Changes.{changed_texts}
 use Rattle.bench_texts.specs.Edits.{SetLocations}
 use Rattle.bench_texts.proofs.Lists.{length-changed_at}
 use Rattle.bench_texts.proofs.Refusing.{limited_answers, limited_ready}
@@ -23,7 +23,7 @@ returns-in-Ok-clause-answer c =
     )
     (λ r put. subst (λ i. IsTestPut i r) c.in_ok-at.ensures.0 put)
     (c.limited_alike.ensures
-    (texts_after (changes.SetObserved c.in_ok-at.at c.in-Ok.observed)
+    (changed_texts (changes.SetObserved c.in_ok-at.at c.in-Ok.observed)
     (texts_of c.args.self.now))
     (length-changed_at (with_observed c.in-Ok.observed.items)
     (texts_of c.args.self.now).tests c.in_ok-at.at) refl)
@@ -32,10 +32,10 @@ pub returns-in-Ok-clause-ready : goal.returns-in-Ok-clause-ready
 returns-in-Ok-clause-ready c =
     limited_ready (texts_of c.args.self.now) c.args.self.now c.args.spent
     (changes.SetObserved c.in_ok-at.at c.in-Ok.observed)
-    (texts_after (changes.SetObserved c.in_ok-at.at c.in-Ok.observed)
+    (changed_texts (changes.SetObserved c.in_ok-at.at c.in-Ok.observed)
     (texts_of c.args.self.now)) c.limited_alike.result (c.in_ok-at.ensures.2)
     (c.limited_alike.ensures
-    (texts_after (changes.SetObserved c.in_ok-at.at c.in-Ok.observed)
+    (changed_texts (changes.SetObserved c.in_ok-at.at c.in-Ok.observed)
     (texts_of c.args.self.now))
     (length-changed_at (with_observed c.in-Ok.observed.items)
     (texts_of c.args.self.now).tests c.in_ok-at.at) refl)

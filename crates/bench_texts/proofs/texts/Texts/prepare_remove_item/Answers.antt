@@ -3,8 +3,8 @@ use Rattle.std.proofs.lemmas.Grind.{common_steps}
 use Rattle.bench_texts.specs.declared.change.Change.TheVariants as changes
 use Rattle.bench_texts.specs.BenchTexts.{model_index, changed_at, with_items, with_models}
 use Rattle.bench_texts.specs.Limits.{items_outputs}
-use Rattle.bench_texts.specs.Held.{model_of, texts_of}
-use Rattle.bench_texts.specs.Changes.{texts_after}
+use Rattle.bench_texts.specs.Held.{plain_model, texts_of}
+use Rattle.bench_texts.specs.Changes.{changed_texts}
 use Rattle.bench_texts.specs.Edits.{RemoveItem}
 use Rattle.bench_texts.proofs.Lists.{length-changed_at, get_or-map, held_at}
 use Rattle.bench_texts.proofs.Counts.{outputs-with, items-remove}
@@ -14,16 +14,16 @@ use Rattle.bench_texts.proofs.texts.Texts.prepare_remove_item.Goals as goal
 
 pub outputs_without-of_items-requires : goal.outputs_without-of_items-requires
 outputs_without-of_items-requires c =
-    held_at model_of (λ m. c.in_ok-index.index < length m.items) c.args.self.now.models.items
+    held_at plain_model (λ m. c.in_ok-index.index < length m.items) c.args.self.now.models.items
     c.in_ok-at.at c.index.result.now (omega (arith, c.in_ok-at.ensures.2)) c.index.ensures
     c.in_ok-index.ensures.2
 
 pub returns-clause-answer : goal.returns-clause-answer
 returns-clause-answer c =
-    let ms = (texts_of c.args.self.now).models in let m = model_of c.index.result.now in
-    let here : m ≡ get_or (texts_of c.args.self.now).models c.in_ok-at.at m = get_or-map model_of c.args.self.now.models.items c.in_ok-at.at c.index.result.now (omega (arith, c.in_ok-at.ensures.2)) c.index.ensures in
+    let ms = (texts_of c.args.self.now).models in let m = plain_model c.index.result.now in
+    let here : m ≡ get_or (texts_of c.args.self.now).models c.in_ok-at.at m = get_or-map plain_model c.args.self.now.models.items c.in_ok-at.at c.index.result.now (omega (arith, c.in_ok-at.ensures.2)) c.index.ensures in
     let total = c.outputs_with-of_models.ensures (items_outputs (remove m.items c.in_ok-index.index)) (c.outputs_without-of_items.ensures ∙ ap (λ n. min n 18446744073709551615) (sym (items-remove m.items c.in_ok-index.index))) ∙ ap (λ n. min n 18446744073709551615) (sym (outputs-with (λ is. remove is c.in_ok-index.index) (texts_of c.args.self.now).models c.in_ok-at.at m (grind (arith, common_steps, c.in_ok-at.ensures.2)) here)) in
-    let within = c.limited.ensures (texts_after (changes.RemoveItem c.in_ok-at.at c.in_ok-index.index) (texts_of c.args.self.now)) (grind (arith, common_steps)) (length-changed_at (with_items (λ is. remove is c.in_ok-index.index)) (texts_of c.args.self.now).models c.in_ok-at.at ∙ grind (arith, common_steps)) total in
+    let within = c.limited.ensures (changed_texts (changes.RemoveItem c.in_ok-at.at c.in_ok-index.index) (texts_of c.args.self.now)) (grind (arith, common_steps)) (length-changed_at (with_items (λ is. remove is c.in_ok-index.index)) (texts_of c.args.self.now).models c.in_ok-at.at ∙ grind (arith, common_steps)) total in
     limited_answers (texts_of c.args.self.now) c.args.spent
     (RemoveItem c.args.model.now c.args.item)
     (changes.RemoveItem c.in_ok-at.at c.in_ok-index.index) c.limited.result
@@ -42,13 +42,13 @@ returns-clause-answer c =
 
 pub returns-clause-ready : goal.returns-clause-ready
 returns-clause-ready c =
-    let ms = (texts_of c.args.self.now).models in let m = model_of c.index.result.now in
-    let here : m ≡ get_or (texts_of c.args.self.now).models c.in_ok-at.at m = get_or-map model_of c.args.self.now.models.items c.in_ok-at.at c.index.result.now (omega (arith, c.in_ok-at.ensures.2)) c.index.ensures in
+    let ms = (texts_of c.args.self.now).models in let m = plain_model c.index.result.now in
+    let here : m ≡ get_or (texts_of c.args.self.now).models c.in_ok-at.at m = get_or-map plain_model c.args.self.now.models.items c.in_ok-at.at c.index.result.now (omega (arith, c.in_ok-at.ensures.2)) c.index.ensures in
     let total = c.outputs_with-of_models.ensures (items_outputs (remove m.items c.in_ok-index.index)) (c.outputs_without-of_items.ensures ∙ ap (λ n. min n 18446744073709551615) (sym (items-remove m.items c.in_ok-index.index))) ∙ ap (λ n. min n 18446744073709551615) (sym (outputs-with (λ is. remove is c.in_ok-index.index) (texts_of c.args.self.now).models c.in_ok-at.at m (grind (arith, common_steps, c.in_ok-at.ensures.2)) here)) in
-    let within = c.limited.ensures (texts_after (changes.RemoveItem c.in_ok-at.at c.in_ok-index.index) (texts_of c.args.self.now)) (grind (arith, common_steps)) (length-changed_at (with_items (λ is. remove is c.in_ok-index.index)) (texts_of c.args.self.now).models c.in_ok-at.at ∙ grind (arith, common_steps)) total in
+    let within = c.limited.ensures (changed_texts (changes.RemoveItem c.in_ok-at.at c.in_ok-index.index) (texts_of c.args.self.now)) (grind (arith, common_steps)) (length-changed_at (with_items (λ is. remove is c.in_ok-index.index)) (texts_of c.args.self.now).models c.in_ok-at.at ∙ grind (arith, common_steps)) total in
     limited_ready (texts_of c.args.self.now) c.args.self.now c.args.spent
     (changes.RemoveItem c.in_ok-at.at c.in_ok-index.index)
-    (texts_after (changes.RemoveItem c.in_ok-at.at c.in_ok-index.index)
+    (changed_texts (changes.RemoveItem c.in_ok-at.at c.in_ok-index.index)
     (texts_of c.args.self.now)) c.limited.result
     (c.in_ok-at.ensures.2, c.in_ok-index.ensures.2)
     within

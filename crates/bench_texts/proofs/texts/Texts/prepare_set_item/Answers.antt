@@ -4,8 +4,8 @@ use Rattle.text_values.specs.ModelValues.{clause_of}
 use Rattle.bench_texts.specs.declared.change.Change.TheVariants as changes
 use Rattle.bench_texts.specs.BenchTexts.{NumberedItem, model_index, put_at, changed_at, with_items, with_models}
 use Rattle.bench_texts.specs.Limits.{items_outputs}
-use Rattle.bench_texts.specs.Held.{model_of, texts_of}
-use Rattle.bench_texts.specs.Changes.{texts_after}
+use Rattle.bench_texts.specs.Held.{plain_model, texts_of}
+use Rattle.bench_texts.specs.Changes.{changed_texts}
 use Rattle.bench_texts.specs.Edits.{SetItem}
 use Rattle.bench_texts.proofs.Lists.{length-changed_at, get_or-map, held_at}
 use Rattle.bench_texts.proofs.Counts.{outputs-with, items-put, counted-more}
@@ -15,18 +15,18 @@ use Rattle.bench_texts.proofs.texts.Texts.prepare_set_item.Goals as goal
 
 pub outputs_without-others-requires : goal.outputs_without-others-requires
 outputs_without-others-requires c =
-    held_at model_of (λ m. c.in_ok-index.index < length m.items) c.args.self.now.models.items
+    held_at plain_model (λ m. c.in_ok-index.index < length m.items) c.args.self.now.models.items
     c.in_ok-at.at c.index.result.now (omega (arith, c.in_ok-at.ensures.2)) c.index.ensures
     c.in_ok-index.ensures.2
 
 pub returns-clause-answer : goal.returns-clause-answer
 returns-clause-answer c =
-    let m = model_of c.index.result.now in
+    let m = plain_model c.index.result.now in
     let y : NumberedItem = record { number = c.args.number; clause = clause_of c.in-Ok.item } in
-    let here : m ≡ get_or (texts_of c.args.self.now).models c.in_ok-at.at m = get_or-map model_of c.args.self.now.models.items c.in_ok-at.at c.index.result.now (omega (arith, c.in_ok-at.ensures.2)) c.index.ensures in
+    let here : m ≡ get_or (texts_of c.args.self.now).models c.in_ok-at.at m = get_or-map plain_model c.args.self.now.models.items c.in_ok-at.at c.index.result.now (omega (arith, c.in_ok-at.ensures.2)) c.index.ensures in
     let of_items = c.saturating_add-of_items.ensures ∙ counted-more _ _ _ _ c.outputs_without-others.ensures c.outputs_of.ensures ∙ ap (λ n. min n 18446744073709551615) (sym (items-put m.items c.in_ok-index.index y)) in
     let total = c.outputs_with-of_models.ensures (items_outputs (put_at c.in_ok-index.index y m.items)) of_items ∙ ap (λ n. min n 18446744073709551615) (sym (outputs-with (put_at c.in_ok-index.index y) (texts_of c.args.self.now).models c.in_ok-at.at m (grind (arith, common_steps, c.in_ok-at.ensures.2)) here)) in
-    let within = c.limited.ensures (texts_after (changes.SetItem c.in_ok-at.at c.in_ok-index.index c.args.number c.in-Ok.item) (texts_of c.args.self.now)) (grind (arith, common_steps)) (length-changed_at (with_items (put_at c.in_ok-index.index y)) (texts_of c.args.self.now).models c.in_ok-at.at ∙ grind (arith, common_steps)) total in
+    let within = c.limited.ensures (changed_texts (changes.SetItem c.in_ok-at.at c.in_ok-index.index c.args.number c.in-Ok.item) (texts_of c.args.self.now)) (grind (arith, common_steps)) (length-changed_at (with_items (put_at c.in_ok-index.index y)) (texts_of c.args.self.now).models c.in_ok-at.at ∙ grind (arith, common_steps)) total in
     limited_answers (texts_of c.args.self.now) c.args.spent
     (SetItem c.args.model.now c.args.number c.args.text.now)
     (changes.SetItem c.in_ok-at.at c.in_ok-index.index c.args.number c.in-Ok.item)
@@ -50,15 +50,15 @@ returns-clause-answer c =
 
 pub returns-clause-ready : goal.returns-clause-ready
 returns-clause-ready c =
-    let m = model_of c.index.result.now in
+    let m = plain_model c.index.result.now in
     let y : NumberedItem = record { number = c.args.number; clause = clause_of c.in-Ok.item } in
-    let here : m ≡ get_or (texts_of c.args.self.now).models c.in_ok-at.at m = get_or-map model_of c.args.self.now.models.items c.in_ok-at.at c.index.result.now (omega (arith, c.in_ok-at.ensures.2)) c.index.ensures in
+    let here : m ≡ get_or (texts_of c.args.self.now).models c.in_ok-at.at m = get_or-map plain_model c.args.self.now.models.items c.in_ok-at.at c.index.result.now (omega (arith, c.in_ok-at.ensures.2)) c.index.ensures in
     let of_items = c.saturating_add-of_items.ensures ∙ counted-more _ _ _ _ c.outputs_without-others.ensures c.outputs_of.ensures ∙ ap (λ n. min n 18446744073709551615) (sym (items-put m.items c.in_ok-index.index y)) in
     let total = c.outputs_with-of_models.ensures (items_outputs (put_at c.in_ok-index.index y m.items)) of_items ∙ ap (λ n. min n 18446744073709551615) (sym (outputs-with (put_at c.in_ok-index.index y) (texts_of c.args.self.now).models c.in_ok-at.at m (grind (arith, common_steps, c.in_ok-at.ensures.2)) here)) in
-    let within = c.limited.ensures (texts_after (changes.SetItem c.in_ok-at.at c.in_ok-index.index c.args.number c.in-Ok.item) (texts_of c.args.self.now)) (grind (arith, common_steps)) (length-changed_at (with_items (put_at c.in_ok-index.index y)) (texts_of c.args.self.now).models c.in_ok-at.at ∙ grind (arith, common_steps)) total in
+    let within = c.limited.ensures (changed_texts (changes.SetItem c.in_ok-at.at c.in_ok-index.index c.args.number c.in-Ok.item) (texts_of c.args.self.now)) (grind (arith, common_steps)) (length-changed_at (with_items (put_at c.in_ok-index.index y)) (texts_of c.args.self.now).models c.in_ok-at.at ∙ grind (arith, common_steps)) total in
     limited_ready (texts_of c.args.self.now) c.args.self.now c.args.spent
     (changes.SetItem c.in_ok-at.at c.in_ok-index.index c.args.number c.in-Ok.item)
-    (texts_after (changes.SetItem c.in_ok-at.at c.in_ok-index.index c.args.number c.in-Ok.item)
+    (changed_texts (changes.SetItem c.in_ok-at.at c.in_ok-index.index c.args.number c.in-Ok.item)
     (texts_of c.args.self.now)) c.limited.result
     (c.in_ok-at.ensures.2, c.in_ok-index.ensures.2)
     within

@@ -6,7 +6,7 @@ use Rattle.memo_core.specs.Step.{open_claim, open_claims, return_of, state}
 use Rattle.memo_core.proofs.ClaimLemmas.{closed, found, numbered_later, numbered_closed}
 use Rattle.memo_core.proofs.Progress.{accepts_fresh, accept_unsettled}
 use Rattle.memo_engine.proofs.MarkLemmas.{put_pending}
-use Rattle.memo_core.specs.Right.{IsCounted}
+use Rattle.memo_core.specs.Right.{CountsAsComputed}
 use Rattle.memo_core.proofs.Counted.{counted_now}
 use Rattle.memo_engine.proofs.AcceptLemmas.{accepted, finishes}
 use Rattle.memo_engine.proofs.graph.Graph.accept.Goals as goal
@@ -31,7 +31,7 @@ returns-clause-taken g c =
     let outputs = shown_outputs d.outputs.items in
     let r = return_of d.claim d.node d.given d.keys.items values outputs in
     let present = c.requires.due.3 in
-    let a = accepted t.same g.met.T.Texts.same_exact (IsCounted t.since t.net t.makes s.texts) net (as_memos s.memos.entries) s.claims.entries s.taken d.claim d.node d.given d.keys.items values outputs
+    let a = accepted t.same g.met.T.Texts.same_exact (CountsAsComputed t.since t.net t.makes s.texts) net (as_memos s.memos.entries) s.claims.entries s.taken d.claim d.node d.given d.keys.items values outputs
     c.in-Some.claim (sym c.in-Some.is ∙ c.remove.ensures.value) c.requires.due c.requires.right.1 (λ
     is a. counted_now t.is_valid t.since t.net t.makes s.texts
     (g.met.T.Texts.since_same s.texts c.requires.right.0) d.node is values

@@ -1,6 +1,6 @@
 use Rattle.std.proofs.Common.{◌+◌, refl, sym}
 use Rattle.memo_core.specs.Graph.{at}
-use Rattle.memo_core.specs.Right.{IsCounted}
+use Rattle.memo_core.specs.Right.{CountsAsComputed}
 use Rattle.memo_core.proofs.Counted.{counted_made}
 use Rattle.memo_core.specs.Views.{as_memos, shown_values}
 use Rattle.memo_engine.proofs.WorkLemmas.{values_there, values_present, has_there}
@@ -30,7 +30,7 @@ job_of-requires g c =
     record {
       there = there;
       values =
-          values_there (IsCounted t.since t.net t.makes s.texts) t.makes (t.net s.texts)
+          values_there (CountsAsComputed t.since t.net t.makes s.texts) t.makes (t.net s.texts)
           (as_memos s.memos.entries) s.taken (t.is_there s.texts)
           (λ m is vs os k a. counted_made t.is_valid t.since t.net t.makes laws.given_stays s.texts
           c.requires.right.0 m is vs os k a) c.requires.right.1
@@ -69,7 +69,7 @@ returns-clause-right g c =
     let s = c.args.self.now in (
       c.requires.right.0,
       rw c.in_ok-open_claim.ensures.memos (right_later
-          (IsCounted g.T.Texts.since g.T.Texts.net g.T.Texts.makes s.texts)
+          (CountsAsComputed g.T.Texts.since g.T.Texts.net g.T.Texts.makes s.texts)
           (g.T.Texts.net s.texts) (as_memos s.memos.entries) s.taken c.requires.right.1),
     )
 

@@ -3,7 +3,7 @@ use Rattle.memo_core.specs.Views.{as_memos}
 use Rattle.memo_core.specs.Step.{open_claims}
 use Rattle.memo_core.proofs.Progress.{keep_fresh}
 use Rattle.memo_core.proofs.ClaimLemmas.{numbered_later}
-use Rattle.memo_core.specs.Right.{IsCounted}
+use Rattle.memo_core.specs.Right.{CountsAsComputed}
 use Rattle.memo_core.proofs.Counted.{counted_later}
 use Rattle.memo_core.proofs.Headline.{edit_right}
 use Rattle.memo_core.proofs.Runs.{right_kept}
@@ -22,8 +22,8 @@ returns-clause-right g c =
     let laws = g.met.T.Texts in
     let edited = laws.commits_edit s.texts c.prepare.new.self c.put_in_place.new.texts c.args.edit c.in-Ok.prepared _ c.in-Ok.ensures.prepares c.put_in_place.ensures.commits in (
       laws.valid_edited s.texts c.put_in_place.new.texts c.args.edit _ c.requires.right.0 edited,
-      rw c.put_in_place.ensures.memos (edit_right (IsCounted t.since t.net t.makes s.texts)
-          (IsCounted t.since t.net t.makes c.put_in_place.new.texts)
+      rw c.put_in_place.ensures.memos (edit_right (CountsAsComputed t.since t.net t.makes s.texts)
+          (CountsAsComputed t.since t.net t.makes c.put_in_place.new.texts)
           (λ n is vs os k. counted_later t.is_valid t.since t.net t.makes s.texts
           c.put_in_place.new.texts
           (λ w f. laws.since_edited w s.texts c.put_in_place.new.texts c.args.edit _ f edited) n
@@ -48,8 +48,8 @@ returns-in-Err-clause-right g c =
     let s = c.args.self.now in
     let t = g.T.Texts in (
       c.prepare.ensures.valid c.requires.right.0,
-      right_kept (IsCounted t.since t.net t.makes s.texts)
-          (IsCounted t.since t.net t.makes c.prepare.new.self)
+      right_kept (CountsAsComputed t.since t.net t.makes s.texts)
+          (CountsAsComputed t.since t.net t.makes c.prepare.new.self)
           (λ n is vs os k. counted_later t.is_valid t.since t.net t.makes s.texts
           c.prepare.new.self (λ w f. c.prepare.ensures.since w f) n is vs os k)
           (t.net s.texts)
@@ -62,8 +62,8 @@ returns-then-not-tell-clause-right g c =
     let s = c.args.self.now in
     let t = g.T.Texts in (
       c.prepare.ensures.valid c.requires.right.0,
-      right_kept (IsCounted t.since t.net t.makes s.texts)
-          (IsCounted t.since t.net t.makes c.prepare.new.self)
+      right_kept (CountsAsComputed t.since t.net t.makes s.texts)
+          (CountsAsComputed t.since t.net t.makes c.prepare.new.self)
           (λ n is vs os k. counted_later t.is_valid t.since t.net t.makes s.texts
           c.prepare.new.self (λ w f. c.prepare.ensures.since w f) n is vs os k)
           (t.net s.texts)

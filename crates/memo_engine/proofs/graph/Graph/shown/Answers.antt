@@ -1,6 +1,6 @@
 use Rattle.std.proofs.Common.{◌∙◌, sym}
 use Rattle.memo_core.specs.Graph.{memo_of}
-use Rattle.memo_core.specs.Right.{IsCounted, IsMadeNow}
+use Rattle.memo_core.specs.Right.{CountsAsComputed, IsMadeNow}
 use Rattle.memo_core.proofs.Counted.{counted_made}
 use Rattle.memo_core.specs.Views.{as_memos, shown_outputs}
 use Rattle.memo_core.proofs.JudgeLemmas.{true_false}
@@ -24,7 +24,7 @@ unreachable-requires g c =
     let t = g.T.Texts in
     let is = c.requires.marks.sound c.args.node (sym c.is_marked.ensures ∙ c.if-not-is_marked.false) in
     let there = has_there (t.is_there s.texts) (t.net s.texts).used c.args.node (g.met.T.Texts.used_there s.texts c.requires.right.0) c.requires.used in
-    let solved = settled_solved (IsCounted t.since t.net t.makes s.texts) t.makes (t.net s.texts) (as_memos s.memos.entries) s.taken (t.is_there s.texts) (λ m is vs os k a. counted_made t.is_valid t.since t.net t.makes g.met.T.Texts.given_stays s.texts c.requires.right.0 m is vs os k a) c.requires.right.1 (g.met.T.Texts.sound s.texts c.requires.right.0) is.0 c.args.node there is.1 in
+    let solved = settled_solved (CountsAsComputed t.since t.net t.makes s.texts) t.makes (t.net s.texts) (as_memos s.memos.entries) s.taken (t.is_there s.texts) (λ m is vs os k a. counted_made t.is_valid t.since t.net t.makes g.met.T.Texts.given_stays s.texts c.requires.right.0 m is vs os k a) c.requires.right.1 (g.met.T.Texts.sound s.texts c.requires.right.0) is.0 c.args.node there is.1 in
     no_outputs (memo_of c.args.node (as_memos s.memos.entries)) solved.memo
     (c.in-None.ensures.shown) solved.found
 
@@ -38,7 +38,7 @@ returns-clause-solved g c =
     let t = g.T.Texts in
     let is = c.requires.marks.sound c.args.node (sym c.is_marked.ensures ∙ c.if-not-is_marked.false) in
     let there = has_there (t.is_there s.texts) (t.net s.texts).used c.args.node (g.met.T.Texts.used_there s.texts c.requires.right.0) c.requires.used in
-    let solved = settled_solved (IsCounted t.since t.net t.makes s.texts) t.makes (t.net s.texts) (as_memos s.memos.entries) s.taken (t.is_there s.texts) (λ m is vs os k a. counted_made t.is_valid t.since t.net t.makes g.met.T.Texts.given_stays s.texts c.requires.right.0 m is vs os k a) c.requires.right.1 (g.met.T.Texts.sound s.texts c.requires.right.0) is.0 c.args.node there is.1 in (
+    let solved = settled_solved (CountsAsComputed t.since t.net t.makes s.texts) t.makes (t.net s.texts) (as_memos s.memos.entries) s.taken (t.is_there s.texts) (λ m is vs os k a. counted_made t.is_valid t.since t.net t.makes g.met.T.Texts.given_stays s.texts c.requires.right.0 m is vs os k a) c.requires.right.1 (g.met.T.Texts.sound s.texts c.requires.right.0) is.0 c.args.node there is.1 in (
       solved.values,
       solved.present,
       outputs_made (IsMadeNow t.makes (t.net s.texts) c.args.node solved.values)

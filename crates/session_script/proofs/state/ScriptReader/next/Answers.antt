@@ -1,6 +1,6 @@
 use Rattle.std.proofs.Common.{sym, ap, subst, ◌≡◌, ◌∙◌, ℕ, List, false}
 use Rattle.session_script.specs.Commands.{skips}
-use Rattle.session_script.specs.Reading.{left_to, turns_of, IsSaid}
+use Rattle.session_script.specs.Reading.{left_to, turns_of, IsCommandOfWords}
 use Rattle.session_script.specs.Words.{words_of}
 use Rattle.session_script.proofs.Steps.{line_answered, paid_on, read_one}
 use Rattle.session_script.proofs.state.ScriptReader.next.Goals as goal
@@ -18,7 +18,7 @@ returns-then-not-skipped-clause-next g c =
     ap (λ (l : List ℕ). skips l words) (sym c.deref-in-Some.ensures.value)
     ∙ ap (λ (ws : List (List ℕ)). skips c.deref-in-Some.result.now ws)
     (sym c.deref-in-Some-2.ensures.value) ∙ sym c.if-not-skipped.ensures in
-    let said = subst (λ (ws : List (List ℕ)). IsSaid next last ws c.in_ok-command-in-Some.command) c.deref-then-not-skipped.ensures.value c.in_ok-command-in-Some.ensures.said in
+    let said = subst (λ (ws : List (List ℕ)). IsCommandOfWords next last ws c.in_ok-command-in-Some.command) c.deref-then-not-skipped.ensures.value c.in_ok-command-in-Some.ensures.said in
     line_answered first now next last line words c.in_ok-command-in-Some.command
     c.lines.invariant.commands
     (read_one now next c.in_ok-read.read c.in-Some.line c.in-Some.is c.in_ok-read.ensures.line)

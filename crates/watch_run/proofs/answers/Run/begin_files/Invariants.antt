@@ -2,7 +2,7 @@ use Rattle.std.proofs.Common.{◌≡◌, ◌∷◌, take}
 use Rattle.watch_run.specs.Holding.{ModelFile, test_files}
 use Rattle.watch_run.specs.Edits.{model_path, test_paths}
 use Rattle.watch_run.specs.Boards.{KnowsItsTexts, standing}
-use Rattle.watch_run.specs.Runs.{HasBegun}
+use Rattle.watch_run.specs.Runs.{HasBegunFiles}
 use Rattle.watch_run.proofs.answers.Run.begin_files.Given as goal
 
 -- the file of the model and those of the tests so far were begun
@@ -13,6 +13,6 @@ invariant-loop-index g l =
     record {
       ready : KnowsItsTexts g.A.Author.seen l.self.watched;
       paths : l.self.paths ≡ l.fn.self.paths;
-      begun : HasBegun files (standing l.fn.self) (standing l.self) (readings l.fn.versions)
+      begun : HasBegunFiles files (standing l.fn.self) (standing l.self) (readings l.fn.versions)
           (readings l.versions) l.text.items;
     }
