@@ -8,6 +8,7 @@ use crate::ends::registers_of;
 use crate::{Action, Combination, Event};
 use ppc_semantics::Value;
 use run_combinations::is_same;
+use thread_runs::are_same_values;
 
 /// The candidates of combinations from one on.
 #[derive(Drop)]
@@ -75,20 +76,6 @@ fn are_same_events(first: &[Event], second: &[Event]) -> bool
     }
     for index in 0..first.len() {
         if !is_same_event(&first[index], &second[index]) {
-            return false;
-        }
-    }
-    true
-}
-
-fn are_same_values(first: &[Value], second: &[Value]) -> bool
-    ensures { IsTrue result ↔ (first.now ≡ second.now) }
-{
-    if first.len() != second.len() {
-        return false;
-    }
-    for index in 0..first.len() {
-        if !is_same(first[index], second[index]) {
             return false;
         }
     }

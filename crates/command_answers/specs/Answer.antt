@@ -1,5 +1,5 @@
 -- What is said of a model's text and a test's text.
-use Rattle.std.specs.Prelude.{◌≡◌, ◌+◌, ◌≤◌, ◌⊎◌, ℕ, List, length, Bool, true, false, Option, Result, Ok, Err, IfSome}
+use Rattle.std.specs.Prelude.{◌≡◌, ◌≢◌, ◌+◌, ◌≤◌, ◌⊎◌, ℕ, List, length, Bool, true, false, Option, Result, Ok, Err, IfSome}
 use Rattle.std.specs.Io.KnownBytes.{Keeps}
 use Rattle.std.specs.declared.alloc.Global.{Global}
 use Rattle.std.specs.declared.vec.Vec.{Vec}
@@ -134,3 +134,18 @@ IsStreamed left old new (Err session_faults.Shared) = ⊥
 abbrev pub IsReadFault : ℕ → ℕ → Option (List ℕ) → Type 0
 IsReadFault old new left =
     (new ≡ old + 1) ⊎ ((new ≡ old) × IfSome left (λ all. 16777216 ≤ length all))
+
+-- how many reads have failed, before and after: `Read` comes after a refused read, and all else after
+-- none
+abbrev pub AreReadsCounted : {T : Type 0} → ℕ → ℕ → Option (List ℕ) → Result T SessionFault
+    → Type 0
+AreReadsCounted old new left result =
+    (result ≡ Err session_faults.Read → IsReadFault old new left)
+    × (result ≢ Err session_faults.Read → new ≡ old)
+
+-- how many writes have failed, before and after: `Write` comes after one failed write, and all else
+-- after none
+abbrev pub AreWritesCounted : {T : Type 0} → ℕ → ℕ → Result T SessionFault → Type 0
+AreWritesCounted old new result =
+    (result ≡ Err session_faults.Write → new ≡ old + 1)
+    × (result ≢ Err session_faults.Write → new ≡ old)

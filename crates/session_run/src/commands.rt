@@ -5,7 +5,7 @@ ghost use Rattle.std.specs.Io.KnownBytes.{Appends};
 ghost use Rattle.session_script.specs.Reading.{left_to, turns_of, work_of, IsNextCommand, IsPaid};
 ghost use Rattle.bench_texts.specs.Held.{texts_of};
 ghost use Rattle.session_answers.specs.Sessions.{no_texts};
-ghost use Rattle.command_answers.specs.Answer.{IsReadFault};
+ghost use Rattle.command_answers.specs.Answer.{AreReadsCounted, AreWritesCounted};
 ghost use Rattle.session_script.specs.Written.{WritesPrefix};
 ghost use Rattle.session_views.specs.Knowing.{KnowsTexts};
 ghost use Rattle.session_run.specs.Sessions.{IsSession, IsReplied, IsReplyStopped, IsTurnFault};
@@ -135,10 +135,7 @@ fn write_reply<J: Naming + StoreName, R: Wait + Drop, W: Wait, K: ByteSink, L: A
         (texts_of session.new.texts)) }
     ensures stopped { IfErr result (IsReplyStopped (texts_of session.old.texts) command
         (K.contents sink.old) (K.contents sink.new)) }
-    ensures failed { result ≡ Err SessionFault.Write
-        → K.failed_calls sink.new ≡ K.failed_calls sink.old + 1 }
-    ensures same { result ≢ Err SessionFault.Write
-        → K.failed_calls sink.new ≡ K.failed_calls sink.old }
+    ensures calls { AreWritesCounted (K.failed_calls sink.old) (K.failed_calls sink.new) result }
     ensures fault { result ≢ Err SessionFault.Read }
 {
     let heard = match heard_of(alloc, &command) {
@@ -176,15 +173,9 @@ pub(crate) fn answer_commands<
     requires sink { K.failed_calls sink.old < 2 ^ 64 - 1 }
     ensures written { IsSession (S.remaining source.old) (K.contents sink.old) (K.contents sink.new)
         result }
-    ensures read { result ≡ Err SessionFault.Read
-        → IsReadFault (S.failed_calls source.old) (S.failed_calls source.new)
-        (S.remaining source.old) }
-    ensures no_read { result ≢ Err SessionFault.Read
-        → S.failed_calls source.new ≡ S.failed_calls source.old }
-    ensures write { result ≡ Err SessionFault.Write
-        → K.failed_calls sink.new ≡ K.failed_calls sink.old + 1 }
-    ensures no_write { result ≢ Err SessionFault.Write
-        → K.failed_calls sink.new ≡ K.failed_calls sink.old }
+    ensures reads { AreReadsCounted (S.failed_calls source.old) (S.failed_calls source.new)
+        (S.remaining source.old) result }
+    ensures writes { AreWritesCounted (K.failed_calls sink.old) (K.failed_calls sink.new) result }
 {
     let mut script = ScriptReader::new(alloc);
     let mut session = session;

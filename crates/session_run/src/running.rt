@@ -1,7 +1,7 @@
 //! A session with its desk and its workers.
 
-ghost use Rattle.std.specs.Prelude.{◌≡◌, ◌≢◌, ◌+◌, ◌-◌, ◌<◌, ◌^◌, Err};
-ghost use Rattle.command_answers.specs.Answer.{IsReadFault};
+ghost use Rattle.std.specs.Prelude.{◌≡◌, ◌-◌, ◌<◌, ◌^◌};
+ghost use Rattle.command_answers.specs.Answer.{AreReadsCounted, AreWritesCounted};
 ghost use Rattle.session_run.specs.Sessions.{IsSession};
 
 use crate::commands::answer_commands;
@@ -43,15 +43,9 @@ where
     requires sink { K.failed_calls sink.old < 2 ^ 64 - 1 }
     ensures written { IsSession (S.remaining source.old) (K.contents sink.old) (K.contents sink.new)
         result }
-    ensures read { result ≡ Err SessionFault.Read
-        → IsReadFault (S.failed_calls source.old) (S.failed_calls source.new)
-        (S.remaining source.old) }
-    ensures no_read { result ≢ Err SessionFault.Read
-        → S.failed_calls source.new ≡ S.failed_calls source.old }
-    ensures write { result ≡ Err SessionFault.Write
-        → K.failed_calls sink.new ≡ K.failed_calls sink.old + 1 }
-    ensures no_write { result ≢ Err SessionFault.Write
-        → K.failed_calls sink.new ≡ K.failed_calls sink.old }
+    ensures reads { AreReadsCounted (S.failed_calls source.old) (S.failed_calls source.new)
+        (S.remaining source.old) result }
+    ensures writes { AreWritesCounted (K.failed_calls sink.old) (K.failed_calls sink.new) result }
 {
     let alloc = rt.alloc();
     let Ok(desk) = seed.desk::<J, R, R>(rt, alloc, *rt) else {
@@ -114,15 +108,9 @@ where
         result }
     // `Read` comes after one failed read, or where the script has so many bytes that it is taken
     // for one that does not end; `Write` comes after one failed write, and all else after none.
-    ensures read { result ≡ Err SessionFault.Read
-        → IsReadFault (S.failed_calls source.old) (S.failed_calls source.new)
-        (S.remaining source.old) }
-    ensures no_read { result ≢ Err SessionFault.Read
-        → S.failed_calls source.new ≡ S.failed_calls source.old }
-    ensures write { result ≡ Err SessionFault.Write
-        → K.failed_calls sink.new ≡ K.failed_calls sink.old + 1 }
-    ensures no_write { result ≢ Err SessionFault.Write
-        → K.failed_calls sink.new ≡ K.failed_calls sink.old }
+    ensures reads { AreReadsCounted (S.failed_calls source.old) (S.failed_calls source.new)
+        (S.remaining source.old) result }
+    ensures writes { AreWritesCounted (K.failed_calls sink.old) (K.failed_calls sink.new) result }
 {
     let Ok(seed) = DeskSeed::new(rt.alloc()) else {
         return Err(SessionFault::Memory);

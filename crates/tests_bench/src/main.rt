@@ -8,7 +8,6 @@ mod benches;
 mod claimed;
 mod claimed_desk;
 mod desks;
-mod edits;
 mod jobs;
 mod meeting;
 mod numbered;

@@ -2,8 +2,6 @@
 //! script that does not end, and scripts that are drawn from a fixed seed. Each part begins with a
 //! line that names it.
 
-ghost use Rattle.std.specs.Prelude.{None};
-
 mod drawn;
 mod gate;
 mod hearing;
@@ -12,7 +10,7 @@ pub mod run;
 mod scripts;
 
 use bench_workers::NoGate;
-use command_answers::{ByteSource, CallFailed, MemorySource, NoListener, SessionFault};
+use command_answers::{MemorySource, NoListener};
 use gate::SharedMeeting;
 use hearing::Hearing;
 use run::{run_over, with_workers};
@@ -20,41 +18,13 @@ use std::io;
 use std::rt::Files;
 use std::sync::Wait;
 use std::thread::Threads;
+use tests_cases::streams::{Endless, word_of};
 
 const SMALL: &[u8] =
     b"model sc\nacyclic po|rf|fr|co as sc\n.\ntest\nPPC MP\n{ 0:r2=x; 0:r4=y; 1:r2=y; 1:r4=x; }\nP0 | P1 ;\nli r1,1 | lwz r1,0(r2) ;\nstw r1,0(r2) | lwz r3,0(r4) ;\nli r3,1 | ;\nstw r3,0(r4) | ;\nexists (1:r1=1 /\\ 1:r3=0)\n.\ntest\nPPC CoWR\n{ 0:r2=x; }\nP0 ;\nli r1,1 ;\nstw r1,0(r2) ;\nlwz r3,0(r2) ;\nexists (0:r3=0)\n.\ntable sc\n";
 
 /// How many scripts are drawn.
 const DRAWN: u64 = 300;
-
-/// A source that gives one byte at each call, and does not end.
-#[derive(Clone, Copy)]
-struct Endless;
-
-impl ByteSource for Endless {
-    ghost remaining = { λ _. None };
-
-    ghost failed_calls = { λ _. 0 };
-
-    fn read_some(&mut self, buffer: &mut [u8]) -> Result<usize, CallFailed> {
-        if buffer.is_empty() {
-            return Ok(0);
-        }
-        buffer[0] = b' ';
-        Ok(1)
-    }
-}
-
-fn word_of(end: Result<bool, SessionFault>) -> &'static str {
-    match end {
-        Ok(false) => "done",
-        Ok(true) => "refused",
-        Err(SessionFault::Read) => "no read",
-        Err(SessionFault::Write) => "no write",
-        Err(SessionFault::Memory) => "no memory",
-        Err(SessionFault::Shared) => "shared",
-    }
-}
 
 fn last_line(output: &[u8]) -> &str {
     match str::from_utf8(output) {

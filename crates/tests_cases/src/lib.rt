@@ -1,9 +1,13 @@
-//! Tables of cases: each line is a question, ` | ` and a text.
+//! Tables of cases: each line is a question, ` | ` and a text. What several tests use stands beside
+//! them: `edits` by their words, and the `streams` of the program.
 //!
 //! In a text `%` begins what is no plain letter: `%n` is a line feed, `%#233;` the byte 233,
 //! `%*65:ab` is `ab` 65 times and `%+65:ab` the line `ab` 65 times, each up to the next `%`, and
 //! `%.` is nothing.
 #![tactic(auto)]
+
+pub mod edits;
+pub mod streams;
 
 use std::alloc::{AllocError, Global};
 

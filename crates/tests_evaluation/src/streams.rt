@@ -3,11 +3,12 @@
 ghost use Rattle.std.specs.Prelude.{None};
 
 use command_answers::{
-    ByteSink, ByteSource, CallFailed, MemorySink, MemorySource, NoListener, OfRead, SessionFault,
-    eval_stream, read_front, read_text, write_answer,
+    ByteSink, CallFailed, MemorySink, MemorySource, NoListener, OfRead, eval_stream, read_front,
+    read_text, write_answer,
 };
 use std::alloc::AllocError;
 use std::io;
+use tests_cases::streams::{Endless, word_of};
 
 /// The log of message passing under sequential consistency.
 const LOG: &[u8] =
@@ -32,35 +33,6 @@ impl<S: ByteSink> ByteSink for Sipping<S> {
     fn write_some(&mut self, bytes: &[u8]) -> Result<usize, CallFailed> {
         let count = bytes.len().min(7);
         self.inner.write_some(&bytes[..count])
-    }
-}
-
-/// A source that gives one byte at each call, and does not end.
-#[derive(Clone, Copy)]
-struct Endless;
-
-impl ByteSource for Endless {
-    ghost remaining = { λ _. None };
-
-    ghost failed_calls = { λ _. 0 };
-
-    fn read_some(&mut self, buffer: &mut [u8]) -> Result<usize, CallFailed> {
-        if buffer.is_empty() {
-            return Ok(0);
-        }
-        buffer[0] = b' ';
-        Ok(1)
-    }
-}
-
-fn word_of(answer: Result<bool, SessionFault>) -> &'static str {
-    match answer {
-        Ok(false) => "done",
-        Ok(true) => "refused",
-        Err(SessionFault::Read) => "no read",
-        Err(SessionFault::Write) => "no write",
-        Err(SessionFault::Memory) => "no memory",
-        Err(SessionFault::Shared) => "shared",
     }
 }
 

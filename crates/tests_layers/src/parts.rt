@@ -5,7 +5,6 @@
 
 use crate::print_answer;
 use crate::texts::answers::put_result;
-use crate::texts::edits;
 use bench_edits::{EditedParts, commit_parts, prepare_parts};
 use bench_nodes::{ItemRow, ModelRow, TestRow};
 use bench_parts::Parts;
@@ -14,7 +13,7 @@ use memo_core::keys::Kind;
 use std::alloc::{AllocError, Global};
 use std::rt::Files;
 use std::{fs, io};
-use tests_cases::text_of;
+use tests_cases::{edits, text_of};
 use text_values::{put_bytes, put_decimal};
 
 fn put_stamp(answer: &mut Vec<u8>, stamp: u64) -> Result<(), AllocError> {
@@ -159,7 +158,8 @@ impl Stamped {
         let verb = words.next().unwrap_or("");
         let name = words.next().unwrap_or("");
         let item = words.next().unwrap_or("").parse::<u64>().unwrap_or(0);
-        let edit = edits::named(alloc, verb, name, item, text_of(alloc, written)?)?;
+        let text = text_of(alloc, written)?;
+        let edit = edits::named(alloc, verb, name.as_bytes(), item, text)?;
         match self.edit(alloc, answer, &edit, first.parse::<u64>().unwrap_or(0)) {
             Ok(()) => Ok(()),
             Err(fault) => put_result(answer, Err(fault)),

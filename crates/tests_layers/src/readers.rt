@@ -14,8 +14,8 @@ use std::{fs, io};
 use tests_cases::text_of;
 use text_values::{put_bytes, put_decimal};
 
-/// Appends a refusal: the letter and the number of its rule, and its offset.
-fn put_refusal(
+/// Appends a refusal of a text: the letter and the number of its rule, and its offset.
+pub fn put_refusal(
     answer: &mut Vec<u8>,
     letter: &[u8],
     number: u8,

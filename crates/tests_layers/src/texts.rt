@@ -3,14 +3,13 @@
 //! edit is to make.
 
 pub mod answers;
-pub mod edits;
 
 use crate::print_answer;
 use bench_texts::{Edit, EditFault, Texts};
 use std::alloc::{AllocError, Global};
 use std::rt::Files;
 use std::{fs, io};
-use tests_cases::text_of;
+use tests_cases::{edits, text_of};
 
 // Makes an edit, or answers why it is refused.
 fn make_edit(alloc: Global, texts: &mut Texts, edit: &Edit, spent: bool) -> Result<(), EditFault> {
@@ -58,11 +57,11 @@ fn answer_line(
         "tests" => put_tests(alloc, texts, name.parse::<u64>().unwrap_or(0)),
         "models" => put_models(alloc, texts, name.parse::<u64>().unwrap_or(0), &text),
         "spent" => {
-            let edit = edits::named(alloc, "test", name, number, text)?;
+            let edit = edits::named(alloc, "test", name.as_bytes(), number, text)?;
             make_edit(alloc, texts, &edit, true)
         }
         _ => {
-            let edit = edits::named(alloc, verb, name, number, text)?;
+            let edit = edits::named(alloc, verb, name.as_bytes(), number, text)?;
             make_edit(alloc, texts, &edit, false)
         }
     };

@@ -1,5 +1,5 @@
 //! Which values a location may hold, as far as the text of a program tells.
-ghost use Rattle.std.specs.Prelude.{◌≡◌, IfOk, Some, false, slice_get};
+ghost use Rattle.std.specs.Prelude.{◌≡◌, ◌↔◌, IfOk, IsTrue, Some, false, slice_get};
 ghost use Rattle.thread_runs.specs.Held as held;
 ghost use Rattle.thread_runs.specs.Machine as machine;
 ghost use Rattle.thread_runs.specs.AllRuns as all;
@@ -25,6 +25,21 @@ pub fn is_same(value: Value, other: Value) -> bool
         (Value::NoValue, Value::NoValue) => true,
         _ => false,
     }
+}
+
+/// Whether both lists hold the same values.
+pub fn are_same_values(first: &[Value], second: &[Value]) -> bool
+    ensures { IsTrue result ↔ (first.now ≡ second.now) }
+{
+    if first.len() != second.len() {
+        return false;
+    }
+    for index in 0..first.len() {
+        if !is_same(first[index], second[index]) {
+            return false;
+        }
+    }
+    true
 }
 
 /// Whether the line may write the value into the register.

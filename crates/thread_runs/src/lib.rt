@@ -16,7 +16,7 @@ mod walk;
 
 pub use enumerate::{run_count, runs_of, served_runs_of};
 pub use free::{MANY, MAX_VALUES, add_stored, free_count};
-pub use held::{held_values, is_same, thread_lines};
+pub use held::{are_same_values, held_values, is_same, thread_lines};
 pub use instruction::{Event, Instruction, Line, Program, RunStep};
 pub use run::{Domain, Run};
 pub use state::{State, cancels, is_load};

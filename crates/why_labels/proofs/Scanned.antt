@@ -8,7 +8,8 @@ use Rattle.binding_graph.specs.declared.resolved.Step.{Step}
 use Rattle.binding_graph.specs.declared.resolved.Step.TheVariants as steps
 use Rattle.binding_graph.specs.Trees.{SetTree, SetName, AllEvents, NoEvent, BlendSets, ComplementSet, RelTree, RelName, NoPair, BlendRelations, Compose, Multiply, IdentityOn, Close, ComplementRelation, set_code, rel_code}
 use Rattle.why_labels.specs.Operands.{union_names, IsUnionOf}
-use Rattle.why_labels.specs.Scanning.{without_next, next_twice, next_inside, source_where, is_operand, open_from, names_from}
+use Rattle.why_witness.specs.Pending.{without_next, next_twice, next_inside}
+use Rattle.why_labels.specs.Scanning.{source_where, is_operand, open_from, names_from}
 use Rattle.std.specs.List.{cons_option}
 
 set_open : (s : SetTree) (rest : List Step) → open_from (set_code s rest) ≡ open_from rest

@@ -6,20 +6,9 @@ use Rattle.binding_graph.specs.declared.resolved.Blend.TheVariants as blends
 use Rattle.binding_graph.specs.declared.resolved.Source.{Source}
 use Rattle.binding_graph.specs.declared.resolved.Step.{Step}
 use Rattle.binding_graph.specs.declared.resolved.Step.TheVariants as steps
+use Rattle.why_witness.specs.Pending.{without_next, next_twice, next_inside}
 
 -- of the relations that are still to come, the next first, whether each is an operand of the union
-abbrev pub without_next : List Bool → List Bool
-without_next [] = []
-without_next (b ∷ bs) = bs
-
-abbrev pub next_twice : List Bool → List Bool
-next_twice [] = []
-next_twice (b ∷ bs) = b ∷ b ∷ bs
-
-abbrev pub next_inside : List Bool → List Bool
-next_inside [] = []
-next_inside (b ∷ bs) = false ∷ bs
-
 abbrev pub open_after : Step → List Bool → List Bool
 open_after (steps.PushSet source) bs = bs
 open_after steps.PushAllEvents bs = bs

@@ -3,11 +3,12 @@
 ghost use Rattle.std.specs.Prelude.{◌≡◌, IfOk, OnOk, option_map, reverse};
 ghost use Rattle.std.specs.List.{cons_option, filter_map};
 ghost use Rattle.why_labels.specs.Operands.{AreEarlier, AreOperands, AreOperandsOf, IsUnionOf, body_in, earlier_name, is_earlier, name_of};
-ghost use Rattle.why_labels.specs.Scanning.{is_operand, name_at, next_inside, next_twice, open_after, without_next};
+ghost use Rattle.why_labels.specs.Scanning.{is_operand, name_at, open_after};
 
 use binding_graph::{Blend, Body, Code, Input, ResolvedItem, Role, Source, Step};
 use std::alloc::{AllocError, Global};
 use text_values::Predefined;
+use why_witness::pending::{close_both, close_next, drop_next, push_twice};
 
 /// A name of a model that stands for a relation.
 #[derive(Clone, Copy)]
@@ -41,39 +42,6 @@ fn name_at(step: Step, pending: &[bool]) -> Option<Source>
         }
         _ => None,
     }
-}
-
-fn push_twice(pending: &mut Vec<bool>) -> Result<(), AllocError>
-    ensures { OnOk result (reverse pending.new.items ≡ next_twice (reverse pending.old.items)) }
-{
-    if let Some(next) = pending.pop() {
-        pending.push(next)?;
-        pending.push(next)?;
-    }
-    Ok(())
-}
-
-fn close_next(pending: &mut Vec<bool>) -> Result<(), AllocError>
-    ensures { OnOk result (reverse pending.new.items ≡ next_inside (reverse pending.old.items)) }
-{
-    if let Some(_) = pending.pop() {
-        pending.push(false)?;
-    }
-    Ok(())
-}
-
-fn drop_next(pending: &mut Vec<bool>)
-    ensures { reverse pending.new.items ≡ without_next (reverse pending.old.items) }
-{
-    let _ = pending.pop();
-}
-
-fn close_both(pending: &mut Vec<bool>) -> Result<(), AllocError>
-    ensures { OnOk result (reverse pending.new.items
-        ≡ next_twice (next_inside (reverse pending.old.items))) }
-{
-    close_next(pending)?;
-    push_twice(pending)
 }
 
 // What is still to come before a step.

@@ -6,9 +6,9 @@ ghost use Rattle.thread_runs.specs.ValueSet.{IsValueSet};
 ghost use Rattle.why_origins.specs.Origins.{AreAllRuns, AreRunsOver, IsReader, Reads};
 
 use ppc_semantics::{Domain, DomainFault, Run, Value, domain, runs};
-use run_combinations::is_same;
 use std::alloc::{AllocError, Global};
 use text_values::Test;
+use thread_runs::are_same_values;
 
 // The runs of each thread over a domain.
 fn runs_over(alloc: Global, test: &Test, domain: &Domain) -> Result<Vec<Vec<Run>>, AllocError>
@@ -34,24 +34,10 @@ pub fn all_runs(alloc: Global, test: &Test) -> Result<Vec<Vec<Run>>, AllocError>
     }
 }
 
-fn are_same(first: &[Value], second: &[Value]) -> bool
-    ensures { IsTrue result ↔ (first.now ≡ second.now) }
-{
-    if first.len() != second.len() {
-        return false;
-    }
-    for index in 0..first.len() {
-        if !is_same(first[index], second[index]) {
-            return false;
-        }
-    }
-    true
-}
-
 fn reads(run: &Run, values: &[Value]) -> bool
     ensures { IsTrue result ↔ Reads values.now run.now }
 {
-    are_same(&run.values, values)
+    are_same_values(&run.values, values)
 }
 
 /// The run whose loads read these values, if one of them does.

@@ -10,7 +10,8 @@ use Rattle.why_walks.specs.declared.factor.Factor.{Factor}
 use Rattle.why_walks.specs.declared.factor.Repeats.{Repeats}
 use Rattle.why_walks.specs.declared.factor.Repeats.TheVariants as repeats
 use Rattle.why_walks.specs.Factors.{FactorSteps, factors_of, tree_part, factor_steps, AreFactors}
-use Rattle.why_walks.specs.Scanning.{without_next, next_twice, next_inside, makes_relation, with_step, with_last, pending_from, parts_from}
+use Rattle.why_witness.specs.Pending.{without_next, next_twice, next_inside}
+use Rattle.why_walks.specs.Scanning.{makes_relation, with_step, with_last, pending_from, parts_from}
 
 set_pending : (s : SetTree) (rest : List Step) → pending_from (set_code s rest) ≡ pending_from rest
 set_pending (SetName source) rest = refl

@@ -6,20 +6,9 @@ use Rattle.binding_graph.specs.declared.resolved.Step.TheVariants as steps
 use Rattle.text_values.specs.declared.model.Postfix.TheVariants as postfix
 use Rattle.why_walks.specs.declared.factor.Repeats.TheVariants as repeats
 use Rattle.why_walks.specs.Factors.{FactorSteps}
+use Rattle.why_witness.specs.Pending.{without_next, next_twice, next_inside}
 
 -- of the relations that are still to come, the next first, whether each is a factor
-abbrev pub without_next : List Bool → List Bool
-without_next [] = []
-without_next (b ∷ bs) = bs
-
-abbrev pub next_twice : List Bool → List Bool
-next_twice [] = []
-next_twice (b ∷ bs) = b ∷ b ∷ bs
-
-abbrev pub next_inside : List Bool → List Bool
-next_inside [] = []
-next_inside (b ∷ bs) = false ∷ bs
-
 abbrev pub pending_after : Step → List Bool → List Bool
 pending_after (steps.PushRelation source) bs = without_next bs
 pending_after steps.PushNoPairs bs = without_next bs

@@ -2,11 +2,12 @@
 
 ghost use Rattle.std.specs.Prelude.{◌≡◌, [], IfOk, OnOk, reverse};
 ghost use Rattle.why_walks.specs.Factors.{AreFactors, factor_steps, parts_in};
-ghost use Rattle.why_walks.specs.Scanning.{is_next_factor, last_of, makes_relation, next_inside, next_twice, parts_after, pending_after, with_last, with_step, without_next};
+ghost use Rattle.why_walks.specs.Scanning.{is_next_factor, last_of, makes_relation, parts_after, pending_after, with_last, with_step};
 
 use binding_graph::Step;
 use std::alloc::{AllocError, Global};
 use text_values::Postfix;
+use why_witness::pending::{close_both, close_next, drop_next, push_twice};
 
 /// How often a factor takes the steps of its relation.
 #[derive(Clone, Copy, Debug, PartialEq, Eq)]
@@ -38,39 +39,6 @@ fn is_next_factor(pending: &[bool]) -> bool
         Some(next) => *next,
         None => false,
     }
-}
-
-fn drop_next(pending: &mut Vec<bool>)
-    ensures { reverse pending.new.items ≡ without_next (reverse pending.old.items) }
-{
-    let _ = pending.pop();
-}
-
-fn push_twice(pending: &mut Vec<bool>) -> Result<(), AllocError>
-    ensures { OnOk result (reverse pending.new.items ≡ next_twice (reverse pending.old.items)) }
-{
-    if let Some(next) = pending.pop() {
-        pending.push(next)?;
-        pending.push(next)?;
-    }
-    Ok(())
-}
-
-fn close_next(pending: &mut Vec<bool>) -> Result<(), AllocError>
-    ensures { OnOk result (reverse pending.new.items ≡ next_inside (reverse pending.old.items)) }
-{
-    if let Some(_) = pending.pop() {
-        pending.push(false)?;
-    }
-    Ok(())
-}
-
-fn close_both(pending: &mut Vec<bool>) -> Result<(), AllocError>
-    ensures { OnOk result (reverse pending.new.items
-        ≡ next_twice (next_inside (reverse pending.old.items))) }
-{
-    close_next(pending)?;
-    push_twice(pending)
 }
 
 // What is still to come before a step.

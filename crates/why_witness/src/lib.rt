@@ -5,6 +5,7 @@
 
 pub mod laws;
 mod pair;
+pub mod pending;
 mod value;
 mod witness;
 

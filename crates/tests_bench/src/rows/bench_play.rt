@@ -1,6 +1,5 @@
 //! What is answered to a line that is asked of a bench.
 
-use crate::edits;
 use crate::numbered::{NumberedBench, Offered};
 use crate::rows::question::{Question, edit_of, events_of, question_of};
 use crate::rows::replies::{
@@ -16,7 +15,7 @@ use memo_core::keys::Node;
 use outcome_texts::{Shown as Cell, counts_text};
 use std::alloc::{AllocError, Global};
 use std::sync::Wait;
-use tests_cases::text_of;
+use tests_cases::{edits, text_of};
 use text_values::{put_bytes, put_decimal};
 use value_store::StoreFault;
 use verdict::{Outcome, OutcomeResult};

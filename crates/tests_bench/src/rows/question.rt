@@ -1,10 +1,9 @@
 //! Questions, as lines write them.
 
-use crate::edits;
 use bench_texts::Edit;
 use cells::events::Event;
 use std::alloc::{AllocError, Global};
-use tests_cases::text_of;
+use tests_cases::{edits, text_of};
 
 /// A question: its words, and the text behind them. In front of it may stand a viewer's number and
 /// a colon. The answer to a quiet one is not told.

@@ -1,9 +1,9 @@
 //! Numbers and edits that are drawn from a seed.
 
-use crate::edits;
 use crate::walk::mirror::Mirror;
 use bench_texts::Edit;
 use std::alloc::{AllocError, Global};
+use tests_cases::edits;
 
 /// The state of a linear congruential generator, with the constants of Knuth's MMIX.
 #[derive(Clone, Copy)]

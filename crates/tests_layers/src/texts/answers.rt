@@ -1,24 +1,11 @@
 //! What is answered to an edit or a question.
 
+use crate::readers::put_refusal;
 use bench_texts::{EditFault, NamedModel, Reading, Texts};
 use cat_syntax::{CatFault, print_item};
 use litmus_ppc::{LitmusFault, print_test};
 use std::alloc::{AllocError, Global};
 use text_values::{put_bytes, put_decimal};
-
-// Appends a refusal of a text: the letter and the number of its rule, and its offset.
-fn put_refusal(
-    answer: &mut Vec<u8>,
-    letter: &[u8],
-    number: u8,
-    offset: usize,
-) -> Result<(), AllocError> {
-    put_bytes(answer, b"refused ")?;
-    put_bytes(answer, letter)?;
-    put_decimal(answer, u64::from(number))?;
-    put_bytes(answer, b" ")?;
-    put_decimal(answer, offset as u64)
-}
 
 fn put_fault(answer: &mut Vec<u8>, fault: EditFault) -> Result<(), AllocError> {
     if let Some(number) = fault.number() {

@@ -33,25 +33,25 @@ returns-in_err-read-clause-written g c =
     (texts_of c.commands.session.texts) c.commands.is_refused c.in_err-read.field-0.0
     (λ e. c.in_err-read.ensures.fault (cc)) c.commands.invariant.under_way)
 
-pub returns-in_err-read-clause-read : goal.returns-in_err-read-clause-read
-returns-in_err-read-clause-read g c = λ e.
-    let p = err_from_is_err_and c.from_residual.result c.from_residual.ensures.1 in
-    read_refused (turns_of c.commands.script) _ _ _ (g.S.ByteSource.remaining c.args.source.now)
-    (g.S.ByteSource.remaining c.commands.source) c.commands.invariant.paid
-    c.commands.invariant.reads (c.in_err-read.ensures.read (cc (p.1, p.2)))
+pub returns-in_err-read-clause-reads : goal.returns-in_err-read-clause-reads
+returns-in_err-read-clause-reads g c = (
+  λ e.
+      let p = err_from_is_err_and c.from_residual.result c.from_residual.ensures.1 in
+      read_refused (turns_of c.commands.script) _ _ _ (g.S.ByteSource.remaining c.args.source.now)
+      (g.S.ByteSource.remaining c.commands.source) c.commands.invariant.paid
+      c.commands.invariant.reads (c.in_err-read.ensures.read (cc (p.1, p.2))),
+  λ ne.
+      let p = err_from_is_err_and c.from_residual.result c.from_residual.ensures.1 in
+      c.in_err-read.ensures.same (λ e. ne (cc (p.1, p.2))) ∙ c.commands.invariant.reads,
+)
 
-pub returns-in_err-read-clause-no_read : goal.returns-in_err-read-clause-no_read
-returns-in_err-read-clause-no_read g c = λ ne.
-    let p = err_from_is_err_and c.from_residual.result c.from_residual.ensures.1 in
-    c.in_err-read.ensures.same (λ e. ne (cc (p.1, p.2))) ∙ c.commands.invariant.reads
-
-pub returns-in_err-read-clause-write : goal.returns-in_err-read-clause-write
-returns-in_err-read-clause-write g c = λ e.
-    let p = err_from_is_err_and c.from_residual.result c.from_residual.ensures.1 in
-    absurd (c.in_err-read.ensures.fault (cc (p.1, p.2)))
-
-pub returns-in_err-read-clause-no_write : goal.returns-in_err-read-clause-no_write
-returns-in_err-read-clause-no_write g c = λ ne. c.commands.invariant.writes
+pub returns-in_err-read-clause-writes : goal.returns-in_err-read-clause-writes
+returns-in_err-read-clause-writes g c = (
+  λ e.
+      let p = err_from_is_err_and c.from_residual.result c.from_residual.ensures.1 in
+      absurd (c.in_err-read.ensures.fault (cc (p.1, p.2))),
+  λ ne. c.commands.invariant.writes,
+)
 
 pub returns-in-None-clause-written : goal.returns-in-None-clause-written
 returns-in-None-clause-written g c =
@@ -62,18 +62,17 @@ returns-in-None-clause-written g c =
     (texts_of c.commands.session.texts) c.commands.is_refused c.commands.invariant.under_way
     (subst (λ (o : Option Command). IsNextCommand now next o) c.in-None.is c.in_ok-read.ensures.next)
 
-pub returns-in-None-clause-read : goal.returns-in-None-clause-read
-returns-in-None-clause-read g c = λ e. let z : ⊥ = cc in absurd z
+pub returns-in-None-clause-reads : goal.returns-in-None-clause-reads
+returns-in-None-clause-reads g c = (
+  λ e. let z : ⊥ = cc in absurd z,
+  λ ne. c.in_ok-read.ensures.same (λ e. cc) ∙ c.commands.invariant.reads,
+)
 
-pub returns-in-None-clause-no_read : goal.returns-in-None-clause-no_read
-returns-in-None-clause-no_read g c =
-    λ ne. c.in_ok-read.ensures.same (λ e. cc) ∙ c.commands.invariant.reads
-
-pub returns-in-None-clause-write : goal.returns-in-None-clause-write
-returns-in-None-clause-write g c = λ e. let z : ⊥ = cc in absurd z
-
-pub returns-in-None-clause-no_write : goal.returns-in-None-clause-no_write
-returns-in-None-clause-no_write g c = λ ne. c.commands.invariant.writes
+pub returns-in-None-clause-writes : goal.returns-in-None-clause-writes
+returns-in-None-clause-writes g c = (
+  λ e. let z : ⊥ = cc in absurd z,
+  λ ne. c.commands.invariant.writes,
+)
 
 pub write_reply-requires : goal.write_reply-requires
 write_reply-requires g c = search rules
@@ -92,25 +91,24 @@ returns-in_err-answer-in-Some-clause-written g c =
     (subst (λ (o : Option Command). IsNextCommand now next o) c.in-Some.is c.in_ok-read.ensures.next)
     c.in_err-answer-in-Some.ensures.stopped)
 
-pub returns-in_err-answer-in-Some-clause-read : goal.returns-in_err-answer-in-Some-clause-read
-returns-in_err-answer-in-Some-clause-read g c = λ e.
-    let p = err_from_is_err_and c.from_residual-in_err-answer-in-Some.result c.from_residual-in_err-answer-in-Some.ensures.1 in
-    absurd (c.in_err-answer-in-Some.ensures.fault (cc (p.1, p.2)))
+pub returns-in_err-answer-in-Some-clause-reads : goal.returns-in_err-answer-in-Some-clause-reads
+returns-in_err-answer-in-Some-clause-reads g c = (
+  λ e.
+      let p = err_from_is_err_and c.from_residual-in_err-answer-in-Some.result c.from_residual-in_err-answer-in-Some.ensures.1 in
+      absurd (c.in_err-answer-in-Some.ensures.fault (cc (p.1, p.2))),
+  λ ne. c.in_ok-read.ensures.same (λ e. cc) ∙ c.commands.invariant.reads,
+)
 
-pub returns-in_err-answer-in-Some-clause-no_read : goal.returns-in_err-answer-in-Some-clause-no_read
-returns-in_err-answer-in-Some-clause-no_read g c =
-    λ ne. c.in_ok-read.ensures.same (λ e. cc) ∙ c.commands.invariant.reads
-
-pub returns-in_err-answer-in-Some-clause-write : goal.returns-in_err-answer-in-Some-clause-write
-returns-in_err-answer-in-Some-clause-write g c = λ e.
-    let p = err_from_is_err_and c.from_residual-in_err-answer-in-Some.result c.from_residual-in_err-answer-in-Some.ensures.1 in
-    c.in_err-answer-in-Some.ensures.failed (cc (p.1, p.2))
-    ∙ ap (λ (n : ℕ). n + 1) c.commands.invariant.writes
-
-pub returns-in_err-answer-in-Some-clause-no_write : goal.returns-in_err-answer-in-Some-clause-no_write
-returns-in_err-answer-in-Some-clause-no_write g c = λ ne.
-    let p = err_from_is_err_and c.from_residual-in_err-answer-in-Some.result c.from_residual-in_err-answer-in-Some.ensures.1 in
-    c.in_err-answer-in-Some.ensures.same (λ e. ne (cc (p.1, p.2))) ∙ c.commands.invariant.writes
+pub returns-in_err-answer-in-Some-clause-writes : goal.returns-in_err-answer-in-Some-clause-writes
+returns-in_err-answer-in-Some-clause-writes g c = (
+  λ e.
+      let p = err_from_is_err_and c.from_residual-in_err-answer-in-Some.result c.from_residual-in_err-answer-in-Some.ensures.1 in
+      c.in_err-answer-in-Some.ensures.calls.0 (cc (p.1, p.2))
+      ∙ ap (λ (n : ℕ). n + 1) c.commands.invariant.writes,
+  λ ne.
+      let p = err_from_is_err_and c.from_residual-in_err-answer-in-Some.result c.from_residual-in_err-answer-in-Some.ensures.1 in
+      c.in_err-answer-in-Some.ensures.calls.1 (λ e. ne (cc (p.1, p.2))) ∙ c.commands.invariant.writes,
+)
 
 pub commands-smaller : goal.commands-smaller
 commands-smaller g c =
@@ -141,5 +139,5 @@ commands-preserved g c =
           c.in_ok-read.ensures.paid;
       ready = c.in_ok-answer-in-Some.ensures.ready;
       reads = c.in_ok-read.ensures.same (λ e. cc) ∙ c.commands.invariant.reads;
-      writes = c.in_ok-answer-in-Some.ensures.same (λ e. cc) ∙ c.commands.invariant.writes;
+      writes = c.in_ok-answer-in-Some.ensures.calls.1 (λ e. cc) ∙ c.commands.invariant.writes;
     }

@@ -1,6 +1,6 @@
 use Rattle.std.proofs.Common.{arith, rules, tests}
 use Rattle.std.proofs.lemmas.List.{same_lists}
-use Rattle.why_origins.proofs.runs.are_same.Goals as goal
+use Rattle.thread_runs.proofs.held.are_same_values.Goals as goal
 
 pub returns : goal.returns
 returns c = (

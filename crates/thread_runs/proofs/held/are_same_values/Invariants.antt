@@ -1,6 +1,6 @@
 use Rattle.std.proofs.Common.{ℕ, ◌≡◌, ◌<◌, get_or}
 use Rattle.thread_runs.specs.declared.value.Value.{Value}
-use Rattle.candidates.proofs.same.are_same_values.Given as goal
+use Rattle.thread_runs.proofs.held.are_same_values.Given as goal
 
 abbrev pub invariant-loop-index : goal.invariant-loop-index
 invariant-loop-index l =
