@@ -1,7 +1,7 @@
 //! Tests and models as texts of a desk: their edits and outcomes are operations on boards.
 
 ghost use Rattle.std.specs.Prelude.{◌<◌, length, IfSome, IfNone, IsTrue};
-ghost use Rattle.bench_instance.specs.Cells.{HasCell, IsIndexOf, IsNamedAt, HasNoNames, IsRowRange};
+ghost use Rattle.bench_instance.specs.Cells.{HasCell, IsCellIndexOf, IsNamedAt, HasNoNames, IsRowRange};
 
 use crate::copies::copied;
 use crate::stamped_texts::{PreparedEdit, StampedTexts};
@@ -48,7 +48,7 @@ impl Operations for StampedTexts {
 // The indexes of the test and of the model of the cell that the desk counts so.
 fn cell_index(board: &Board, index: usize) -> CellIndex
     requires { 0 < length board.now.columns }
-    ensures { IsIndexOf board.now index result }
+    ensures { IsCellIndexOf board.now index result }
 {
     let models = board.model_count();
     CellIndex {
@@ -99,7 +99,7 @@ impl BoardTexts for StampedTexts {
     ghost use Rattle.std.proofs.Common.{refl};
     ghost use Rattle.board.specs.Legal.{last_number};
     ghost use Rattle.board.specs.Histories.{IsEditAfter, IsSettle};
-    ghost use Rattle.bench_instance.specs.Texts.{AreAfter, Announced, IsWantOfMemory, Settles};
+    ghost use Rattle.bench_instance.specs.Texts.{AreAfter, IsAnnounced, IsWantOfMemory, SettlesCell};
     ghost use Rattle.bench_instance.specs.Lemmas.Laws.{same_after, edits_follow, edits_after, edits_named, edits_numbered};
     ghost use Rattle.bench_instance.specs.Lemmas.Laws.{settles_follow, settles_named, settles_after, settles_numbered, settles_show};
     ghost use Rattle.bench_instance.specs.Lemmas.Laws.{cells_are_known};
@@ -108,13 +108,13 @@ impl BoardTexts for StampedTexts {
 
     ghost last_number = { last_number };
 
-    ghost announces = { Announced };
+    ghost announces = { IsAnnounced };
 
     ghost is_edit = { IsEditAfter };
 
     ghost is_settle = { IsSettle };
 
-    ghost settles = { Settles };
+    ghost settles = { SettlesCell };
 
     ghost is_want_of_memory = { IsWantOfMemory };
 

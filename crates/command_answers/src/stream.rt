@@ -1,8 +1,8 @@
 //! A model and a test from a source, and what is said of them to a sink.
 
-ghost use Rattle.std.specs.Prelude.{◌≡◌, ◌≢◌, ◌+◌, ◌-◌, ◌<◌, ◌^◌, true, Err, IfOk, IfSome, OnOk, take};
+ghost use Rattle.std.specs.Prelude.{◌≡◌, ◌≢◌, ◌-◌, ◌<◌, ◌^◌, true, Err, IfOk, IfSome, OnOk, take};
 ghost use Rattle.std.specs.Io.KnownBytes.{IsAtEnd};
-ghost use Rattle.command_answers.specs.Answer.{IsEvalAnswer, IsReadFault, IsSaidOf, IsEvalWritten, IsStreamed};
+ghost use Rattle.command_answers.specs.Answer.{AreReadsCounted, AreWritesCounted, IsEvalAnswer, IsSaidOf, IsEvalWritten, IsStreamed};
 ghost use Rattle.command_answers.specs.Made.{IsAnswerWritten, IsAnswerMade};
 ghost use Rattle.command_answers.specs.Pictures.{IsPictureAnswer, IsPictureWritten};
 ghost use Rattle.command_answers.specs.Whys.{IsWhyAnswer, IsWhyWritten};
@@ -69,10 +69,7 @@ fn write_made<W: ByteSink>(
     requires { W.failed_calls sink.old < 2 ^ 64 - 1 }
     ensures written { IsAnswerWritten (IsAnswerMade made) (W.contents sink.old)
         (W.contents sink.new) result }
-    ensures failed { result ≡ Err SessionFault.Write
-        → W.failed_calls sink.new ≡ W.failed_calls sink.old + 1 }
-    ensures same { result ≢ Err SessionFault.Write
-        → W.failed_calls sink.new ≡ W.failed_calls sink.old }
+    ensures calls { AreWritesCounted (W.failed_calls sink.old) (W.failed_calls sink.new) result }
     ensures fault { result ≢ Err SessionFault.Read }
 {
     let answer = match made {
@@ -105,10 +102,7 @@ pub fn write_answer<W: ByteSink>(
     ensures written { IsEvalWritten model.now test.now (W.contents sink.old) (W.contents sink.new)
         result }
     // `Write` comes after one failed call, and all else after none.
-    ensures failed { result ≡ Err SessionFault.Write
-        → W.failed_calls sink.new ≡ W.failed_calls sink.old + 1 }
-    ensures same { result ≢ Err SessionFault.Write
-        → W.failed_calls sink.new ≡ W.failed_calls sink.old }
+    ensures calls { AreWritesCounted (W.failed_calls sink.old) (W.failed_calls sink.new) result }
     // Nothing is read.
     ensures fault { result ≢ Err SessionFault.Read }
 {
@@ -135,10 +129,7 @@ pub fn write_why<W: ByteSink>(
     ensures written { IsWhyWritten asked model.now test.now (W.contents sink.old)
         (W.contents sink.new) result }
     // `Write` comes after one failed call, and all else after none.
-    ensures failed { result ≡ Err SessionFault.Write
-        → W.failed_calls sink.new ≡ W.failed_calls sink.old + 1 }
-    ensures same { result ≢ Err SessionFault.Write
-        → W.failed_calls sink.new ≡ W.failed_calls sink.old }
+    ensures calls { AreWritesCounted (W.failed_calls sink.old) (W.failed_calls sink.new) result }
     // Nothing is read.
     ensures fault { result ≢ Err SessionFault.Read }
 {
@@ -173,10 +164,7 @@ pub fn write_drawings<W: ByteSink>(
     ensures written { IsPictureWritten drawn most model.now test.now (W.contents sink.old)
         (W.contents sink.new) result }
     // `Write` comes after one failed call, and all else after none.
-    ensures failed { result ≡ Err SessionFault.Write
-        → W.failed_calls sink.new ≡ W.failed_calls sink.old + 1 }
-    ensures same { result ≢ Err SessionFault.Write
-        → W.failed_calls sink.new ≡ W.failed_calls sink.old }
+    ensures calls { AreWritesCounted (W.failed_calls sink.old) (W.failed_calls sink.new) result }
     // Nothing is read.
     ensures fault { result ≢ Err SessionFault.Read }
 {
@@ -198,11 +186,8 @@ fn read_first<S: ByteSource>(
     ensures bytes { IfOk result (λ v.
         IfSome (S.remaining source.old) (λ all. v.items ≡ take most all)) }
     ensures end { OnOk result (IsAtEnd (S.remaining source.new)) }
-    ensures failed { result ≡ Err SessionFault.Read
-        → IsReadFault (S.failed_calls source.old) (S.failed_calls source.new)
-        (S.remaining source.old) }
-    ensures same { result ≢ Err SessionFault.Read
-        → S.failed_calls source.new ≡ S.failed_calls source.old }
+    ensures calls { AreReadsCounted (S.failed_calls source.old) (S.failed_calls source.new)
+        (S.remaining source.old) result }
     ensures fault { result ≢ Err SessionFault.Write }
     ensures own { result ≢ Err SessionFault.Shared }
 {
@@ -223,11 +208,8 @@ pub fn read_text<S: ByteSource>(alloc: Global, source: &mut S) -> Result<Vec<u8>
         IfSome (S.remaining source.old) (λ all. v.items ≡ take 65537 all)) }
     ensures end { OnOk result (IsAtEnd (S.remaining source.new)) }
     // `Read` comes after one failed call or at the bound, and all else after none.
-    ensures failed { result ≡ Err SessionFault.Read
-        → IsReadFault (S.failed_calls source.old) (S.failed_calls source.new)
-        (S.remaining source.old) }
-    ensures same { result ≢ Err SessionFault.Read
-        → S.failed_calls source.new ≡ S.failed_calls source.old }
+    ensures calls { AreReadsCounted (S.failed_calls source.old) (S.failed_calls source.new)
+        (S.remaining source.old) result }
     // Nothing is written, and there is no desk.
     ensures fault { result ≢ Err SessionFault.Write }
     ensures own { result ≢ Err SessionFault.Shared }
@@ -267,15 +249,9 @@ pub fn eval_stream<R: AllocGlobal, S: ByteSource, W: ByteSink, L: AnswerListener
     ensures write_end { result ≡ Err SessionFault.Write → IsAtEnd (S.remaining source.new) }
     // `Read` comes after one failed read or at the bound, `Write` after one failed write, and all
     // else after none.
-    ensures read { result ≡ Err SessionFault.Read
-        → IsReadFault (S.failed_calls source.old) (S.failed_calls source.new)
-        (S.remaining source.old) }
-    ensures no_read { result ≢ Err SessionFault.Read
-        → S.failed_calls source.new ≡ S.failed_calls source.old }
-    ensures write { result ≡ Err SessionFault.Write
-        → W.failed_calls sink.new ≡ W.failed_calls sink.old + 1 }
-    ensures no_write { result ≢ Err SessionFault.Write
-        → W.failed_calls sink.new ≡ W.failed_calls sink.old }
+    ensures reads { AreReadsCounted (S.failed_calls source.old) (S.failed_calls source.new)
+        (S.remaining source.old) result }
+    ensures writes { AreWritesCounted (W.failed_calls sink.old) (W.failed_calls sink.new) result }
 {
     let bytes = match read_first(rt.alloc(), source, MOST_OF_INPUT) {
         Ok(bytes) => bytes,
