@@ -1,8 +1,7 @@
 //! A bench with the jobs that were claimed of it.
 
-use crate::jobs::{Stage, made};
+use crate::jobs::{Stage, keep_claimed, made};
 use crate::numbered::{NumberedBench, Offered};
-use crate::played::PlayedJob;
 use bench_instance::StampedTexts;
 use bench_texts::{Edit, EditFault};
 use cells::bench::Bench;
@@ -56,15 +55,8 @@ where
     }
 
     fn claim(&mut self, alloc: Global) -> Result<Result<Option<u64>, ClaimFault>, AllocError> {
-        match self.bench.claim(alloc) {
-            Ok(Some(job)) => {
-                let claim = job.claim_number();
-                self.jobs.push(Stage::Waiting(job))?;
-                Ok(Ok(Some(claim)))
-            }
-            Ok(None) => Ok(Ok(None)),
-            Err(fault) => Ok(Err(fault)),
-        }
+        let claimed = self.bench.claim(alloc);
+        keep_claimed(&mut self.jobs, claimed)
     }
 
     fn offer<W: Wait>(

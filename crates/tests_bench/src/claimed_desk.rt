@@ -1,7 +1,7 @@
 //! A desk with the viewers and the jobs that were taken of it.
 
-use crate::jobs::{Stage, made};
-use crate::played::{Call, Looker, PlayedDesk, PlayedJob, Refusal};
+use crate::jobs::{Stage, keep_claimed, made};
+use crate::played::{Call, Looker, PlayedDesk, Refusal};
 use crate::threads;
 use bench_texts::Edit;
 use bench_workers::Tally;
@@ -130,15 +130,8 @@ impl<'a, D: PlayedDesk> ClaimedDesk<'a, D> {
     /// keep it.
     pub fn claim<W: Wait>(&mut self, rt: &W) -> Result<Result<Option<u64>, Refusal>, AllocError> {
         self.jobs.reserve(1)?;
-        match self.desk.claim(rt) {
-            Ok(Some(job)) => {
-                let claim = job.claim_number();
-                self.jobs.push(Stage::Waiting(job))?;
-                Ok(Ok(Some(claim)))
-            }
-            Ok(None) => Ok(Ok(None)),
-            Err(fault) => Ok(Err(fault)),
-        }
+        let claimed = self.desk.claim(rt);
+        keep_claimed(&mut self.jobs, claimed)
     }
 
     /// Returns what the job of a claim makes, as often as it is asked to.

@@ -22,6 +22,23 @@ impl<P: PlayedJob> Stage<P> {
     }
 }
 
+/// Keeps a job that was claimed, if there was work: the number of its claim. Errors: no room to keep
+/// it.
+pub fn keep_claimed<P: PlayedJob, F: Drop>(
+    jobs: &mut Vec<Stage<P>>,
+    claimed: Result<Option<P>, F>,
+) -> Result<Result<Option<u64>, F>, AllocError> {
+    match claimed {
+        Ok(Some(job)) => {
+            let claim = job.claim_number();
+            jobs.push(Stage::Waiting(job))?;
+            Ok(Ok(Some(claim)))
+        }
+        Ok(None) => Ok(Ok(None)),
+        Err(fault) => Ok(Err(fault)),
+    }
+}
+
 /// The index of the job of a claim, if it is among these.
 fn index_of<P: PlayedJob>(jobs: &[Stage<P>], claim: u64) -> Option<usize> {
     for (index, stage) in jobs.iter().enumerate() {
