@@ -1,11 +1,16 @@
 /* Loaded before the C library: refuses the allocation whose number, from 1, stands in the
    environment as REFUSE_ALLOCATION, with it the next ones where REFUSE_COUNT says how many in
-   all, and writes a byte to descriptor 9 for each. */
-#define _GNU_SOURCE
-#include <dlfcn.h>
-#include <errno.h>
-#include <stdlib.h>
-#include <unistd.h>
+   all, and writes a byte to descriptor 9 for each. It needs no header of the host. */
+typedef unsigned long size_t;
+#define NULL ((void *)0)
+#define RTLD_NEXT ((void *)-1L)
+#define ENOMEM 12
+
+void *dlsym(void *handle, const char *name);
+char *getenv(const char *name);
+long atol(const char *text);
+long write(int descriptor, const void *bytes, size_t count);
+int *__errno_location(void);
 
 static _Atomic long seen;
 static long number = -1;
@@ -27,7 +32,7 @@ static int is_refused(void) {
 
 static void *refuse(void) {
     if (write(9, "!", 1) < 0) { /* nobody listens */ }
-    errno = ENOMEM;
+    *__errno_location() = ENOMEM;
     return NULL;
 }
 

@@ -71,8 +71,8 @@ impl<K: StoreName, T: CellTexts> Job<K, T> {
 
     /// Computes what its node makes, and puts it into the store. Where memory is refused or the
     /// store is full, the job comes back as it was. It may wait while another thread grows the
-    /// store. That a value which did not change keeps its token is said of the job of `memo_engine`,
-    /// which this runs.
+    /// store. That a value which did not change keeps its token is said of the job of
+    /// `memo_engine`, which this runs.
     pub fn run<R: Wait>(self, rt: &R, alloc: Global) -> Result<Done<K, T>, (Job<K, T>, RunFault)>
         ensures same { IfOk result (λ done. task_answered done ≡ self) }
         ensures made { IfOk result (λ done.

@@ -113,7 +113,7 @@ fn check_of<'a>(
     }
 }
 
-/// The checks among the items that are no flags, in order, where `relation_columns` are the values of the
+/// The checks among the items that are no flags, in order, where `columns` are the values of the
 /// names of each item. Errors: want of memory.
 pub fn all_checks<'a>(
     alloc: Global,

@@ -68,7 +68,8 @@ impl Author {
         self.kept.note(is_well);
     }
 
-    /// Looks at the board, which has all edits that were accepted and no other. No board is a fault.
+    /// Looks at the board, which has all edits that were accepted and no other. No board is a
+    /// fault.
     fn see<D: PlayedDesk>(
         &mut self,
         alloc: Global,
