@@ -22,8 +22,8 @@ impl<P: PlayedJob> Stage<P> {
     }
 }
 
-/// Keeps a job that was claimed, if there was work: the number of its claim. Errors: no room to keep
-/// it.
+/// Keeps a job that was claimed, if there was work: the number of its claim. Errors: no room to
+/// keep it.
 pub fn keep_claimed<P: PlayedJob, F: Drop>(
     jobs: &mut Vec<Stage<P>>,
     claimed: Result<Option<P>, F>,
