@@ -58,7 +58,7 @@ rule_said letter number words = letter ∷ decimal number ++ codes " " ++ words
 
 unfoldable pub what_is_found : List ℕ → ℕ → List ℕ
 what_is_found rest offset =
-    codes ", found_text " ++ found_text rest ++ codes " at byte " ++ decimal offset ++ codes "\n"
+    codes ", found " ++ found_text rest ++ codes " at byte " ++ decimal offset ++ codes "\n"
 
 -- a path, the position, the rule with its words, what is found, and the line
 unfoldable pub fault_lines : List ℕ → List ℕ → ℕ → ℕ → List ℕ → ℕ → List ℕ
