@@ -1,0 +1,13 @@
+pub mod Agreeing
+pub mod Checks
+pub mod Communication
+pub mod Counting
+pub mod Entries
+pub mod Finals
+pub mod Meanings
+pub mod Orders
+pub mod Refusing
+pub mod Rising
+pub mod Store
+pub mod Words
+pub mod Renaming

@@ -1,0 +1,15 @@
+pub mod Sets
+pub mod Names
+pub mod Machine
+pub mod Runs
+pub mod Domain
+pub mod Dependencies
+pub mod Executions
+pub mod Predefined
+pub mod Cat
+pub mod Faults
+pub mod Refusals
+pub mod Outcome
+pub mod Evaluates
+pub mod Laws
+pub mod Examples
