@@ -119,17 +119,48 @@ function indexOf(text, line, column) {
   return before + new TextDecoder().decode(bytes).length;
 }
 
-const COMMENT = String.raw`\(\*[^]*?\*\)`;
-const MODEL_TOKENS = RegExp(`(${COMMENT}|//.*)|("[^"]*")|([A-Za-z][\\w.-]*)`, "g");
+// Where the comments of a text begin and end. Those of brackets nest, and those of lines are of models alone.
+function commentsOf(text, isModel) {
+  const starts = isModel ? /\(\*|"[^"]*"|\/\/.*/g : /\(\*|"[^"]*"/g;
+  const comments = [];
+  for (let found = starts.exec(text); found; found = starts.exec(text)) {
+    if (found[0].startsWith('"')) continue;
+    if (found[0] === "(*") starts.lastIndex = endOfComment(text, found.index);
+    comments.push({ start: found.index, end: starts.lastIndex });
+  }
+  return comments;
+}
+
+function endOfComment(text, start) {
+  const marks = /\(\*|\*\)/g;
+  marks.lastIndex = start;
+  let depth = 0;
+  for (let found = marks.exec(text); found; found = marks.exec(text)) {
+    depth += found[0] === "(*" ? 1 : -1;
+    if (depth === 0) return marks.lastIndex;
+  }
+  return text.length;
+}
+
+// The text with blanks in place of its comments.
+function withoutComments(text, comments) {
+  let said = "", end = 0;
+  for (const it of comments) {
+    said += text.slice(end, it.start) + " ".repeat(it.end - it.start);
+    end = it.end;
+  }
+  return said + text.slice(end);
+}
+
 const ITEM_WORDS = ["let", "flag", "acyclic", "irreflexive", "empty", "show", "unshow", "include"];
 
 // Where the item of this number, from 1, begins and ends in the text of a model.
 function spanOfItem(text, number) {
   const starts = [];
   let last = "";
-  for (const { 3: word, index } of text.matchAll(MODEL_TOKENS)) {
-    if (word && ITEM_WORDS.includes(word) && last !== "flag") starts.push(index);
-    if (word) last = word;
+  for (const { 1: word, index } of withoutComments(text, commentsOf(text, true)).matchAll(/"[^"]*"|([A-Za-z][\w.-]*)/g)) {
+    if (ITEM_WORDS.includes(word) && last !== "flag") starts.push(index);
+    last = word;
   }
   const start = starts[number - 1] ?? 0, end = starts[number] ?? text.length;
   return { start, end: start + text.slice(start, end).replace(/[\s~]+$/, "").length };

@@ -3,11 +3,12 @@
 
 const MODEL_WORDS = "let|rec|and|as|flag|acyclic|irreflexive|empty|show|unshow|include";
 const TEST_WORDS = "PPC|exists|forall|locations|not|P\\d|lwsync|sync|eieio|isync";
-const COLOURS = {
-  cat: RegExp(`(${COMMENT}|//.*)|("[^"]*")|(?<![\\w.-])(${MODEL_WORDS})(?![\\w.-])`, "g"),
-  litmus: RegExp(`(${COMMENT})|("[^"]*")|(?<![\\w+])(${TEST_WORDS})(?![\\w+])`, "g"),
+// Longer texts would make typing slow.
+const MOST_COLOURED = 20_000;
+const COLOURED = {
+  cat: RegExp(`"[^"]*"|(?<![\\w.-])(${MODEL_WORDS})(?![\\w.-])`, "g"),
+  litmus: RegExp(`"[^"]*"|(?<![\\w+])(${TEST_WORDS})(?![\\w+])`, "g"),
 };
-const COLOUR_NAMES = ["comment", "string", "word"];
 
 class Editor {
   // END is that of the names of its files, KEY that which leads to it; FAMILIES are the texts of the library.
@@ -86,21 +87,32 @@ class Editor {
     this.find(".edited").hidden = !this.isEdited;
     this.find(".reset").hidden = !this.isEdited;
     this.find(".about").textContent = this.inLibrary(this.name)?.said ?? "";
-    const lines = this.text.split("\n").map((_, at) => text("span", String(at + 1)));
-    this.find(".numbers").replaceChildren(...lines);
+    this.number(this.text.split("\n").length);
     this.find(".colours").replaceChildren(...this.coloured(), "\n");
     this.mark(null, "");
   }
 
+  // Numbers so many lines.
+  number(lines) {
+    const numbers = this.find(".numbers");
+    while (numbers.childElementCount > lines) numbers.lastElementChild.remove();
+    while (numbers.childElementCount < lines) numbers.append(text("span", String(numbers.childElementCount + 1)));
+  }
+
   coloured() {
-    const parts = [];
-    let end = 0;
-    for (const found of this.text.matchAll(COLOURS[this.end])) {
-      const colour = COLOUR_NAMES[[1, 2, 3].findIndex((it) => found[it] !== undefined)];
-      parts.push(this.text.slice(end, found.index), text("span", found[0], colour));
-      end = found.index + found[0].length;
+    if (this.text.length > MOST_COLOURED) return [this.text];
+    const whole = this.text, comments = commentsOf(whole, this.end === "cat");
+    const spans = comments.map((it) => ({ ...it, colour: "comment" }));
+    for (const { 0: token, 1: word, index } of withoutComments(whole, comments).matchAll(COLOURED[this.end])) {
+      spans.push({ start: index, end: index + token.length, colour: word ? "word" : "string" });
     }
-    return [...parts, this.text.slice(end)];
+    const parts = [];
+    let last = 0;
+    for (const { start, end, colour } of spans.sort((one, other) => one.start - other.start)) {
+      parts.push(whole.slice(last, start), text("span", whole.slice(start, end), colour));
+      last = end;
+    }
+    return [...parts, whole.slice(last)];
   }
 
   // Marks what a refusal blames and the lines where it stands, and says why; without one it takes the marks away.
