@@ -1,1 +1,4 @@
 pub mod Walks
+pub mod Counting
+pub mod Orders
+pub mod Places

@@ -64,14 +64,16 @@ ends_twice k (line ∷ lines) =
       ends_twice (k + 1) lines,
     )
 
+under : (n : ℕ) → n < 513 → n ≤ 512
+under n lt = omega arith
+
 lines_at_most : (p : Picture) → sizes_fit p ≡ true → length p.lines.items ≤ 512
 unfolding sizes_fit
 lines_at_most p fit =
     let all = and_parts _ _ fit in
     let texts = and_parts _ _ all.0 in
     let count = and_parts _ _ texts.0 in
-    let below : length p.lines.items < 513 = ltb-true (length p.lines.items) 513 count.1 in
-    omega arith
+    under (length p.lines.items) (ltb-true (length p.lines.items) 513 count.1)
 
 pub lines_few : (p : Picture) → sizes_fit p ≡ true → length p.lines.items < 2 ^ 60
 lines_few p fit = omega (arith, lines_at_most p fit)

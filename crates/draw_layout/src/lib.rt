@@ -6,6 +6,7 @@
 mod arrow;
 mod ends;
 mod frame;
+pub mod laws;
 mod layout;
 mod picture;
 mod ports;
