@@ -158,7 +158,8 @@ const ITEM_WORDS = ["let", "flag", "acyclic", "irreflexive", "empty", "show", "u
 function spanOfItem(text, number) {
   const starts = [];
   let last = "";
-  for (const { 1: word, index } of withoutComments(text, commentsOf(text, true)).matchAll(/"[^"]*"|([A-Za-z][\w.-]*)/g)) {
+  const said = withoutComments(text, commentsOf(text, true));
+  for (const { 1: word, index } of said.matchAll(/"[^"]*"|([A-Za-z][\w.-]*)/g)) {
     if (ITEM_WORDS.includes(word) && last !== "flag") starts.push(index);
     last = word;
   }

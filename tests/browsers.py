@@ -166,6 +166,7 @@ class Firefox(Browser):
         self.socket = socket.create_connection(("127.0.0.1", self.port()))
         self.read()
         self.call("WebDriver:NewSession", capabilities={})
+        self.call("WebDriver:SetTimeouts", script=600_000)
 
     def port(self):
         """Returns the port that the browser has chosen, as soon as it says so."""
