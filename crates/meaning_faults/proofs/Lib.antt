@@ -1,0 +1,10 @@
+pub mod Table
+pub mod Likeness
+pub mod Scopes
+pub mod Applying
+pub mod Inside
+pub mod Clashes
+pub mod Falling
+pub mod Terms
+pub mod Items
+pub mod Models
