@@ -13,7 +13,7 @@ use Rattle.draw_layout.specs.declared.ends.End.{End}
 
 -- ---- the way of a line
 
--- lines of these inks go round the right side of a column: rf, co, fr, and steps that do not go down
+-- rf, co, fr and steps that do not go down go round the right side of a column
 abbrev pub turns_right : Ink → (goes_down : Bool) → Bool
 turns_right inks.ReadsFrom down = true
 turns_right inks.Coherence down = true

@@ -46,7 +46,7 @@ longest_text p =
     fold (λ most thread. longest_in most thread.items)
     (longest_in 12 p.initial.items) p.threads.items
 
--- ---- boxes: 8 for a letter, 20 for a port; half a box has room for the name of a line straight down
+-- ---- boxes: 8 for a letter, 20 for a port; half a box holds the name of a line straight down
 
 abbrev pub box_width : (longest spine : ℕ) → List End → ℕ
 box_width longest spine ends =
