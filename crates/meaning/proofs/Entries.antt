@@ -39,7 +39,7 @@ stands n [] x (inr there) = absurd (let lt : _ = there.1 in omega arith)
 stands n (m ∷ ms) x h =
     put_if n m ms (bytes_eq n m) (is_name_before n m) refl x (stands n ms x) h
 
-abbrev names_in_order : List Name → List Name
+abbrev pub names_in_order : List Name → List Name
 names_in_order = in_order bytes_eq is_name_before
 
 in_either : (n : Name) (ns : List Name) (x : Name)
@@ -48,7 +48,7 @@ in_either : (n : Name) (ns : List Name) (x : Name)
 in_either n ns x rest (inl eq) = stands n (names_in_order ns) x (inl eq)
 in_either n ns x rest (inr there) = stands n (names_in_order ns) x (inr (rest there))
 
-in_order_too : (ns : List Name) (x : Name) → Contains ns x → Contains (names_in_order ns) x
+pub in_order_too : (ns : List Name) (x : Name) → Contains ns x → Contains (names_in_order ns) x
 in_order_too [] x h = h
 in_order_too (n ∷ ns) x h = in_either n ns x (in_order_too ns x) (head_or_tail n ns x h)
 
@@ -58,15 +58,15 @@ from_either : (n : Name) (ns : List Name) (x : Name)
 from_either n ns x rest (inl eq) = (0, omega arith, eq)
 from_either n ns x rest (inr there) = behind n ns x (rest there)
 
-in_list_too : (ns : List Name) (x : Name) → Contains (names_in_order ns) x → Contains ns x
+pub in_list_too : (ns : List Name) (x : Name) → Contains (names_in_order ns) x → Contains ns x
 in_list_too [] x h = h
 in_list_too (n ∷ ns) x h =
     from_either n ns x (in_list_too ns x) (members n (names_in_order ns) x h)
 
-abbrev IsBefore : Name → Name → Type 0
+abbrev pub IsBefore : Name → Name → Type 0
 IsBefore a b = IsTrue (is_name_before a b)
 
-pairs : (ns : List Name) → Rise ns → AllPairs IsBefore ns
+pub pairs : (ns : List Name) → Rise ns → AllPairs IsBefore ns
 pairs [] rise i j d before lt = absurd (omega arith)
 pairs (n ∷ ns) rise zero zero d before lt = absurd (omega arith)
 pairs (n ∷ ns) rise zero (suc j) d before lt =
@@ -163,7 +163,7 @@ both : (a b : Bool) → (a && b) ≡ true → (a ≡ true) × (b ≡ true)
 both true b h = (refl, h)
 both false b h = absurd (true≢false (sym h))
 
-same_is : (p q : Place) → is_same_observable p q ≡ true → p ≡ q
+pub same_is : (p q : Place) → is_same_observable p q ≡ true → p ≡ q
 same_is (Location a) (Location b) h = ap Location ((bytes_eq-Decides a b).0 h)
 same_is (Register t r) (Register u q) h =
     let parts : _ = both (nat_eq t u) (nat_eq r q) h in
@@ -171,7 +171,7 @@ same_is (Register t r) (Register u q) h =
 same_is (Location a) (Register u q) h = absurd (true≢false (sym h))
 same_is (Register t r) (Location b) h = absurd (true≢false (sym h))
 
-itself : (p : Place) → is_same_observable p p ≡ true
+pub itself : (p : Place) → is_same_observable p p ≡ true
 itself (Location a) = (bytes_eq-Decides a a).1 refl
 itself (Register t r) =
     ap₂ (λ a b. a && b) (eq-eqb t t refl) (eq-eqb r r refl)

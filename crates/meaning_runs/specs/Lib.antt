@@ -1,0 +1,5 @@
+pub mod Values
+pub mod Instructions
+pub mod Runs
+pub mod Domain
+pub mod Dependencies
