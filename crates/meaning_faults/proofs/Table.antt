@@ -5,43 +5,43 @@ use Rattle.text_values.specs.declared.predefined.Predefined.TheVariants as names
 use Rattle.text_values.specs.declared.predefined.TheConstants.{PREDEFINED}
 use Rattle.meaning.specs.Sets.{IsOnce}
 
--- the place of a name among all
-abbrev place : Predefined → ℕ
-place names.Loads = 0
-place names.Stores = 1
-place names.Accesses = 2
-place names.Fences = 3
-place names.InitialStores = 4
-place names.SyncFences = 5
-place names.LwsyncFences = 6
-place names.EieioFences = 7
-place names.IsyncFences = 8
-place names.Identity = 9
-place names.ProgramOrder = 10
-place names.SameLocation = 11
-place names.ProgramOrderSameLocation = 12
-place names.Internal = 13
-place names.External = 14
-place names.ReadsFrom = 15
-place names.Coherence = 16
-place names.FromReads = 17
-place names.ReadsFromExternal = 18
-place names.ReadsFromInternal = 19
-place names.CoherenceExternal = 20
-place names.CoherenceInternal = 21
-place names.FromReadsExternal = 22
-place names.FromReadsInternal = 23
-place names.Communication = 24
-place names.AddressDependency = 25
-place names.DataDependency = 26
-place names.ControlDependency = 27
-place names.ControlIsyncDependency = 28
-place names.SyncOrder = 29
-place names.LwsyncOrder = 30
-place names.EieioOrder = 31
-place names.IsyncOrder = 32
+-- the index of a name among all
+abbrev index_of : Predefined → ℕ
+index_of names.Loads = 0
+index_of names.Stores = 1
+index_of names.Accesses = 2
+index_of names.Fences = 3
+index_of names.InitialStores = 4
+index_of names.SyncFences = 5
+index_of names.LwsyncFences = 6
+index_of names.EieioFences = 7
+index_of names.IsyncFences = 8
+index_of names.Identity = 9
+index_of names.ProgramOrder = 10
+index_of names.SameLocation = 11
+index_of names.ProgramOrderSameLocation = 12
+index_of names.Internal = 13
+index_of names.External = 14
+index_of names.ReadsFrom = 15
+index_of names.Coherence = 16
+index_of names.FromReads = 17
+index_of names.ReadsFromExternal = 18
+index_of names.ReadsFromInternal = 19
+index_of names.CoherenceExternal = 20
+index_of names.CoherenceInternal = 21
+index_of names.FromReadsExternal = 22
+index_of names.FromReadsInternal = 23
+index_of names.Communication = 24
+index_of names.AddressDependency = 25
+index_of names.DataDependency = 26
+index_of names.ControlDependency = 27
+index_of names.ControlIsyncDependency = 28
+index_of names.SyncOrder = 29
+index_of names.LwsyncOrder = 30
+index_of names.EieioOrder = 31
+index_of names.IsyncOrder = 32
 
--- each name stands at its place
+-- each name stands at its index
 pub stands : (p : Predefined) → Contains PREDEFINED p
 stands names.Loads = (0, omega arith, refl)
 stands names.Stores = (1, omega arith, refl)
@@ -77,25 +77,25 @@ stands names.LwsyncOrder = (30, omega arith, refl)
 stands names.EieioOrder = (31, omega arith, refl)
 stands names.IsyncOrder = (32, omega arith, refl)
 
--- each name of the list stands at its place, of which the first is that
-abbrev AreInPlace : ℕ → List Predefined → Type 0
-AreInPlace n [] = Unit {0}
-AreInPlace n (p ∷ ps) = (place p ≡ n) × AreInPlace (suc n) ps
+-- each name of the list stands at its index, of which the first is that
+abbrev AreNumbered : ℕ → List Predefined → Type 0
+AreNumbered n [] = Unit {0}
+AreNumbered n (p ∷ ps) = (index_of p ≡ n) × AreNumbered (suc n) ps
 
-placed : (n : ℕ) (ps : List Predefined) → AreInPlace n ps → (i : ℕ) (d : Predefined)
-    → i < length ps → place (get_or ps i d) ≡ n + i
-placed n [] h i d lt = absurd (omega (arith, lt))
-placed n (p ∷ ps) h zero d lt = let e = h.0 in omega (arith, e)
-placed n (p ∷ ps) h (suc i) d lt =
-    let e = placed (suc n) ps h.1 i d (omega (arith, lt)) in omega (arith, e)
+numbered : (n : ℕ) (ps : List Predefined) → AreNumbered n ps → (i : ℕ) (d : Predefined)
+    → i < length ps → index_of (get_or ps i d) ≡ n + i
+numbered n [] h i d lt = absurd (omega (arith, lt))
+numbered n (p ∷ ps) h zero d lt = let e = h.0 in omega (arith, e)
+numbered n (p ∷ ps) h (suc i) d lt =
+    let e = numbered (suc n) ps h.1 i d (omega (arith, lt)) in omega (arith, e)
 
-in_place : AreInPlace 0 PREDEFINED
-in_place =
+all_numbered : AreNumbered 0 PREDEFINED
+all_numbered =
     (refl, (refl, (refl, (refl, (refl, (refl, (refl, (refl, (refl, (refl, (refl, (refl, (refl, (refl, (refl, (refl, (refl, (refl, (refl, (refl, (refl, (refl, (refl, (refl, (refl, (refl, (refl, (refl, (refl, (refl, (refl, (refl, (refl, tt)))))))))))))))))))))))))))))))))
 
 pub stand_once : IsOnce PREDEFINED
 stand_once i j d before lt e =
-    let here = placed 0 PREDEFINED in_place i d (omega (arith, before, lt)) in
-    let there = placed 0 PREDEFINED in_place j d lt in
-    let same : i ≡ j = omega (arith, here, there, ap place e) in
+    let here = numbered 0 PREDEFINED all_numbered i d (omega (arith, before, lt)) in
+    let there = numbered 0 PREDEFINED all_numbered j d lt in
+    let same : i ≡ j = omega (arith, here, there, ap index_of e) in
     omega (arith, before, same)
