@@ -90,9 +90,10 @@ pub struct BaseEnv {
 
 /// The relation of a name in the present candidate.
 fn relation(base: &Base, name: Predefined) -> Rel
-    ensures { (c : _) (sources order : _) → IsEntered base.now c → HasReadsFrom base.now c sources
-        → HasCoherence base.now c order → Gives base.now name
-        → IsRelation result base.now.count (RelationIn name base.now.count c sources order) }
+    ensures { (c : _) (reads_from coherence : _) → IsEntered base.now c
+        → HasReadsFrom base.now c reads_from → HasCoherence base.now c coherence
+        → Gives base.now name
+        → IsRelation result base.now.count (RelationIn name base.now.count c reads_from coherence) }
 {
     let mut made = Rel::empty(base.count());
     base.write_relation(name, &mut made);
@@ -107,19 +108,19 @@ fn combination(alloc: Global, execution: &Execution) -> Result<Combination, Allo
         events: Vec::from_slice(alloc, &execution.events)?,
         dependencies: execution.dependencies.copied(alloc)?,
         runs: Vec::new(alloc),
-        sources: Vec::new(alloc),
+        reads_from: Vec::new(alloc),
         orders: StoreOrders::none(alloc),
     })
 }
 
 /// All predefined names of the present candidate.
 fn env_of(base: &Base) -> BaseEnv
-    ensures { (c : _) (sources order : List ℕ) → IsEntered base.now c
-        → HasReadsFrom base.now c sources
-        → HasCoherence base.now c order
+    ensures { (c : _) (reads_from coherence : List ℕ) → IsEntered base.now c
+        → HasReadsFrom base.now c reads_from
+        → HasCoherence base.now c coherence
         → ((name : _) → IsTrue (is_set name) → Contains (set_names base.now.sets) name)
         → ((name : _) → is_set name ≡ false → Gives base.now name)
-        → IsEnvironment result base.now.count c sources order }
+        → IsEnvironment result base.now.count c reads_from coherence }
 {
     BaseEnv {
         all_set: EventSet::all(base.count()),
@@ -160,14 +161,14 @@ fn env_of(base: &Base) -> BaseEnv
 }
 
 /// All predefined names of a candidate, over its events. Errors: want of memory.
-pub fn base(alloc: Global, execution: &Execution) -> Result<Box<BaseEnv>, AllocError>
+pub fn base(alloc: Global, execution: &Execution) -> Result<BaseEnv, AllocError>
     ensures { IfOk result (λ env. (threads : _) (c : _) (t : _)
         → IsCandidateOf threads c t execution.now
-        → IsEnvironment env.value (length c.events.items) c t.0 t.1) }
+        → IsEnvironment env (length c.events.items) c t.0 t.1) }
 {
     let combination = combination(alloc, execution)?;
     let mut base = Base::new(alloc, &combination)?;
-    base.read_from(&combination, &execution.sources);
-    base.order(&combination, &execution.order);
-    Ok(Box::new(alloc, env_of(&base))?)
+    base.read_from(&combination, &execution.reads_from);
+    base.order(&combination, &execution.coherence);
+    Ok(env_of(&base))
 }

@@ -6,7 +6,7 @@ use Rattle.bit_relations.specs.Relation.{Relation, Has, IsRelation}
 use Rattle.bit_relations.specs.Pairs.{Union}
 use Rattle.run_combinations.specs.declared.combination.Event.{Event}
 use Rattle.run_combinations.specs.declared.combination.Action.{Action}
-use Rattle.run_combinations.specs.declared.combination.Action.TheVariants.{Read, Write, Fence}
+use Rattle.run_combinations.specs.declared.combination.Action.TheVariants.{Load, Store, Fence}
 use Rattle.base_names.specs.Events.{Below, IsLoad, loads_in, loads_with, ReadsFromBelow, ReadsFromAt, CoherenceFrom, CoherenceTo}
 use Rattle.base_names.proofs.Linking.{with_pairs}
 use Rattle.base_names.proofs.Linked.{at_number}
@@ -60,14 +60,14 @@ reads_more [] e = refl
 reads_more (x ∷ xs) e = rw (reads_more xs e) (both x.action e.action (loads_in xs))
   where
     both : (f g : Action) (n : ℕ) → loads_with f (loads_with g n) ≡ loads_with g (loads_with f n)
-    both (Read l v) (Read m w) n = refl
-    both (Read l v) (Write m w) n = refl
-    both (Read l v) (Fence k) n = refl
-    both (Write l v) (Read m w) n = refl
-    both (Write l v) (Write m w) n = refl
-    both (Write l v) (Fence k) n = refl
-    both (Fence k) (Read m w) n = refl
-    both (Fence k) (Write m w) n = refl
+    both (Load l v) (Load m w) n = refl
+    both (Load l v) (Store m w) n = refl
+    both (Load l v) (Fence k) n = refl
+    both (Store l v) (Load m w) n = refl
+    both (Store l v) (Store m w) n = refl
+    both (Store l v) (Fence k) n = refl
+    both (Fence k) (Load m w) n = refl
+    both (Fence k) (Store m w) n = refl
     both (Fence k) (Fence k') n = refl
 
 -- one more load, and none
@@ -83,19 +83,19 @@ no_load events i d inside none =
     ap loads_in (take_more events i d inside) ∙ reads_more (take i events) (get_or events i d)
     ∙ same (get_or events i d).action none
   where
-    same : (f : Action) → (((l : ℕ) × (v : _) × (f ≡ Read l v)) → ⊥) → {n : ℕ} → loads_with f n ≡ n
-    same (Read l v) none = absurd (none (l, v, refl))
-    same (Write l v) none = refl
+    same : (f : Action) → (((l : ℕ) × (v : _) × (f ≡ Load l v)) → ⊥) → {n : ℕ} → loads_with f n ≡ n
+    same (Load l v) none = absurd (none (l, v, refl))
+    same (Store l v) none = refl
     same (Fence k) none = refl
 
-pub reads_step : {now new : Relation} {n : ℕ} (events : List Event) (sources : List ℕ) (i next : ℕ)
+pub reads_step : {now new : Relation} {n : ℕ} (events : List Event) (reads_from : List ℕ) (i next : ℕ)
     (d : Event) → i < length events → IsLoad (get_or events i d)
-    → next ≡ loads_in (take i events) → IsRelation now n (Below n (ReadsFromBelow events sources i))
-    → IsRelation new now.count (Union (Has now) (Below now.count (ReadsFromAt sources next i)))
-    → IsRelation new n (Below n (ReadsFromBelow events sources (i + 1)))
-reads_step {n = n} events sources i next d inside read count before step =
-    grown (Below n (ReadsFromBelow events sources i)) (Below n (ReadsFromBelow events sources (i + 1)))
-    (ReadsFromAt sources next i) before step (λ a b. (
+    → next ≡ loads_in (take i events) → IsRelation now n (Below n (ReadsFromBelow events reads_from i))
+    → IsRelation new now.count (Union (Has now) (Below now.count (ReadsFromAt reads_from next i)))
+    → IsRelation new n (Below n (ReadsFromBelow events reads_from (i + 1)))
+reads_step {n = n} events reads_from i next d inside read count before step =
+    grown (Below n (ReadsFromBelow events reads_from i)) (Below n (ReadsFromBelow events reads_from (i + 1)))
+    (ReadsFromAt reads_from next i) before step (λ a b. (
       (λ h.
           let k = h.2 in
           elim (cases_eq b i) [
@@ -118,11 +118,11 @@ reads_step {n = n} events sources i next d inside read count before step =
       ]),
     ))
 
-pub reads_skip : {now : Relation} {n : ℕ} (events : List Event) (sources : List ℕ) (i : ℕ)
+pub reads_skip : {now : Relation} {n : ℕ} (events : List Event) (reads_from : List ℕ) (i : ℕ)
     (d : Event) → i < length events → (IsLoad (get_or events i d) → ⊥)
-    → IsRelation now n (Below n (ReadsFromBelow events sources i))
-    → IsRelation now n (Below n (ReadsFromBelow events sources (i + 1)))
-reads_skip events sources i d inside none before = with_pairs before (λ a b. (
+    → IsRelation now n (Below n (ReadsFromBelow events reads_from i))
+    → IsRelation now n (Below n (ReadsFromBelow events reads_from (i + 1)))
+reads_skip events reads_from i d inside none before = with_pairs before (λ a b. (
   (λ r. (r.0, r.1, (omega (arith, r.2.0), r.2.1))),
   (λ h.
       let k = h.2 in

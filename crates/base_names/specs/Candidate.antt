@@ -42,46 +42,48 @@ pub record IsEntered (known : Known) (c : Combination) : Type 0 where
 
 -- the loads read so
 abbrev pub HasReadsFrom : Known → Combination → List ℕ → Type 0
-HasReadsFrom known c sources =
-    IsRelation known.reads_from known.count (Below known.count (ReadsFromBy c.events.items sources))
+HasReadsFrom known c reads_from =
+    IsRelation known.reads_from known.count
+    (Below known.count (ReadsFromBy c.events.items reads_from))
 
 -- the stores are ordered so
 abbrev pub HasCoherence : Known → Combination → List ℕ → Type 0
-HasCoherence known c order =
-    IsRelation known.coherence known.count (Below known.count (Coherence c.events.items order))
+HasCoherence known c coherence =
+    IsRelation known.coherence known.count (Below known.count (Coherence c.events.items coherence))
 
 -- ---- the relations of one candidate, in which the loads read and the stores are ordered so
 
 abbrev pub ReadsFromIn : Combination → ℕ → List ℕ → ℕ → ℕ → Type 0
-ReadsFromIn c n sources = Below n (ReadsFromBy c.events.items sources)
+ReadsFromIn c n reads_from = Below n (ReadsFromBy c.events.items reads_from)
 
 abbrev pub CoherenceIn : Combination → ℕ → List ℕ → ℕ → ℕ → Type 0
-CoherenceIn c n order = Below n (Coherence c.events.items order)
+CoherenceIn c n coherence = Below n (Coherence c.events.items coherence)
 
 -- a load is before the stores that come after the one that it reads
 abbrev pub FromReadsIn : Combination → ℕ → List ℕ → List ℕ → ℕ → ℕ → Type 0
-FromReadsIn c n sources order =
-    Composite (Inverse (ReadsFromIn c n sources)) (CoherenceIn c n order)
+FromReadsIn c n reads_from coherence =
+    Composite (Inverse (ReadsFromIn c n reads_from)) (CoherenceIn c n coherence)
 
 abbrev pub RelationIn : Predefined → ℕ → Combination → List ℕ → List ℕ → ℕ → ℕ → Type 0
-RelationIn names.ReadsFrom n c sources order = ReadsFromIn c n sources
-RelationIn names.Coherence n c sources order = CoherenceIn c n order
-RelationIn names.FromReads n c sources order = FromReadsIn c n sources order
-RelationIn names.ReadsFromExternal n c sources order =
-    Inter (SharedIn c n names.External) (ReadsFromIn c n sources)
-RelationIn names.ReadsFromInternal n c sources order =
-    Inter (SharedIn c n names.Internal) (ReadsFromIn c n sources)
-RelationIn names.CoherenceExternal n c sources order =
-    Inter (SharedIn c n names.External) (CoherenceIn c n order)
-RelationIn names.CoherenceInternal n c sources order =
-    Inter (SharedIn c n names.Internal) (CoherenceIn c n order)
-RelationIn names.FromReadsExternal n c sources order =
-    Inter (SharedIn c n names.External) (FromReadsIn c n sources order)
-RelationIn names.FromReadsInternal n c sources order =
-    Inter (SharedIn c n names.Internal) (FromReadsIn c n sources order)
-RelationIn names.Communication n c sources order =
-    Union (Union (ReadsFromIn c n sources) (CoherenceIn c n order)) (FromReadsIn c n sources order)
-RelationIn name n c sources order = SharedIn c n name
+RelationIn names.ReadsFrom n c reads_from coherence = ReadsFromIn c n reads_from
+RelationIn names.Coherence n c reads_from coherence = CoherenceIn c n coherence
+RelationIn names.FromReads n c reads_from coherence = FromReadsIn c n reads_from coherence
+RelationIn names.ReadsFromExternal n c reads_from coherence =
+    Inter (SharedIn c n names.External) (ReadsFromIn c n reads_from)
+RelationIn names.ReadsFromInternal n c reads_from coherence =
+    Inter (SharedIn c n names.Internal) (ReadsFromIn c n reads_from)
+RelationIn names.CoherenceExternal n c reads_from coherence =
+    Inter (SharedIn c n names.External) (CoherenceIn c n coherence)
+RelationIn names.CoherenceInternal n c reads_from coherence =
+    Inter (SharedIn c n names.Internal) (CoherenceIn c n coherence)
+RelationIn names.FromReadsExternal n c reads_from coherence =
+    Inter (SharedIn c n names.External) (FromReadsIn c n reads_from coherence)
+RelationIn names.FromReadsInternal n c reads_from coherence =
+    Inter (SharedIn c n names.Internal) (FromReadsIn c n reads_from coherence)
+RelationIn names.Communication n c reads_from coherence =
+    Union (Union (ReadsFromIn c n reads_from) (CoherenceIn c n coherence))
+    (FromReadsIn c n reads_from coherence)
+RelationIn name n c reads_from coherence = SharedIn c n name
 
 -- the relation, of those that all candidates of a combination share, that a relation is made of
 abbrev pub shared_for : Predefined → Option Predefined

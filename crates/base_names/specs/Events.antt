@@ -6,26 +6,26 @@ use Rattle.text_values.specs.declared.predefined.Predefined.{Predefined}
 use Rattle.text_values.specs.declared.predefined.Predefined.TheVariants as names
 use Rattle.run_combinations.specs.declared.combination.Event.{Event}
 use Rattle.run_combinations.specs.declared.combination.Action.{Action}
-use Rattle.run_combinations.specs.declared.combination.Action.TheVariants.{Read, Write, Fence}
+use Rattle.run_combinations.specs.declared.combination.Action.TheVariants.{Load, Store, Fence}
 
 -- the location that an access is of
 abbrev pub location_of : Action → Option ℕ
-location_of (Read l v) = Some l
-location_of (Write l v) = Some l
+location_of (Load l v) = Some l
+location_of (Store l v) = Some l
 location_of (Fence f) = None
 
 -- one more where the event is a load
 abbrev pub loads_with : Action → ℕ → ℕ
-loads_with (Read l v) n = n + 1
+loads_with (Load l v) n = n + 1
 loads_with _ n = n
 
 -- ---- one event
 
 abbrev pub IsLoad : Event → Type 0
-IsLoad e = (l : ℕ) × (v : _) × (e.action ≡ Read l v)
+IsLoad e = (l : ℕ) × (v : _) × (e.action ≡ Load l v)
 
 abbrev pub IsStore : Event → Type 0
-IsStore e = (l : ℕ) × (v : _) × (e.action ≡ Write l v)
+IsStore e = (l : ℕ) × (v : _) × (e.action ≡ Store l v)
 
 abbrev pub IsAccess : Event → Type 0
 IsAccess e = (l : ℕ) × (location_of e.action ≡ Some l)
@@ -114,12 +114,12 @@ loads_in (e ∷ es) = loads_with e.action (loads_in es)
 
 -- the load reads the store, by a list that has for each load in event order the number of its store
 abbrev pub ReadsFromBy : List Event → List ℕ → ℕ → ℕ → Type 0
-ReadsFromBy events sources a b =
-    At events IsLoad b × (slice_get sources (loads_in (take b events)) ≡ Some a)
+ReadsFromBy events reads_from a b =
+    At events IsLoad b × (slice_get reads_from (loads_in (take b events)) ≡ Some a)
 
 -- the pair of the load and the store at an index of the list
 abbrev pub ReadsFromAt : List ℕ → ℕ → ℕ → ℕ → ℕ → Type 0
-ReadsFromAt sources next load a b = (b ≡ load) × (slice_get sources next ≡ Some a)
+ReadsFromAt reads_from next load a b = (b ≡ load) × (slice_get reads_from next ≡ Some a)
 
 -- the two stores are of one location and stand in the list in this order, the first at this index
 abbrev pub CoherenceFrom : List Event → List ℕ → ℕ → ℕ → ℕ → Type 0
@@ -137,7 +137,7 @@ FenceBelow events kind from end =
 
 -- the pairs with loads below an end
 abbrev pub ReadsFromBelow : List Event → List ℕ → ℕ → ℕ → ℕ → Type 0
-ReadsFromBelow events sources end a b = (b < end) × ReadsFromBy events sources a b
+ReadsFromBelow events reads_from end a b = (b < end) × ReadsFromBy events reads_from a b
 
 -- the pairs with a first store at an index below an end of the list
 abbrev pub CoherenceTo : List Event → List ℕ → ℕ → ℕ → ℕ → Type 0

@@ -9,30 +9,30 @@ use bit_relations::Rel;
 use run_combinations::Event;
 
 /// Adds the pair of the load and the store at an index of the list of stores that are read.
-fn put_source(target: &mut Rel, sources: &[u8], next: usize, load: usize)
+fn put_source(target: &mut Rel, reads_from: &[u8], next: usize, load: usize)
     ensures { IsRelation target.new target.old.count (Union (Has target.old)
-        (Below target.old.count (ReadsFromAt sources.now next load))) }
+        (Below target.old.count (ReadsFromAt reads_from.now next load))) }
 {
     let count = target.count();
-    if next < sources.len() {
-        let store = usize::from(sources[next]);
+    if next < reads_from.len() {
+        let store = usize::from(reads_from[next]);
         if store < count && load < count {
             target.insert(store, load);
         }
     }
 }
 
-/// Makes `target` the pairs of a store and a load that reads it. `sources` has for each load in
+/// Makes `target` the pairs of a store and a load that reads it. `reads_from` has for each load in
 /// event order the number of its store.
-pub fn write_reads(target: &mut Rel, count: usize, events: &[Event], sources: &[u8])
+pub fn write_reads(target: &mut Rel, count: usize, events: &[Event], reads_from: &[u8])
     requires { count ≤ 128 }
-    ensures { IsRelation target.new count (Below count (ReadsFromBy events.now sources.now)) }
+    ensures { IsRelation target.new count (Below count (ReadsFromBy events.now reads_from.now)) }
 {
     target.clear(count);
     let mut next = 0;
     for load in 0..events.len() {
         if is_read(&events[load]) {
-            put_source(target, sources, next, load);
+            put_source(target, reads_from, next, load);
             next += 1;
         }
     }

@@ -38,8 +38,8 @@ pub fn location_of(event: &Event) -> Option<usize>
     ensures { result ≡ location_of event.now.action }
 {
     match event.action {
-        Action::Read { location, .. } => Some(location),
-        Action::Write { location, .. } => Some(location),
+        Action::Load { location, .. } => Some(location),
+        Action::Store { location, .. } => Some(location),
         Action::Fence(_) => None,
     }
 }
@@ -116,7 +116,7 @@ fn put_linked(target: &mut Rel, name: Predefined, events: &[Event])
 pub fn is_read(event: &Event) -> bool
     ensures { IsTrue result ↔ IsLoad event.now }
 {
-    matches!(event.action, Action::Read { .. })
+    matches!(event.action, Action::Load { .. })
 }
 
 /// Whether the event is a fence of this kind.

@@ -291,9 +291,9 @@ impl Base {
 
     /// Goes over to the candidates of the combination in which the loads read so: for each load
     /// in event order the number of its store.
-    pub fn read_from(&mut self, combination: &Combination, sources: &[u8])
+    pub fn read_from(&mut self, combination: &Combination, reads_from: &[u8])
         ensures known { IsConsistent self.new }
-        ensures reading { HasReadsFrom self.new combination.now sources.now }
+        ensures reading { HasReadsFrom self.new combination.now reads_from.now }
         ensures count { self.new.count ≡ self.old.count }
         ensures sets { self.new.sets ≡ self.old.sets }
         ensures shared { self.new.shared ≡ self.old.shared }
@@ -303,7 +303,7 @@ impl Base {
             &mut self.reads_from,
             self.count,
             &combination.events,
-            sources,
+            reads_from,
         );
         self.read_by.set_inverse(&self.reads_from);
         self.from_reads.set_composed(&self.read_by, &self.coherence);
@@ -422,10 +422,11 @@ impl Base {
     /// it the empty one.
     pub fn write_relation(&self, name: Predefined, target: &mut Rel)
         ensures held { IsRelation target.new self.now.count (KnownPairs self.now name) }
-        ensures meant { (c : _) → (sources order : _) → IsEntered self.now c
-            → HasReadsFrom self.now c sources → HasCoherence self.now c order → Gives self.now name
+        ensures meant { (c : _) → (reads_from coherence : _) → IsEntered self.now c
+            → HasReadsFrom self.now c reads_from → HasCoherence self.now c coherence
+            → Gives self.now name
             → IsRelation target.new self.now.count
-            (RelationIn name self.now.count c sources order) }
+            (RelationIn name self.now.count c reads_from coherence) }
     {
         self.write_named(name, self.count(), target);
     }

@@ -14,8 +14,8 @@ fn is_member(name: Predefined, event: &Event) -> bool
     ensures { IsTrue result ↔ IsIn name event.now }
 {
     match name {
-        Predefined::Loads => matches!(event.action, Action::Read { .. }),
-        Predefined::Stores => matches!(event.action, Action::Write { .. }),
+        Predefined::Loads => matches!(event.action, Action::Load { .. }),
+        Predefined::Stores => matches!(event.action, Action::Store { .. }),
         Predefined::Accesses => is_access(event),
         Predefined::Fences => matches!(event.action, Action::Fence(_)),
         Predefined::InitialStores => event.thread.is_none(),

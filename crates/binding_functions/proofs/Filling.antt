@@ -159,13 +159,13 @@ with_next ws ps i p d lt is =
     (append-nil (piece_with ws (get_or ps i d)))
     ∙ ap (λ (x : Piece). pieces_with ws (take i ps) ++ piece_with ws x) (sym is)))
 
-front_shorter : (ws : List (List Piece)) (ps : List Piece) (i : ℕ)
+prefix_shorter : (ws : List (List Piece)) (ps : List Piece) (i : ℕ)
     → length (pieces_with ws (take i ps)) ≤ length (pieces_with ws ps)
-front_shorter ws [] zero = omega arith
-front_shorter ws [] (suc i) = omega arith
-front_shorter ws (p ∷ ps) zero = omega arith
-front_shorter ws (p ∷ ps) (suc i) =
-    let h = front_shorter ws ps i in
+prefix_shorter ws [] zero = omega arith
+prefix_shorter ws [] (suc i) = omega arith
+prefix_shorter ws (p ∷ ps) zero = omega arith
+prefix_shorter ws (p ∷ ps) (suc i) =
+    let h = prefix_shorter ws ps i in
     let m = length-append (piece_with ws p) (pieces_with ws (take i ps)) in
     let n = length-append (piece_with ws p) (pieces_with ws ps) in
     omega (arith, h, m, n)
@@ -186,7 +186,7 @@ body_more old now new ws ps i p d lt is inv one =
   where
     longer : 4096 < length (piece_with ws p) → 4096 < length (pieces_with ws ps)
     longer l =
-        let f = front_shorter ws ps (i + 1) in
+        let f = prefix_shorter ws ps (i + 1) in
         let n = ap length (with_next ws ps i p d lt is) in
         let m = length-append (pieces_with ws (take i ps)) (piece_with ws p) in
         omega (arith, l, f, n, m)
@@ -206,7 +206,7 @@ body_bounded old now new ws ps i start start_is same flag inv =
         let l = ltb-true (4096 + start) (length now.pieces.items) h in
         let n = ap length (inv.fits e).1 in
         let m = length-append old.pieces.items (pieces_with ws (take i ps)) in
-        let f = front_shorter ws ps i in
+        let f = prefix_shorter ws ps i in
         omega (arith, l, n, m, f, start_is)
 
     at_flags : (a b : Bool) → now.is_oversized ≡ a

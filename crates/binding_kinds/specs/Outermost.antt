@@ -1,6 +1,7 @@
 -- The names that are seen before the first item.
-use Rattle.std.specs.Prelude.{if◌then◌else◌}
+use Rattle.std.specs.Prelude.{List, map, reverse, if◌then◌else◌}
 use Rattle.text_values.specs.declared.predefined.Predefined.{Predefined}
+use Rattle.text_values.specs.declared.predefined.TheConstants.{PREDEFINED}
 use Rattle.text_values.specs.PredefinedNames.{spelling, is_set}
 use Rattle.binding_kinds.specs.declared.kinds.Kind.{Kind}
 use Rattle.binding_kinds.specs.declared.kinds.Kind.TheVariants.{OfSet, OfRelation}
@@ -14,3 +15,7 @@ kind_of_predefined p = if is_set p then OfSet else OfRelation
 abbrev pub naming_of : Predefined → Naming
 naming_of p =
     record { name = spelling p; kind = kind_of_predefined p; binder = binders.Predefined p }
+
+-- the names that the first item of a model sees
+abbrev pub outermost_names : List Naming
+outermost_names = reverse (map naming_of PREDEFINED)

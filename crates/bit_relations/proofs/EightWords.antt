@@ -85,18 +85,18 @@ pub stored : (rows lanes : List ℕ) (at n : ℕ) → at + n ≡ 128 → 8 ≤ n
     → AreLanesStored rows at lanes (put_mid at n rows (put_chunk 0 (mid_of at n rows) lanes))
 stored rows lanes at n whole room long height = record {
   inside = λ i lt.
-      get_or-append_right (take at rows) (ys ++ post) at (at + i) 0 long_front (omega arith)
+      get_or-append_right (take at rows) (ys ++ post) at (at + i) 0 long_prefix (omega arith)
       ∙ rw (add_sub_left at i) (
       get_or-append ys post 0 i (rw long_ys (omega arith))
       ∙ ap (λ (x : ℕ). get_or ys x 0) (sym (zero-add i))
       ∙ get_or-put_chunk_at 0 mid lanes i 0 (rw long lt) (rw (long, long_mid) room));
   outside = λ a h. elim h [
-    | inl lt ↦ get_or-append (take at rows) (ys ++ post) 0 a (rw long_front lt)
+    | inl lt ↦ get_or-append (take at rows) (ys ++ post) 0 a (rw long_prefix lt)
         ∙ get_or-take at rows a 0 lt
     | inr ge ↦
-        get_or-append_right (take at rows) (ys ++ post) at a 0 long_front (omega (arith, ge))
+        get_or-append_right (take at rows) (ys ++ post) at a 0 long_prefix (omega (arith, ge))
         ∙ beyond (a - at) (omega (arith, ge))
-        ∙ sym (get_or-append_right (take at rows) (mid ++ post) at a 0 long_front
+        ∙ sym (get_or-append_right (take at rows) (mid ++ post) at a 0 long_prefix
         (omega (arith, ge)))
         ∙ ap (λ (z : List ℕ). get_or z a 0) (put_same at n rows)
   ];
@@ -111,8 +111,8 @@ stored rows lanes at n whole room long height = record {
     ys : List ℕ
     ys = put_chunk 0 mid lanes
 
-    long_front : length (take at rows) ≡ at
-    long_front = length-take-le at rows (omega arith)
+    long_prefix : length (take at rows) ≡ at
+    long_prefix = length-take-le at rows (omega arith)
 
     long_mid : length mid ≡ n
     long_mid = length-take-le n (drop at rows) (omega (arith, length-drop at rows))

@@ -68,8 +68,8 @@ length-packed r g =
     omega (arith, g.few, g.height)
 
 -- a part of a list
-front : (xs ys : List ℕ) (n : ℕ) → length xs ≡ n → take n (xs ++ ys) ≡ xs
-front xs ys n e = rw (← e) (take-append_seam xs ys)
+prefix : (xs ys : List ℕ) (n : ℕ) → length xs ≡ n → take n (xs ++ ys) ≡ xs
+prefix xs ys n e = rw (← e) (take-append_seam xs ys)
 
 back : (xs ys : List ℕ) (n : ℕ) → length xs ≡ n → drop n (xs ++ ys) ≡ ys
 back xs ys n e = rw (← e) (drop-append_seam xs ys)
@@ -175,7 +175,7 @@ relation_again r rest g =
     low : padded (take r.count ws) ≡ low_words r.rows
     low =
         ap (λ (xs : List ℕ). padded (take r.count xs)) apart
-        ∙ ap (λ (xs : List ℕ). padded xs) (front ls (hs ++ rest) r.count
+        ∙ ap (λ (xs : List ℕ). padded xs) (prefix ls (hs ++ rest) r.count
         (length-part r.count (low_words r.rows) (rw height_low g.few)))
         ∙ padded_again (low_words r.rows) r.count height_low g.few (low_past r g)
 
@@ -184,7 +184,7 @@ relation_again r rest g =
         ap (λ (xs : List ℕ). padded (take (high_rows r.count) (drop r.count xs))) apart
         ∙ ap (λ (xs : List ℕ). padded (take (high_rows r.count) xs)) (back ls (hs ++ rest) r.count
         (length-part r.count (low_words r.rows) (rw height_low g.few)))
-        ∙ ap (λ (xs : List ℕ). padded xs) (front hs rest (high_rows r.count)
+        ∙ ap (λ (xs : List ℕ). padded xs) (prefix hs rest (high_rows r.count)
         (length-part (high_rows r.count) (high_words r.rows) (rw height_high few)))
         ∙ padded_again (high_words r.rows) (high_rows r.count) height_high few (high_past r g)
 

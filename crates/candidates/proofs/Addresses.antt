@@ -17,9 +17,9 @@ use Rattle.text_values.specs.TestValue.{formula_of}
 use Rattle.thread_runs.specs.declared.value.Value.{Value}
 use Rattle.thread_runs.specs.declared.value.Value.TheVariants.{Number, Address, NoValue}
 use Rattle.thread_runs.specs.declared.instruction.Event as run
-use Rattle.thread_runs.specs.declared.instruction.Event.TheVariants.{Reads, Writes, Orders}
+use Rattle.thread_runs.specs.declared.instruction.Event.TheVariants as run_event
 use Rattle.thread_runs.specs.declared.instruction.Instruction.{Instruction}
-use Rattle.thread_runs.specs.declared.instruction.Instruction.TheVariants.{Immediate, Move, AddImmediate, Operate, Load, LoadIndexed, Store, StoreIndexed, Compare, CompareImmediate, Branch, Jump, Barrier}
+use Rattle.thread_runs.specs.declared.instruction.Instruction.TheVariants.{Immediate, Move, AddImmediate, Operate, Load, LoadIndexed, Store, StoreIndexed, Compare, CompareImmediate, Branch, Jump, Fence}
 use Rattle.thread_runs.specs.declared.instruction.Line.{Line}
 use Rattle.thread_runs.specs.declared.instruction.Line.TheVariants.{Label, Does}
 use Rattle.thread_runs.specs.declared.instruction.Program.{Program}
@@ -39,9 +39,9 @@ Below n _ = Unit {0}
 
 module _ (n : ℕ) where
   abbrev pub EventBelow : run.Event → Type 0
-  EventBelow (Reads a v) = Below n a × Below n v
-  EventBelow (Writes a v) = Below n a × Below n v
-  EventBelow (Orders f) = Unit {0}
+  EventBelow (run_event.Load a v) = Below n a × Below n v
+  EventBelow (run_event.Store a v) = Below n a × Below n v
+  EventBelow (run_event.Fence f) = Unit {0}
 
   abbrev pub AllBelow : List run.Event → Type 0
   AllBelow [] = Unit {0}
@@ -145,7 +145,7 @@ module _ (n : ℕ) where
   after_below (CompareImmediate a m) v s loaded h = h
   after_below (Branch c l) v s loaded h = h
   after_below (Jump l) v s loaded h = h
-  after_below (Barrier f) v s loaded h = h
+  after_below (Fence f) v s loaded h = h
 
   event_below : (i : Instruction) (v : Value) (s : State) → (is_load i ≡ true → Below n v)
       → RegistersBelow s → AllBelow (event_of i v s)
@@ -163,7 +163,7 @@ module _ (n : ℕ) where
   event_below (CompareImmediate a m) v s loaded h = tt
   event_below (Branch c l) v s loaded h = tt
   event_below (Jump l) v s loaded h = tt
-  event_below (Barrier f) v s loaded h = (tt, tt)
+  event_below (Fence f) v s loaded h = (tt, tt)
 
   -- so it stays in a run and in a free run
   pub record IsKept (w : Walk) : Type 0 where
@@ -351,4 +351,4 @@ module _ (t : Test) (p : Program) (is : IsProgram t p) where
   domain_below (suc k) v (inr h) =
       let f = h.0 in
       let kept : IsKept many f.5.walk = free_kept many f.0.lines f.2 (walk_at f.0.first) f.3 f.5 f.6 (λ i d lt. domain_below k (get_or f.3 i d) (f.4 i d lt)) (begins_kept f.0 f.1) in
-      (one_below many f.5.walk.events (Writes f.7 v) kept.events f.8).1
+      (one_below many f.5.walk.events (run_event.Store f.7 v) kept.events f.8).1

@@ -9,27 +9,27 @@ use Rattle.candidates.specs.declared.execution.Execution.{Execution}
 
 -- what is shown, part by part
 pub shown_one : (d e : Shown) → d.events ≡ e.events → d.dependencies ≡ e.dependencies
-    → d.sources ≡ e.sources → d.order ≡ e.order → d.registers ≡ e.registers → d ≡ e
-shown_one d e events dependencies sources order registers =
+    → d.reads_from ≡ e.reads_from → d.coherence ≡ e.coherence → d.registers ≡ e.registers → d ≡ e
+shown_one d e events dependencies reads_from coherence registers =
     ap (λ (x : List Event). record d { events = x }) events
     ∙ ap
     (λ (x : DependencyLists). record e {
       dependencies = x;
-      sources = d.sources;
-      order = d.order;
+      reads_from = d.reads_from;
+      coherence = d.coherence;
       registers = d.registers;
     }) dependencies
-    ∙ ap (λ (x : List ℕ). record e { sources = x; order = d.order; registers = d.registers })
-    sources
-    ∙ ap (λ (x : List ℕ). record e { order = x; registers = d.registers }) order
+    ∙ ap (λ (x : List ℕ). record e { reads_from = x; coherence = d.coherence; registers = d.registers })
+    reads_from
+    ∙ ap (λ (x : List ℕ). record e { coherence = x; registers = d.registers }) coherence
     ∙ ap (λ (x : List (List Value)). record e { registers = x }) registers
 
 -- an execution shows what its candidate does
 candidate_shown : (threads : List (Vec (List Value) Global)) (u : Candidate) (x : Execution)
     → IsCandidateOf threads u.0 u.1 x → shown_of threads u ≡ shown_by x
 candidate_shown threads u x h =
-    shown_one (shown_of threads u) (shown_by x) (sym h.events) (sym h.dependencies) (sym h.sources)
-    (sym h.order) (sym h.registers)
+    shown_one (shown_of threads u) (shown_by x) (sym h.events) (sym h.dependencies) (sym h.reads_from)
+    (sym h.coherence) (sym h.registers)
 
 pub shown_there : (threads : List (Vec (List Value) Global)) (xs : List Candidate) (index : ℕ)
     (x : Execution) → index < length xs → HoldsAt (λ u. IsCandidateOf threads u.0 u.1 x) xs index

@@ -10,11 +10,11 @@ use Rattle.ppc_semantics.specs.Domain.{threads_of}
 use Rattle.candidates.proofs.NoLocation.{over_any_domain}
 use Rattle.candidates.proofs.Elements.{member_cases, member_later, member_first, no_member, mapped_there, joined_there}
 use Rattle.run_combinations.proofs.Numbers.{number_there}
-use Rattle.run_combinations.specs.Events.{is_store, writes}
+use Rattle.run_combinations.specs.Events.{is_store, is_store_action}
 use Rattle.candidates.specs.Executions.{Execution, IsExecution, IsStoreOrder, MayRead, loads, stores, stores_at, locations_from, events, product, read_choices, order_choices, orders, over_runs}
 use Rattle.candidates.specs.Laws.{HasAllExecutions}
 use Rattle.run_combinations.specs.Lists.{IsFiltered, none, kept, left}
-use Rattle.run_combinations.specs.declared.combination.Action.TheVariants.{Write}
+use Rattle.run_combinations.specs.declared.combination.Action.TheVariants.{Store}
 use Rattle.run_combinations.specs.declared.combination.Event.{Event}
 
 -- members of a filter
@@ -69,12 +69,12 @@ reads_there es [] (s ∷ ss) h = absurd h
 reads_there es (l ∷ ls) [] h = absurd h
 reads_there es (l ∷ ls) (s ∷ ss) h = (here h.0.3.1 h.0.3.2, reads_there es ls ss h.1)
   where
-    here : slice_get es s ≡ Some h.0.3.0 → h.0.3.0.action ≡ Write h.0.0 h.0.1
+    here : slice_get es s ≡ Some h.0.3.0 → h.0.3.0.action ≡ Store h.0.0 h.0.1
         → Contains (stores es) s
     here there is =
         let z : 0 + s ≡ s = omega arith in
         subst (λ (k : ℕ). Contains (stores es) k) z
-        (number_there is_store 0 es s h.0.3.0 there (ap writes is))
+        (number_there is_store 0 es s h.0.3.0 there (ap is_store_action is))
 
 -- coherence
 drawn : (ss order : List ℕ) (n : ℕ) → length order ≡ n → All (Contains ss) order

@@ -32,10 +32,10 @@ use Rattle.run_combinations.proofs.Numbers.{number_there, as_many}
 use Rattle.candidates.proofs.StepEvents.{in_run}
 use Rattle.candidates.proofs.StepValues.{StoredAt, stored_at, loaded_there}
 use Rattle.candidates.proofs.Whole.{AreLocated, run_located}
-use Rattle.run_combinations.specs.Events.{thread_events, with_action, action_in, initial_stores, reads, is_load, ReadsFrom}
+use Rattle.run_combinations.specs.Events.{thread_events, with_action, action_in, initial_stores, is_load_action, is_load, ReadsFrom}
 use Rattle.candidates.specs.Executions.{Execution, IsExecution, IsDependency, MayRead, loads, events, events_from}
 use Rattle.run_combinations.specs.declared.combination.Action.{Action}
-use Rattle.run_combinations.specs.declared.combination.Action.TheVariants.{Read, Write, Fence}
+use Rattle.run_combinations.specs.declared.combination.Action.TheVariants.{Load, Store, Fence}
 use Rattle.run_combinations.specs.declared.combination.Event.{Event}
 
 -- the events of a run, one by one
@@ -69,86 +69,86 @@ raw_at t (d ∷ es) h (suc k) e there =
     let r : Raw es k e.action = raw_at t es h.1 k e (sym (ap (λ (l : List Event). slice_get l (suc k)) (first_event t d es h.0.0 h.0.1)) ∙ there) in
     record { event = r.event; there = r.there; does = r.does }
 
-write_is : (e : run.Event) (l : ℕ) (v : Value) → action_in e ≡ Some (Write l v)
-    → e ≡ does.Writes (Address l) v
-write_is (does.Writes (Address m) w) l v h = stores (same_Some _ _ h)
+write_is : (e : run.Event) (l : ℕ) (v : Value) → action_in e ≡ Some (Store l v)
+    → e ≡ does.Store (Address l) v
+write_is (does.Store (Address m) w) l v h = stores (same_Some _ _ h)
   where
-    stores : Write m w ≡ Write l v → does.Writes (Address m) w ≡ does.Writes (Address l) v
+    stores : Store m w ≡ Store l v → does.Store (Address m) w ≡ does.Store (Address l) v
     stores e = cc
-write_is (does.Writes (Number m) w) l v h = absurd cc
-write_is (does.Writes NoValue w) l v h = absurd cc
-write_is (does.Reads (Address m) w) l v h = absurd cc
-write_is (does.Reads (Number m) w) l v h = absurd cc
-write_is (does.Reads NoValue w) l v h = absurd cc
-write_is (does.Orders f) l v h = absurd cc
+write_is (does.Store (Number m) w) l v h = absurd cc
+write_is (does.Store NoValue w) l v h = absurd cc
+write_is (does.Load (Address m) w) l v h = absurd cc
+write_is (does.Load (Number m) w) l v h = absurd cc
+write_is (does.Load NoValue w) l v h = absurd cc
+write_is (does.Fence f) l v h = absurd cc
 
-read_is : (e : run.Event) (l : ℕ) (v : Value) → action_in e ≡ Some (Read l v)
-    → (a : Value) × (e ≡ does.Reads a v)
-read_is (does.Reads (Address m) w) l v h =
-    (Address m, ap (λ (x : Value). does.Reads (Address m) x) (loads_value (same_Some _ _ h)))
+read_is : (e : run.Event) (l : ℕ) (v : Value) → action_in e ≡ Some (Load l v)
+    → (a : Value) × (e ≡ does.Load a v)
+read_is (does.Load (Address m) w) l v h =
+    (Address m, ap (λ (x : Value). does.Load (Address m) x) (loads_value (same_Some _ _ h)))
   where
-    loads_value : Read m w ≡ Read l v → w ≡ v
+    loads_value : Load m w ≡ Load l v → w ≡ v
     loads_value e = cc
-read_is (does.Reads (Number m) w) l v h = absurd cc
-read_is (does.Reads NoValue w) l v h = absurd cc
-read_is (does.Writes (Address m) w) l v h = absurd cc
-read_is (does.Writes (Number m) w) l v h = absurd cc
-read_is (does.Writes NoValue w) l v h = absurd cc
-read_is (does.Orders f) l v h = absurd cc
+read_is (does.Load (Number m) w) l v h = absurd cc
+read_is (does.Load NoValue w) l v h = absurd cc
+read_is (does.Store (Address m) w) l v h = absurd cc
+read_is (does.Store (Number m) w) l v h = absurd cc
+read_is (does.Store NoValue w) l v h = absurd cc
+read_is (does.Fence f) l v h = absurd cc
 
 -- what a load reads is among the values read
-value_read : (es : List run.Event) (k : ℕ) (a v : Value) → slice_get es k ≡ Some (does.Reads a v)
+value_read : (es : List run.Event) (k : ℕ) (a v : Value) → slice_get es k ≡ Some (does.Load a v)
     → Contains (read_in es) v
 value_read [] k a v h = absurd cc
-value_read (does.Reads b w ∷ es) zero a v h =
+value_read (does.Load b w ∷ es) zero a v h =
     subst (λ (x : Value). Contains (w ∷ read_in es) x) (same (same_Some _ _ h))
     (member_first w (read_in es))
   where
-    same : does.Reads b w ≡ does.Reads a v → w ≡ v
+    same : does.Load b w ≡ does.Load a v → w ≡ v
     same e = cc
-value_read (does.Writes b w ∷ es) zero a v h = absurd cc
-value_read (does.Orders f ∷ es) zero a v h = absurd cc
-value_read (does.Reads b w ∷ es) (suc k) a v h =
+value_read (does.Store b w ∷ es) zero a v h = absurd cc
+value_read (does.Fence f ∷ es) zero a v h = absurd cc
+value_read (does.Load b w ∷ es) (suc k) a v h =
     member_later w (read_in es) v (value_read es k a v h)
-value_read (does.Writes b w ∷ es) (suc k) a v h = value_read es k a v h
-value_read (does.Orders f ∷ es) (suc k) a v h = value_read es k a v h
+value_read (does.Store b w ∷ es) (suc k) a v h = value_read es k a v h
+value_read (does.Fence f ∷ es) (suc k) a v h = value_read es k a v h
 
 record ReadAt (es : List run.Event) (v : Value) : Type 0 where
   index : ℕ
   address : Value
-  there : slice_get es index ≡ Some (does.Reads address v)
+  there : slice_get es index ≡ Some (does.Load address v)
 
 read_at : (es : List run.Event) (v : Value) → Contains (read_in es) v → ReadAt es v
 read_at [] v c = absurd (no_member v c)
-read_at (does.Reads a w ∷ es) v c = elim (member_cases w (read_in es) v c) [
-  | inl e ↦ record { index = 0; address = a; there = ap (λ (x : Value). Some (does.Reads a x)) e }
+read_at (does.Load a w ∷ es) v c = elim (member_cases w (read_in es) v c) [
+  | inl e ↦ record { index = 0; address = a; there = ap (λ (x : Value). Some (does.Load a x)) e }
   | inr d ↦
       let r : ReadAt es v = read_at es v d in
       record { index = suc r.index; address = r.address; there = r.there }
 ]
-read_at (does.Writes a w ∷ es) v c =
+read_at (does.Store a w ∷ es) v c =
     let r : ReadAt es v = read_at es v c in
     record { index = suc r.index; address = r.address; there = r.there }
-read_at (does.Orders f ∷ es) v c =
+read_at (does.Fence f ∷ es) v c =
     let r : ReadAt es v = read_at es v c in
     record { index = suc r.index; address = r.address; there = r.there }
 
 loads_of_run : (t : ℕ) (es : List run.Event) → AreLocated es
     → length (filter is_load (thread_events t es)) ≡ length (read_in es)
 loads_of_run t [] h = refl
-loads_of_run t (does.Reads (Address l) v ∷ es) h = ap (λ (n : ℕ). suc n) (loads_of_run t es h.1)
-loads_of_run t (does.Reads (Number n) v ∷ es) h = absurd (nothing h.0.1)
+loads_of_run t (does.Load (Address l) v ∷ es) h = ap (λ (n : ℕ). suc n) (loads_of_run t es h.1)
+loads_of_run t (does.Load (Number n) v ∷ es) h = absurd (nothing h.0.1)
   where
     nothing : {a : Action} → None ≡ Some a → ⊥
     nothing e = cc
-loads_of_run t (does.Reads NoValue v ∷ es) h = absurd (nothing h.0.1)
+loads_of_run t (does.Load NoValue v ∷ es) h = absurd (nothing h.0.1)
   where
     nothing : {a : Action} → None ≡ Some a → ⊥
     nothing e = cc
-loads_of_run t (does.Writes (Address l) v ∷ es) h = loads_of_run t es h.1
-loads_of_run t (does.Writes (Number n) v ∷ es) h = loads_of_run t es h.1
-loads_of_run t (does.Writes NoValue v ∷ es) h = loads_of_run t es h.1
-loads_of_run t (does.Orders f ∷ es) h = loads_of_run t es h.1
+loads_of_run t (does.Store (Address l) v ∷ es) h = loads_of_run t es h.1
+loads_of_run t (does.Store (Number n) v ∷ es) h = loads_of_run t es h.1
+loads_of_run t (does.Store NoValue v ∷ es) h = loads_of_run t es h.1
+loads_of_run t (does.Fence f ∷ es) h = loads_of_run t es h.1
 
 located_at : (es : List run.Event) → AreLocated es → (k : ℕ) (e : run.Event)
     → slice_get es k ≡ Some e → (a : Action) × (action_in e ≡ Some a)
@@ -158,14 +158,14 @@ located_at (d ∷ es) h (suc k) e there = located_at es h.1 k e there
 
 -- the value that an event reads
 abbrev value_of : Action → Value
-value_of (Read l v) = v
-value_of (Write l v) = NoValue
+value_of (Load l v) = v
+value_of (Store l v) = NoValue
 value_of (Fence f) = NoValue
 
-read_action : (a v : Value) (act : Action) → action_in (does.Reads a v) ≡ Some act
-    → (reads act ≡ true) × (value_of act ≡ v)
+read_action : (a v : Value) (act : Action) → action_in (does.Load a v) ≡ Some act
+    → (is_load_action act ≡ true) × (value_of act ≡ v)
 read_action (Address l) v act h =
-    let e : Read l v ≡ act = same_Some _ _ h in (sym (ap reads e), sym (ap value_of e))
+    let e : Load l v ≡ act = same_Some _ _ h in (sym (ap is_load_action e), sym (ap value_of e))
 read_action (Number n) v act h = absurd cc
 read_action NoValue v act h = absurd cc
 
@@ -231,24 +231,24 @@ origin es thread (r ∷ rs) k e h =
         })
 
 initial_value : (at : ℕ) (vs : List Value) (k : ℕ) (e : Event) (l : ℕ) (v : Value)
-    → slice_get (initial_stores at vs) k ≡ Some e → e.action ≡ Write l v → Contains vs v
+    → slice_get (initial_stores at vs) k ≡ Some e → e.action ≡ Store l v → Contains vs v
 initial_value at [] k e l v there is = absurd cc
 initial_value at (w ∷ vs) zero e l v there is =
     subst (λ (x : Value). Contains (w ∷ vs) x)
     (same (ap (λ (x : Event). x.action) (same_Some _ _ there) ∙ is)) (member_first w vs)
   where
-    same : Write at w ≡ Write l v → w ≡ v
+    same : Store at w ≡ Store l v → w ≡ v
     same e = cc
 initial_value at (w ∷ vs) (suc k) e l v there is =
     member_later w vs v (initial_value (at + 1) vs k e l v there is)
 
 no_initial_load : (at : ℕ) (vs : List Value) (k : ℕ) (e : Event) (l : ℕ) (v : Value)
-    → slice_get (initial_stores at vs) k ≡ Some e → e.action ≡ Read l v → ⊥
+    → slice_get (initial_stores at vs) k ≡ Some e → e.action ≡ Load l v → ⊥
 no_initial_load at [] k e l v there is = absurd cc
 no_initial_load at (w ∷ vs) zero e l v there is =
     store_load (ap (λ (x : Event). x.action) (same_Some _ _ there) ∙ is)
   where
-    store_load : Write at w ≡ Read l v → ⊥
+    store_load : Store at w ≡ Load l v → ⊥
     store_load e = cc
 no_initial_load at (w ∷ vs) (suc k) e l v there is = no_initial_load (at + 1) vs k e l v there is
 
@@ -346,7 +346,7 @@ module _ (initial : List Value) (threads : List Thread) (some : Value)
           | inr o ↦
               let t : RunOf IsProperValue threads o.run = thread_of_run IsProperValue threads x.runs o.its o.run is.runs o.its_run in
               let r : Raw o.run.outcome.walk.events o.index m.2.0.action = raw_at (0 + o.its) o.run.outcome.walk.events (located IsProperValue t.thread o.run t.is) o.index m.2.0 o.there in
-              let a : (a : Value) × (r.event ≡ does.Reads a m.1) = read_is r.event m.0 m.1 (r.does ∙ ap (λ (y : Action). Some y) m.2.2) in
+              let a : (a : Value) × (r.event ≡ does.Load a m.1) = read_is r.event m.0 m.1 (r.does ∙ ap (λ (y : Action). Some y) m.2.2) in
               let c : Contains (read_in o.run.outcome.walk.events) m.1 = value_read o.run.outcome.walk.events o.index a.0 m.1 (r.there ∙ ap (λ (y : run.Event). Some y) a.1) in
               All-contains IsProperValue o.run.values m.1 t.is.0
               (subst (λ (vs : List Value). Contains vs m.1)
@@ -364,13 +364,13 @@ module _ (initial : List Value) (threads : List Thread) (some : Value)
         let t : RunOf IsProperValue threads r = thread_of_run IsProperValue threads x.runs its r is.runs there in
         let h : AreLocated r.outcome.walk.events = located IsProperValue t.thread r t.is in
         let lt : i < length r.outcome.walk.steps = in_run r.outcome.walk.steps i (load_is (executed r.outcome.walk.steps i) load) in
-        let own : (a : Value) × (slice_get r.outcome.walk.events (event_index (executed r.outcome.walk.steps) i) ≡ Some (does.Reads a (loaded_at r.outcome.walk.steps i))) = loaded_there t.thread.lines t.thread.first r.values r.outcome t.is.1 i lt load in
-        let a : (a : Action) × (action_in (does.Reads own.0 (loaded_at r.outcome.walk.steps i)) ≡ Some a) = located_at r.outcome.walk.events h (event_index (executed r.outcome.walk.steps) i) (does.Reads own.0 (loaded_at r.outcome.walk.steps i)) own.1 in
+        let own : (a : Value) × (slice_get r.outcome.walk.events (event_index (executed r.outcome.walk.steps) i) ≡ Some (does.Load a (loaded_at r.outcome.walk.steps i))) = loaded_there t.thread.lines t.thread.first r.values r.outcome t.is.1 i lt load in
+        let a : (a : Action) × (action_in (does.Load own.0 (loaded_at r.outcome.walk.steps i)) ≡ Some a) = located_at r.outcome.walk.events h (event_index (executed r.outcome.walk.steps) i) (does.Load own.0 (loaded_at r.outcome.walk.steps i)) own.1 in
         ap value_at (event_of_run (initial_stores 0 initial) 0 x.runs its
         (event_index (executed r.outcome.walk.steps) i) r
         (record { thread = Some (0 + its); action = a.0 }) there
         (event_at (0 + its) r.outcome.walk.events h (event_index (executed r.outcome.walk.steps) i)
-        (does.Reads own.0 (loaded_at r.outcome.walk.steps i)) a.0 own.1 a.1))
+        (does.Load own.0 (loaded_at r.outcome.walk.steps i)) a.0 own.1 a.1))
         ∙ (read_action own.0 (loaded_at r.outcome.walk.steps i) a.0 a.1).1
 
     -- a number of a load is that of one of the loads
@@ -470,10 +470,10 @@ module _ (initial : List Value) (threads : List Thread) (some : Value)
         let t : RunOf IsProperValue threads r = thread_of_run IsProperValue threads x.runs its r is.runs there in
         let h : AreLocated r.outcome.walk.events = located IsProperValue t.thread r t.is in
         let q : ReadAt r.outcome.walk.events v = read_at r.outcome.walk.events v (subst (λ (vs : List Value). Contains vs v) (sym (values_read t.thread.lines t.thread.first r.values r.outcome t.is.1)) c) in
-        let a : (a : Action) × (action_in (does.Reads q.address v) ≡ Some a) = located_at r.outcome.walk.events h q.index (does.Reads q.address v) q.there in
+        let a : (a : Action) × (action_in (does.Load q.address v) ≡ Some a) = located_at r.outcome.walk.events h q.index (does.Load q.address v) q.there in
         let e : Event = record { thread = Some (0 + its); action = a.0 } in
         let at : ℕ = length (events initial (take its x.runs)) + q.index in
-        let stands : slice_get es at ≡ Some e = event_of_run (initial_stores 0 initial) 0 x.runs its q.index r e there (event_at (0 + its) r.outcome.walk.events h q.index (does.Reads q.address v) a.0 q.there a.1) in
+        let stands : slice_get es at ≡ Some e = event_of_run (initial_stores 0 initial) 0 x.runs its q.index r e there (event_at (0 + its) r.outcome.walk.events h q.index (does.Load q.address v) a.0 q.there a.1) in
         let z : 0 + at ≡ at = omega arith in
         let n : Nth at = nth_load at (subst (λ (k : ℕ). Contains (loads es) k) z (number_there is_load 0 es at e stands (read_action q.address v a.0 a.1).0)) in
         subst (λ (w : Value). InDomain initial threads count w)

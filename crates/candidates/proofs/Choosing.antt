@@ -160,9 +160,9 @@ no_part_past thread all k (p ∷ ps) h parts =
 
 -- a combination without a part cannot read
 abbrev LeavesOut : ℕ → List Event → List (Vec Run Global) → List ThreadParts → Type 0
-LeavesOut thread front vs ts =
+LeavesOut thread prefix vs ts =
     (ks : List ℕ) (rs : List Run) → AreChosen vs ks rs
-    → HaveParts ts ks ⊎ CannotRead (front ++ chosen_events thread rs)
+    → HaveParts ts ks ⊎ CannotRead (prefix ++ chosen_events thread rs)
 
 module _ (thread : ℕ) (b : PrefixLists) (v : Vec Run Global) (vs : List (Vec Run Global))
     (t : ThreadParts) (ts : List ThreadParts)

@@ -30,7 +30,7 @@ unfolding candidates_of
 all_left [] = refl
 all_left (c ∷ cs) =
     ap (λ (l : List (List ℕ × List ℕ)). map (λ t. (c, t)) l ++ candidates_in cs)
-    (all_pairs (lists_of c.sources.items) c.orders)
+    (all_pairs (lists_of c.reads_from.items) c.orders)
 
 -- the next one, in a row and at its end
 pairs_step : (xs ys : List (List ℕ)) (i j : ℕ) → i < length xs → j < length ys
@@ -104,10 +104,10 @@ lists_long vs = length-map vs (λ (v : Vec ℕ Global). v.items)
 
 -- the candidate at the indices, and those from others on
 module _ (cs : List Combination) (c : Combination) (i j : ℕ) (v : Vec ℕ Global) (w : List ℕ)
-    (first : Some c ≡ slice_get cs 0) (li : i < length c.sources.items) (lj : j < length c.orders)
-    (source : v ≡ get_or c.sources.items i v) (order : w ≡ get_or c.orders j []) where
+    (first : Some c ≡ slice_get cs 0) (li : i < length c.reads_from.items) (lj : j < length c.orders)
+    (source : v ≡ get_or c.reads_from.items i v) (order : w ≡ get_or c.orders j []) where
   abbrev there : List ℕ × List ℕ
-  there = (get_or (lists_of c.sources.items) i [], get_or c.orders j [])
+  there = (get_or (lists_of c.reads_from.items) i [], get_or c.orders j [])
 
   abbrev one : List ℕ × List ℕ
   one = (v.items, w)
@@ -115,12 +115,12 @@ module _ (cs : List Combination) (c : Combination) (i j : ℕ) (v : Vec ℕ Glob
   found : there ≡ one
   found =
       ap (λ (x : List ℕ). let p : List ℕ × List ℕ = (x, get_or c.orders j []) in p)
-      (item_at c.sources.items i v li source)
+      (item_at c.reads_from.items i v li source)
       ∙ ap (λ (x : List ℕ). let p : List ℕ × List ℕ = (v.items, x) in p) (sym order)
 
   with_rest : (cs : List Combination) → Some c ≡ slice_get cs 0 → (m n : ℕ)
-      → pairs_left (lists_of c.sources.items) c.orders i j
-      ≡ (v.items, w) ∷ pairs_left (lists_of c.sources.items) c.orders m n
+      → pairs_left (lists_of c.reads_from.items) c.orders i j
+      ≡ (v.items, w) ∷ pairs_left (lists_of c.reads_from.items) c.orders m n
       → candidates_from cs i j ≡ (c, (v.items, w)) ∷ candidates_from cs m n
   with_rest [] e m n h = absurd cc
   with_rest (d ∷ ds) e m n h =
@@ -135,26 +135,26 @@ module _ (cs : List Combination) (c : Combination) (i j : ℕ) (v : Vec ℕ Glob
       → candidates_from cs i j ≡ (c, (v.items, w)) ∷ candidates_from cs i k
   next_in_row k e no_end =
       with_rest cs first i k
-      (in_row (lists_of c.sources.items) c.orders i j k e
-      (omega (arith, li, lists_long c.sources.items)) (omega (arith, lj, e, no_end))
-      ∙ ap (λ (x : List ℕ × List ℕ). x ∷ pairs_left (lists_of c.sources.items) c.orders i k) found)
+      (in_row (lists_of c.reads_from.items) c.orders i j k e
+      (omega (arith, li, lists_long c.reads_from.items)) (omega (arith, lj, e, no_end))
+      ∙ ap (λ (x : List ℕ × List ℕ). x ∷ pairs_left (lists_of c.reads_from.items) c.orders i k) found)
 
   pub next_row : (k : ℕ) → k ≡ i + 1 → j + 1 ≡ length c.orders
       → candidates_from cs i j ≡ (c, (v.items, w)) ∷ candidates_from cs k 0
   next_row k e at =
       with_rest cs first k 0
-      (row_end (lists_of c.sources.items) c.orders i j k e
-      (omega (arith, li, lists_long c.sources.items)) lj at
-      ∙ ap (λ (x : List ℕ × List ℕ). x ∷ pairs_left (lists_of c.sources.items) c.orders k 0) found)
+      (row_end (lists_of c.reads_from.items) c.orders i j k e
+      (omega (arith, li, lists_long c.reads_from.items)) lj at
+      ∙ ap (λ (x : List ℕ × List ℕ). x ∷ pairs_left (lists_of c.reads_from.items) c.orders k 0) found)
 
 -- a combination of which none is left
 pub passed : (cs : List Combination) (c : Combination) (i j : ℕ) → Some c ≡ slice_get cs 0
-    → (length c.sources.items ≤ i) ⊎ (length c.orders ≤ j)
+    → (length c.reads_from.items ≤ i) ⊎ (length c.orders ≤ j)
     → candidates_from cs i j ≡ candidates_from (take (length cs - 1) (drop 1 cs)) 0 0
 passed [] c i j first past = absurd cc
 passed (d ∷ cs) c i j first past =
     ap (λ (l : List (List ℕ × List ℕ)). map (λ t. (d, t)) l ++ candidates_in cs)
-    (none_left (lists_of d.sources.items) d.orders i j (turned past))
+    (none_left (lists_of d.reads_from.items) d.orders i j (turned past))
     ∙ sym (all_left cs)
     ∙ ap (λ (l : List Combination). candidates_from l 0 0)
     (sym (take_all (length (d ∷ cs) - 1) cs (omega arith)))
@@ -162,11 +162,11 @@ passed (d ∷ cs) c i j first past =
     same : c ≡ d
     same = cc
 
-    turned : (length c.sources.items ≤ i) ⊎ (length c.orders ≤ j)
-        → (length (lists_of d.sources.items) ≤ i) ⊎ (length d.orders ≤ j)
+    turned : (length c.reads_from.items ≤ i) ⊎ (length c.orders ≤ j)
+        → (length (lists_of d.reads_from.items) ≤ i) ⊎ (length d.orders ≤ j)
     turned (inl le) =
-        inl (subst (λ (x : Combination). length (lists_of x.sources.items) ≤ i) same
-        (omega (arith, le, lists_long c.sources.items)))
+        inl (subst (λ (x : Combination). length (lists_of x.reads_from.items) ≤ i) same
+        (omega (arith, le, lists_long c.reads_from.items)))
     turned (inr le) = inr (subst (λ (x : Combination). length x.orders ≤ j) same le)
 
 -- with the lists that the next one shows

@@ -9,7 +9,7 @@ use Rattle.thread_runs.proofs.RunsExact.{contains_one}
 use Rattle.thread_runs.specs.declared.value.Value.{Value}
 use Rattle.thread_runs.specs.declared.value.Value.TheVariants.{Number, Address, NoValue}
 use Rattle.thread_runs.specs.declared.instruction.Event as run
-use Rattle.thread_runs.specs.declared.instruction.Event.TheVariants.{Reads, Writes, Orders}
+use Rattle.thread_runs.specs.declared.instruction.Event.TheVariants as run_event
 use Rattle.thread_runs.specs.Runs.{Run, walk_at}
 use Rattle.ppc_semantics.specs.Domain.{threads_of, load_total}
 use Rattle.candidates.proofs.Addresses.{AllBelow, one_below, run_kept, begins_kept, domain_below}
@@ -22,25 +22,25 @@ use Rattle.run_combinations.specs.Events.{AreDistinct, has_store, action_in, wit
 use Rattle.candidates.specs.Executions.{IsExecution, IsStoreOrder, events, events_from, stores_at, locations_from}
 use Rattle.candidates.specs.Laws.{CoversEachStore}
 use Rattle.run_combinations.specs.declared.combination.Action.{Action}
-use Rattle.run_combinations.specs.declared.combination.Action.TheVariants.{Read, Write, Fence}
+use Rattle.run_combinations.specs.declared.combination.Action.TheVariants.{Load, Store, Fence}
 use Rattle.run_combinations.specs.declared.combination.Event.{Event}
 
 -- each of the events stores at one of the first locations, if it is a store
 abbrev StoresBelow : ℕ → List Event → Type 0
-StoresBelow n es = (e : Event) (l : ℕ) (v : Value) → Contains es e → e.action ≡ Write l v → l < n
+StoresBelow n es = (e : Event) (l : ℕ) (v : Value) → Contains es e → e.action ≡ Store l v → l < n
 
 both_stores : (n : ℕ) (es fs : List Event) → StoresBelow n es → StoresBelow n fs
     → StoresBelow n (es ++ fs)
 both_stores n es fs h k e l v c w =
     elim (Contains-append_cases es fs e c) [ inl a ↦ h e l v a w | inr b ↦ k e l v b w ]
 
-location_is : {k l : ℕ} {v w : Value} → Write k v ≡ Write l w → k ≡ l
+location_is : {k l : ℕ} {v w : Value} → Store k v ≡ Store l w → k ≡ l
 location_is e = cc
 
-no_store : {k l : ℕ} {v w : Value} → Read k v ≡ Write l w → ⊥
+no_store : {k l : ℕ} {v w : Value} → Load k v ≡ Store l w → ⊥
 no_store e = cc
 
-no_fence : {l : ℕ} {w : Value} {f : _} → Fence f ≡ Write l w → ⊥
+no_fence : {l : ℕ} {w : Value} {f : _} → Fence f ≡ Store l w → ⊥
 no_fence e = cc
 
 initial_stores_below : (n k : ℕ) (vs : List Value) → k + length vs ≤ n
@@ -55,16 +55,16 @@ initial_stores_below n k (x ∷ vs) le e l v c w =
 
 action_below : (n thread : ℕ) (x : run.Event) → AllBelow n (x ∷ [])
     → StoresBelow n (with_action thread (action_in x))
-action_below n thread (Reads (Address k) x) h e l v c w =
+action_below n thread (run_event.Load (Address k) x) h e l v c w =
     absurd (no_store (ap (λ (d : Event). d.action) (contains_one _ e c) ∙ w))
-action_below n thread (Reads (Number k) x) h e l v c w = absurd (no_member e c)
-action_below n thread (Reads NoValue x) h e l v c w = absurd (no_member e c)
-action_below n thread (Writes (Address k) x) h e l v c w =
+action_below n thread (run_event.Load (Number k) x) h e l v c w = absurd (no_member e c)
+action_below n thread (run_event.Load NoValue x) h e l v c w = absurd (no_member e c)
+action_below n thread (run_event.Store (Address k) x) h e l v c w =
     let at : k ≡ l = location_is (ap (λ (d : Event). d.action) (contains_one _ e c) ∙ w) in
     let lt : k < n = h.0.0 in omega (arith, at, lt)
-action_below n thread (Writes (Number k) x) h e l v c w = absurd (no_member e c)
-action_below n thread (Writes NoValue x) h e l v c w = absurd (no_member e c)
-action_below n thread (Orders f) h e l v c w =
+action_below n thread (run_event.Store (Number k) x) h e l v c w = absurd (no_member e c)
+action_below n thread (run_event.Store NoValue x) h e l v c w = absurd (no_member e c)
+action_below n thread (run_event.Fence f) h e l v c w =
     absurd (no_fence (ap (λ (d : Event). d.action) (contains_one _ e c) ∙ w))
 
 thread_stores_below : (n thread : ℕ) (es : List run.Event) → AllBelow n es
@@ -148,14 +148,14 @@ order_at es m (v ∷ vs) (o ∷ os) (suc k) h lt =
 record StoreOf (a : Action) : Type 0 where
   location : ℕ
   value : Value
-  is : a ≡ Write location value
+  is : a ≡ Store location value
 
 store_of : (e : Event) → is_store e ≡ true → StoreOf e.action
 store_of e h = go e.action h
   where
     go : (a : Action) → is_store (record e { action = a }) ≡ true → StoreOf a
-    go (Read l v) h = absurd cc
-    go (Write l v) h = record { location = l; value = v; is = refl }
+    go (Load l v) h = absurd cc
+    go (Store l v) h = record { location = l; value = v; is = refl }
     go (Fence f) h = absurd cc
 
 event_there : (es : List Event) (k : ℕ) (e : Event) → slice_get es k ≡ Some e → Contains es e

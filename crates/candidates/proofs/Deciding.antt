@@ -1,16 +1,16 @@
--- Whether a finite relation has a cycle is decided; so the ways to read, and the combinations that
+-- Whether a finite relation has a cycle is decided; so the read choices, and the combinations that
 -- have one, exist.
 use Rattle.std.proofs.Common.{ℕ, zero, suc, ◌≡◌, ◌<◌, ◌⊎◌, List, [], ◌∷◌, ◌++◌, length, get_or, ap, sym, subst, inl, inr, arith, Contains}
 use Rattle.std.proofs.lemmas.Bool.{cases_eq}
 use Rattle.std.proofs.lemmas.List.Elements.{Contains-append_left, Contains-append_right, Contains-append_cases}
 use Rattle.bit_relations.specs.Pairs.{Union, Path, IsAcyclic}
 use Rattle.candidates.proofs.Elements.{member_cases, member_later, member_first, no_member}
-use Rattle.run_combinations.specs.Candidates.{AreCombinations, nothing_left, with_ways, without}
+use Rattle.run_combinations.specs.Candidates.{AreCombinations, nothing_left, with_read_choices, without}
 use Rattle.run_combinations.specs.Events.{numbers, is_load, is_store, ReadsFrom}
 use Rattle.run_combinations.specs.Lists.{tuples, IsFiltered, none, kept, left}
 use Rattle.run_combinations.specs.Search.{PrefixLists}
 use Rattle.run_combinations.specs.Combinations.{CombinationLists}
-use Rattle.run_combinations.specs.Ways.{AreReadChoices, IsReadChoice, accesses_in}
+use Rattle.run_combinations.specs.ReadChoices.{AreReadChoices, IsReadChoice, accesses_in}
 use Rattle.run_combinations.specs.declared.combination.Event.{Event}
 
 -- a fact is decided
@@ -233,9 +233,9 @@ found_as R S to from f =
     }
 
 -- the pairs of two lists
-one_read : (l s : ℕ) (loads way : List ℕ) → Found (ReadsFrom loads way)
-    → Found (ReadsFrom (l ∷ loads) (s ∷ way))
-one_read l s loads way rest = record {
+one_read : (l s : ℕ) (loads reads_from : List ℕ) → Found (ReadsFrom loads reads_from)
+    → Found (ReadsFrom (l ∷ loads) (s ∷ reads_from))
+one_read l s loads reads_from rest = record {
   edges = (s, l) ∷ rest.edges;
   there = λ a b h. to a b h.0 h.1 h.2 h.3 h.4;
   back = λ a b c. elim (member_cases (s, l) rest.edges (a, b) c) [
@@ -243,12 +243,12 @@ one_read l s loads way rest = record {
         let i : (s ≡ a) × (l ≡ b) = pair_is s l a b e in
         (0, omega arith, omega arith, sym i.0, sym i.1)
     | inr d ↦
-        let h : ReadsFrom loads way a b = rest.back a b d in
+        let h : ReadsFrom loads reads_from a b = rest.back a b d in
         (suc h.0, omega (arith, h.1), omega (arith, h.2), h.3, h.4)
   ];
 }
   where
-    to : (a b i : ℕ) → i < length (s ∷ way) → i < length (l ∷ loads) → a ≡ get_or (s ∷ way) i 0
+    to : (a b i : ℕ) → i < length (s ∷ reads_from) → i < length (l ∷ loads) → a ≡ get_or (s ∷ reads_from) i 0
         → b ≡ get_or (l ∷ loads) i 0 → Contains ((s, l) ∷ rest.edges) (a, b)
     to a b zero lt lt' e f =
         subst (λ (x : ℕ). Contains ((s, l) ∷ rest.edges) (x, b)) (sym e) (subst
@@ -258,8 +258,8 @@ one_read l s loads way rest = record {
         member_later (s, l) rest.edges (a, b) (rest.there a b
         (i, omega (arith, lt), omega (arith, lt'), e, f))
 
-reads_edges : (loads way : List ℕ) → Found (ReadsFrom loads way)
-reads_edges [] way =
+reads_edges : (loads reads_from : List ℕ) → Found (ReadsFrom loads reads_from)
+reads_edges [] reads_from =
     record {
       edges = [];
       there = λ a b h. let lt : h.0 < 0 = h.2 in absurd (omega (arith, lt));
@@ -271,7 +271,7 @@ reads_edges (l ∷ loads) [] =
       there = λ a b h. let lt : h.0 < 0 = h.1 in absurd (omega (arith, lt));
       back = λ a b c. absurd (no_member (a, b) c);
     }
-reads_edges (l ∷ loads) (s ∷ way) = one_read l s loads way (reads_edges loads way)
+reads_edges (l ∷ loads) (s ∷ reads_from) = one_read l s loads reads_from (reads_edges loads reads_from)
 
 union_edges : (R S : ℕ → ℕ → Type 0) → Found R → Found S → Found (Union R S)
 union_edges R S f g = record {
@@ -287,9 +287,9 @@ union_edges R S f g = record {
       [ inl d ↦ inl (f.back a b d) | inr d ↦ inr (g.back a b d) ];
 }
 
-way_decided : (es : List Event) (pairs : List (ℕ × ℕ)) (way : List ℕ)
-    → Decided (IsReadChoice (accesses_in es pairs) way)
-way_decided es pairs way =
+read_choice_decided : (es : List Event) (pairs : List (ℕ × ℕ)) (reads_from : List ℕ)
+    → Decided (IsReadChoice (accesses_in es pairs) reads_from)
+read_choice_decided es pairs reads_from =
     let need : Found (accesses_in es pairs).Need =
     found_as
     (λ a x. Contains pairs (a, x)
@@ -300,8 +300,8 @@ way_decided es pairs way =
     (kept_edges (λ a x. Contains (numbers is_load 0 es) a × Contains (numbers is_store 0 es) x)
     (λ a x. both_decided (member_decided (numbers is_load 0 es) a)
     (member_decided (numbers is_store 0 es) x)) pairs) in
-    let all : Found (Union (accesses_in es pairs).Need (ReadsFrom (numbers is_load 0 es) way)) = union_edges (accesses_in es pairs).Need (ReadsFrom (numbers is_load 0 es) way) need (reads_edges (numbers is_load 0 es) way) in
-    finite_decided (Union (accesses_in es pairs).Need (ReadsFrom (numbers is_load 0 es) way))
+    let all : Found (Union (accesses_in es pairs).Need (ReadsFrom (numbers is_load 0 es) reads_from)) = union_edges (accesses_in es pairs).Need (ReadsFrom (numbers is_load 0 es) reads_from) need (reads_edges (numbers is_load 0 es) reads_from) in
+    finite_decided (Union (accesses_in es pairs).Need (ReadsFrom (numbers is_load 0 es) reads_from))
     all.edges all.there all.back
 
 -- a filter by a fact that is decided
@@ -322,12 +322,12 @@ combined n [] = ([], nothing_left)
 combined n (b ∷ bs) =
     go
     (filtered (IsReadChoice (accesses_in b.combination.events b.needs))
-    (way_decided b.combination.events b.needs) (tuples []
+    (read_choice_decided b.combination.events b.needs) (tuples []
     (accesses_in b.combination.events b.needs).sources))
     (combined n bs)
   where
-    go : ((ways : List (List ℕ)) × AreReadChoices b.combination.events b.needs ways)
+    go : ((choices : List (List ℕ)) × AreReadChoices b.combination.events b.needs choices)
         → ((cs : List CombinationLists) × AreCombinations n bs cs)
         → (cs : List CombinationLists) × AreCombinations n (b ∷ bs) cs
     go ([], are) rest = (rest.0, without are rest.1)
-    go ((w ∷ ws), are) rest = (_, with_ways are rest.1)
+    go ((w ∷ ws), are) rest = (_, with_read_choices are rest.1)

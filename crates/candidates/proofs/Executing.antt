@@ -1,4 +1,4 @@
--- The executions of one choice of runs: each way to read with each order of the stores.
+-- The executions of one choice of runs: each read choice with each order of the stores.
 use Rattle.std.proofs.Common.{ℕ, ◌≡◌, ◌<◌, ◌≤◌, ◌+◌, ◌&&◌, Bool, true, false, cond, nat_eq, List, [], ◌∷◌, ◌++◌, map, length, Option, Some, None, is_some, refl, ap, sym, ◌∙◌, inl, inr, arith, eq-eqb, Contains}
 use Rattle.std.specs.List.{flat_map, AllZip}
 use Rattle.std.proofs.lemmas.Bool.{cases_eq}
@@ -16,7 +16,7 @@ use Rattle.candidates.specs.Listed.{ChoosesApart, IsReadsFrom, IsCoherence}
 use Rattle.run_combinations.specs.Lists.{IsFiltered}
 use Rattle.run_combinations.specs.Events.{numbers, has_store, is_store_to, thread_events, with_action, action_in, initial_stores, ReadsFrom}
 use Rattle.run_combinations.specs.Orders.{orders_of, is_thread_store}
-use Rattle.run_combinations.specs.Ways.{AreReadChoices, accesses_in}
+use Rattle.run_combinations.specs.ReadChoices.{AreReadChoices, accesses_in}
 use Rattle.run_combinations.specs.declared.combination.Action.{Action}
 use Rattle.run_combinations.specs.declared.combination.Event.{Event}
 
@@ -153,35 +153,35 @@ module _ (initial : List Value) (runs : List Run) where
 
   -- an execution of these runs
   abbrev pub executed_so : List ℕ → List (List ℕ) → Execution
-  executed_so way order = record { runs = runs; reads_from = way; coherence = order }
+  executed_so reads_from coherence = record { runs = runs; reads_from = reads_from; coherence = coherence }
 
-  -- the executions among all that can be put together of these runs: each way to read with each
+  -- the executions among all that can be put together of these runs: each read choice with each
   -- order of the stores
   pub executions_found : (threads : List Thread) (V : List Value) (pairs : List (ℕ × ℕ))
       → AllZip (λ t r. IsThreadRun t (Contains V) r) threads runs
       → ((a b : ℕ) → IsDependency IsNeed initial runs a b
       → (accesses_in (events initial runs) pairs).Need a b)
       → ((a b : ℕ) → (accesses_in (events initial runs) pairs).Need a b
-      → IsDependency IsNeed initial runs a b) → (ways : List (List ℕ))
-      → AreReadChoices (events initial runs) pairs ways
+      → IsDependency IsNeed initial runs a b) → (choices : List (List ℕ))
+      → AreReadChoices (events initial runs) pairs choices
       → IsFiltered (IsExecution initial threads (Contains V)) (over_runs initial runs)
       (flat_map
-      (λ way. map (executed_so way) (product (orders_at (events initial runs) initial)))
-      ways)
-  executions_found threads V pairs are there back ways found =
+      (λ reads_from. map (executed_so reads_from) (product (orders_at (events initial runs) initial)))
+      choices)
+  executions_found threads V pairs are there back choices found =
       filter_of_product
-      (λ way. AllZip (MayRead (events initial runs)) (loads (events initial runs)) way
+      (λ reads_from. AllZip (MayRead (events initial runs)) (loads (events initial runs)) reads_from
       × IsAcyclic (Union (IsDependency IsNeed initial runs)
-      (ReadsFrom (loads (events initial runs)) way)))
+      (ReadsFrom (loads (events initial runs)) reads_from)))
       (AllZip (IsStoreOrder (events initial runs)) (locations_from 0 initial))
       (IsExecution initial threads (Contains V)) executed_so
-      (λ way order. (
+      (λ reads_from coherence. (
         (λ x. ((x.reads, x.acyclic), x.orders)),
         (λ p. record { runs = are; reads = p.0.0; orders = p.1; acyclic = p.0.1 }),
       ))
-      (read_choices (events initial runs)) ways (orders (events initial runs) initial)
+      (read_choices (events initial runs)) choices (orders (events initial runs) initial)
       (product (orders_at (events initial runs) initial))
-      (reads_found (events initial runs) pairs (IsDependency IsNeed initial runs) there back ways
+      (reads_found (events initial runs) pairs (IsDependency IsNeed initial runs) there back choices
       found) orders_filtered
 
 -- reads-from and coherence are chosen apart
@@ -190,7 +190,7 @@ pub chosen_apart : (initial : List Value) (threads : List Thread) (V : List Valu
 chosen_apart initial threads V runs reads coherences are r o =
     filter_of_product (IsReadsFrom initial runs) (IsCoherence initial runs)
     (IsExecution initial threads (Contains V)) (executed_so initial runs)
-    (λ way order. (
+    (λ reads_from coherence. (
       (λ x. ((x.reads, x.acyclic), x.orders)),
       (λ p. record { runs = are; reads = p.0.0; orders = p.1; acyclic = p.0.1 }),
     ))

@@ -385,7 +385,7 @@ abbrev pub addr : Listed
 addr =
     record {
       Related = IsAddr;
-      own = λ l. l.dependencies.addr_pairs.items;
+      own = λ l. l.addr_pairs.items;
       all = λ b. b.combination.dependencies.addr_pairs;
       listed = λ at l a. a.addr;
       grows = λ at p b. refl;
@@ -397,7 +397,7 @@ abbrev pub data_listed : Listed
 data_listed =
     record {
       Related = IsData;
-      own = λ l. l.dependencies.data_pairs.items;
+      own = λ l. l.data_pairs.items;
       all = λ b. b.combination.dependencies.data_pairs;
       listed = λ at l a. a.«data»;
       grows = λ at p b. refl;
@@ -409,7 +409,7 @@ abbrev pub ctrl : Listed
 ctrl =
     record {
       Related = IsCtrl;
-      own = λ l. l.dependencies.ctrl_pairs.items;
+      own = λ l. l.ctrl_pairs.items;
       all = λ b. b.combination.dependencies.ctrl_pairs;
       listed = λ at l a. a.ctrl;
       grows = λ at p b. refl;
@@ -421,7 +421,7 @@ abbrev pub ctrlisync : Listed
 ctrlisync =
     record {
       Related = IsCtrlIsync;
-      own = λ l. l.dependencies.ctrlisync_pairs.items;
+      own = λ l. l.ctrlisync_pairs.items;
       all = λ b. b.combination.dependencies.ctrlisync_pairs;
       listed = λ at l a. a.ctrlisync;
       grows = λ at p b. refl;

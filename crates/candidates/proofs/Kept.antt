@@ -12,7 +12,7 @@ use Rattle.thread_runs.specs.declared.instruction.Program.{Program}
 use Rattle.thread_runs.specs.declared.run.Run as made
 use Rattle.thread_runs.specs.Runs.{Thread, Run, IsThreadRun, AreThreadRuns, walk_at}
 use Rattle.thread_runs.specs.AllRuns.{ShownRun, run_shown, shown_run, lines_at, thread_of}
-use Rattle.thread_runs.specs.Held.{AreLeft, IsUnserved, ShowsServed}
+use Rattle.thread_runs.specs.LocationValues.{AreLeft, IsUnserved, ShowsServed}
 use Rattle.thread_runs.proofs.Serving.{left_contains}
 use Rattle.ppc_semantics.specs.Domain.{has_event, IsDomain, threads_from, threads_of}
 use Rattle.candidates.proofs.Choosing.{runs_in}

@@ -1,4 +1,4 @@
--- The combinations that are found, with their ways and orders, are just the executions.
+-- The combinations that are found, with their read choices and orders, are just the executions.
 use Rattle.std.proofs.Common.{ℕ, ◌≡◌, ◌≤◌, false, length, List, [], ◌∷◌, ◌++◌, map, ap, subst, ◌∙◌, inl, inr, arith, Contains}
 use Rattle.std.specs.List.{flat_map, AllZip}
 use Rattle.bit_relations.specs.Pairs.{Union, IsAcyclic}
@@ -14,16 +14,16 @@ use Rattle.candidates.proofs.Kept.{AreOne, one_run_each, same_events}
 use Rattle.candidates.proofs.Needs.{needs_are}
 use Rattle.run_combinations.proofs.Filters.{IsFiltered-append}
 use Rattle.candidates.proofs.Products.{filter_of_product}
-use Rattle.run_combinations.proofs.Pruning.{no_ways}
+use Rattle.run_combinations.proofs.Pruning.{no_read_choices}
 use Rattle.candidates.proofs.ReadsFrom.{reads_found, acyclic_as}
 use Rattle.run_combinations.specs.declared.layout.ThreadParts.{ThreadParts}
-use Rattle.run_combinations.specs.Candidates.{AreSmall, AreCombinations, nothing_left, with_ways, without}
+use Rattle.run_combinations.specs.Candidates.{AreSmall, AreCombinations, nothing_left, with_read_choices, without}
 use Rattle.candidates.specs.Executions.{Execution, IsExecution, IsDependency, IsStoreOrder, MayRead, product, read_choices, orders, over_runs, loads, locations_from, events}
 use Rattle.run_combinations.specs.Lists.{IsFiltered, none, left}
 use Rattle.run_combinations.specs.Events.{initial_stores, ReadsFrom, CannotRead}
 use Rattle.run_combinations.specs.Search.{PrefixLists, initial_prefix}
 use Rattle.run_combinations.specs.Combinations.{CombinationLists, ordered}
-use Rattle.run_combinations.specs.Ways.{AreReadChoices, accesses_in}
+use Rattle.run_combinations.specs.ReadChoices.{AreReadChoices, accesses_in}
 use Rattle.run_combinations.specs.declared.combination.Event.{Event}
 
 -- a filter that keeps nothing keeps nothing of what is less
@@ -37,15 +37,15 @@ none_of_less P Q less (x ∷ xs) (left fails f) =
 abbrev events_alone : List Event → PrefixLists
 events_alone es = record {
   combination =
-      record { events = es; dependencies = no_dependencies; runs = []; sources = []; orders = [] };
+      record { events = es; dependencies = no_dependencies; runs = []; reads_from = []; orders = [] };
   needs = [];
   faulted = false;
 }
 
--- a way to read that has no cycle with these needs
+-- a read choice that has no cycle with these needs
 abbrev Reading : List Event → (ℕ → ℕ → Type 0) → List ℕ → Type 0
-Reading es Need way =
-    AllZip (MayRead es) (loads es) way × IsAcyclic (Union Need (ReadsFrom (loads es) way))
+Reading es Need reads_from =
+    AllZip (MayRead es) (loads es) reads_from × IsAcyclic (Union Need (ReadsFrom (loads es) reads_from))
 
 no_need : (es : List Event) (a b : ℕ) → (accesses_in es []).Need a b → ⊥
 no_need es a b n = let c : Contains [] (a, b) = n.0 in omega (arith, c.1)
@@ -58,7 +58,7 @@ none_executed initial threads V rs are stuck =
     filter_of_product (Reading (events initial rs) (IsDependency IsNeed initial rs))
     (AllZip (IsStoreOrder (events initial rs)) (locations_from 0 initial))
     (IsExecution initial threads (Contains V)) (executed_so initial rs)
-    (λ way order. (
+    (λ reads_from coherence. (
       (λ x. ((x.reads, x.acyclic), x.orders)),
       (λ p. record { runs = are; reads = p.0.0; orders = p.1; acyclic = p.0.1 }),
     ))
@@ -66,13 +66,13 @@ none_executed initial threads V rs are stuck =
     (product (orders_at (events initial rs) initial))
     (none_of_less (Reading (events initial rs) (accesses_in (events initial rs) []).Need)
     (Reading (events initial rs) (IsDependency IsNeed initial rs))
-    (λ way h. (
+    (λ reads_from h. (
       h.0,
       acyclic_as
           (Union (accesses_in (events initial rs) []).Need
-          (ReadsFrom (loads (events initial rs)) way))
+          (ReadsFrom (loads (events initial rs)) reads_from))
           (Union (IsDependency IsNeed initial rs)
-          (ReadsFrom (loads (events initial rs)) way))
+          (ReadsFrom (loads (events initial rs)) reads_from))
           (λ a b u. elim u [
             | inl n ↦ absurd (no_need (events initial rs) a b n)
             | inr y ↦ inr
@@ -81,10 +81,10 @@ none_executed initial threads V rs are stuck =
     ))
     (read_choices (events initial rs)) (reads_found (events initial rs) []
     (accesses_in (events initial rs) []).Need (λ a b n. n) (λ a b n. n) []
-    (no_ways stuck.0 stuck.1 (events_alone (events initial rs)) (stuck.2, stuck.3))))
+    (no_read_choices stuck.0 stuck.1 (events_alone (events initial rs)) (stuck.2, stuck.3))))
     (orders_filtered initial rs)
 
--- one combination of runs, with its ways to read, and the executions that these make with the
+-- one combination of runs, with its read choices, and the executions that these make with the
 -- orders of the stores
 pub record IsListed (n : ℕ) (initial : List Value) (threads : List Thread) (V : List Value)
     (ts : List ThreadParts) (b : PrefixLists) (rs : List Run) : Type 0 where
@@ -94,21 +94,21 @@ pub record IsListed (n : ℕ) (initial : List Value) (threads : List Thread) (V 
   pub few : length b.combination.events ≤ 128
   pub events : b.combination.events ≡ events initial rs
 
--- the executions are those of these combinations, one after another: each way to read with each
+-- the executions are those of these combinations, one after another: each read choice with each
 -- order of the stores
 pub data AreListed (n : ℕ) (initial : List Value) (threads : List Thread) (V : List Value)
     (ts : List ThreadParts)
     : List PrefixLists → List CombinationLists → List Execution → Type 0 where
   no_more : AreListed n initial threads V ts [] [] []
   one_more : {b : PrefixLists} {bs : List PrefixLists} {cs : List CombinationLists}
-      {xs : List Execution} {way : List ℕ} {ways : List (List ℕ)} (rs : List Run)
-      → IsListed n initial threads V ts b rs → AreReadChoices b.combination.events b.needs (way ∷ ways)
+      {xs : List Execution} {reads_from : List ℕ} {choices : List (List ℕ)} (rs : List Run)
+      → IsListed n initial threads V ts b rs → AreReadChoices b.combination.events b.needs (reads_from ∷ choices)
       → AreListed n initial threads V ts bs cs xs
       → AreListed n initial threads V ts (b ∷ bs)
-      (ordered n (record b.combination { sources = way ∷ ways }) ∷ cs) (flat_map
+      (ordered n (record b.combination { reads_from = reads_from ∷ choices }) ∷ cs) (flat_map
       (λ w. map (executed_so initial rs w)
       (product (orders_at (events initial rs) initial)))
-      (way ∷ ways) ++ xs)
+      (reads_from ∷ choices) ++ xs)
   not_one : {b : PrefixLists} {bs : List PrefixLists} {cs : List CombinationLists}
       {xs : List Execution} → AreReadChoices b.combination.events b.needs []
       → AreListed n initial threads V ts bs cs xs → AreListed n initial threads V ts (b ∷ bs) cs xs
@@ -138,18 +138,18 @@ module _ (n : ℕ) (initial : List Value) (threads : List Thread) (V : List Valu
         (same_events V threads 0 ms rs one);
   }
 
-  executions_of : (b : PrefixLists) (rs : List Run) (ways : List (List ℕ))
-      → IsListed n initial threads V ts b rs → AreReadChoices b.combination.events b.needs ways
+  executions_of : (b : PrefixLists) (rs : List Run) (choices : List (List ℕ))
+      → IsListed n initial threads V ts b rs → AreReadChoices b.combination.events b.needs choices
       → IsFiltered (IsExecution initial threads (Contains V)) (over_runs initial rs)
       (flat_map
       (λ w.
       map (executed_so initial rs w) (product (orders_at (events initial rs) initial)))
-      ways)
-  executions_of b rs ways i are =
+      choices)
+  executions_of b rs choices i are =
       executions_found initial rs threads V b.needs (one_run_each V threads i.made rs i.one)
       (λ x y. (needs_are V threads ts i.made rs initial b i.one i.goes i.few x y).0)
-      (λ x y. (needs_are V threads ts i.made rs initial b i.one i.goes i.few x y).1) ways
-      (subst (λ (l : List Event). AreReadChoices l b.needs ways) i.events are)
+      (λ x y. (needs_are V threads ts i.made rs initial b i.one i.goes i.few x y).1) choices
+      (subst (λ (l : List Event). AreReadChoices l b.needs choices) i.events are)
 
   pub all_listed : (mss : List (List made.Run)) (rss : List (List Run)) (bs : List PrefixLists)
       (cs : List CombinationLists) → AllZip (AreOne V threads) mss rss
@@ -172,15 +172,15 @@ module _ (n : ℕ) (initial : List Value) (threads : List Thread) (V : List Valu
         listed = rest.listed;
       }
   all_listed (ms ∷ mss) (rs ∷ rss) (b ∷ bs) cs same (next g h) small
-      (with_ways {cs = ds} {way = way} {ways = ways} are k) =
+      (with_read_choices {cs = ds} {reads_from = reads_from} {read_choices = choices} are k) =
       let rest : Listing n initial threads V ts bs ds rss = all_listed mss rss bs ds same.1 h small.1 k in
       let i : IsListed n initial threads V ts b rs = one_listed ms rs b same.0 g small.0 in
-      let own : List Execution = flat_map (λ w. map (executed_so initial rs w) (product (orders_at (events initial rs) initial))) (way ∷ ways) in
+      let own : List Execution = flat_map (λ w. map (executed_so initial rs w) (product (orders_at (events initial rs) initial))) (reads_from ∷ choices) in
       record {
         all = own ++ rest.all;
         executions =
             IsFiltered-append (IsExecution initial threads (Contains V)) (over_runs initial rs) own
-            (flat_map (over_runs initial) rss) rest.all (executions_of b rs (way ∷ ways) i are)
+            (flat_map (over_runs initial) rss) rest.all (executions_of b rs (reads_from ∷ choices) i are)
             rest.executions;
         listed = one_more rs i are rest.listed;
       }

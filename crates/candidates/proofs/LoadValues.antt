@@ -7,9 +7,9 @@ use Rattle.std.proofs.lemmas.Option.{same_Some}
 use Rattle.thread_runs.specs.declared.value.Value.{Value}
 use Rattle.thread_runs.specs.declared.value.Value.TheVariants.{NoValue}
 use Rattle.thread_runs.specs.declared.instruction.Event as run
-use Rattle.thread_runs.specs.declared.instruction.Event.TheVariants.{Reads, Writes, Orders}
+use Rattle.thread_runs.specs.declared.instruction.Event.TheVariants as run_event
 use Rattle.thread_runs.specs.declared.instruction.Instruction.{Instruction}
-use Rattle.thread_runs.specs.declared.instruction.Instruction.TheVariants.{Immediate, Move, AddImmediate, Operate, Load, LoadIndexed, Store, StoreIndexed, Compare, CompareImmediate, Branch, Jump, Barrier}
+use Rattle.thread_runs.specs.declared.instruction.Instruction.TheVariants.{Immediate, Move, AddImmediate, Operate, Load, LoadIndexed, Store, StoreIndexed, Compare, CompareImmediate, Branch, Jump, Fence}
 use Rattle.thread_runs.specs.declared.instruction.Line.{Line}
 use Rattle.thread_runs.specs.declared.instruction.Line.TheVariants.{Label, Does}
 use Rattle.thread_runs.specs.declared.state.State.{State}
@@ -20,15 +20,15 @@ use Rattle.ppc_semantics.specs.Domain.{has_load}
 -- the values that events read
 abbrev pub read_in : List run.Event → List Value
 read_in [] = []
-read_in (Reads a v ∷ es) = v ∷ read_in es
-read_in (Writes a v ∷ es) = read_in es
-read_in (Orders f ∷ es) = read_in es
+read_in (run_event.Load a v ∷ es) = v ∷ read_in es
+read_in (run_event.Store a v ∷ es) = read_in es
+read_in (run_event.Fence f ∷ es) = read_in es
 
 read_both : (es fs : List run.Event) → read_in (es ++ fs) ≡ read_in es ++ read_in fs
 read_both [] fs = refl
-read_both (Reads a v ∷ es) fs = ap (λ (l : List Value). v ∷ l) (read_both es fs)
-read_both (Writes a v ∷ es) fs = read_both es fs
-read_both (Orders f ∷ es) fs = read_both es fs
+read_both (run_event.Load a v ∷ es) fs = ap (λ (l : List Value). v ∷ l) (read_both es fs)
+read_both (run_event.Store a v ∷ es) fs = read_both es fs
+read_both (run_event.Fence f ∷ es) fs = read_both es fs
 
 abbrev given : Bool → Value → List Value
 given true v = v ∷ []
@@ -48,7 +48,7 @@ event_reads (Compare a b) v s = refl
 event_reads (CompareImmediate a n) v s = refl
 event_reads (Branch c l) v s = refl
 event_reads (Jump l) v s = refl
-event_reads (Barrier f) v s = refl
+event_reads (Fence f) v s = refl
 
 -- an instruction that is no load adds nothing
 pub read_more : (es : List run.Event) (i : Instruction) (v : Value) (s : State) → is_load i ≡ false

@@ -4,7 +4,7 @@ use Rattle.std.specs.List.{AllZip}
 use Rattle.std.proofs.lemmas.Option.{same_Some}
 use Rattle.thread_runs.specs.declared.value.Value.{Value}
 use Rattle.thread_runs.specs.declared.instruction.Instruction.{Instruction}
-use Rattle.thread_runs.specs.declared.instruction.Instruction.TheVariants.{Immediate, Move, AddImmediate, Operate, Load, LoadIndexed, Store, StoreIndexed, Compare, CompareImmediate, Branch, Jump, Barrier}
+use Rattle.thread_runs.specs.declared.instruction.Instruction.TheVariants.{Immediate, Move, AddImmediate, Operate, Load, LoadIndexed, Store, StoreIndexed, Compare, CompareImmediate, Branch, Jump, Fence}
 use Rattle.thread_runs.specs.declared.run.Run as made
 use Rattle.thread_runs.specs.Machine.{is_load as loads_from}
 use Rattle.thread_runs.specs.Runs.{Thread, Run, IsThreadRun, executed}
@@ -15,10 +15,10 @@ use Rattle.candidates.proofs.Facts.{need, facts}
 use Rattle.candidates.proofs.Kept.{AreOne, one_run_each}
 use Rattle.candidates.proofs.StepEvents.{Stands, events_stand}
 use Rattle.run_combinations.proofs.Numbers.{number_there}
-use Rattle.run_combinations.specs.Events.{thread_events, initial_stores, is_load, is_store, makes_store}
+use Rattle.run_combinations.specs.Events.{thread_events, initial_stores, is_load, is_store, is_store_instruction}
 use Rattle.candidates.specs.Executions.{IsDependency, loads, stores, events, events_from}
 use Rattle.run_combinations.specs.Search.{PrefixLists, initial_prefix}
-use Rattle.run_combinations.specs.Ways.{accesses_in}
+use Rattle.run_combinations.specs.ReadChoices.{accesses_in}
 use Rattle.run_combinations.specs.declared.combination.Event.{Event}
 use Rattle.run_combinations.specs.declared.layout.ThreadParts.{ThreadParts}
 
@@ -67,7 +67,7 @@ load_is (Load d a) e = refl
 load_is (LoadIndexed d a b) e = refl
 load_is (Store d a) e = refl
 load_is (StoreIndexed d a b) e = refl
-load_is (Barrier f) e = refl
+load_is (Fence f) e = refl
 load_is (Immediate d n) e = absurd cc
 load_is (Move d a) e = absurd cc
 load_is (AddImmediate d a n) e = absurd cc
@@ -78,12 +78,12 @@ load_is (Branch c l) e = absurd cc
 load_is (Jump l) e = absurd cc
 
 store_is : (i : Instruction) (p : Resource) → IsStoredRegister i p
-    → (makes_store i ≡ true) × (is_event i ≡ true)
+    → (is_store_instruction i ≡ true) × (is_event i ≡ true)
 store_is (Store d a) p h = (refl, refl)
 store_is (StoreIndexed d a b) p h = (refl, refl)
 store_is (Load d a) p h = absurd h
 store_is (LoadIndexed d a b) p h = absurd h
-store_is (Barrier f) p h = absurd h
+store_is (Fence f) p h = absurd h
 store_is (Immediate d n) p h = absurd h
 store_is (Move d a) p h = absurd h
 store_is (AddImmediate d a n) p h = absurd h
@@ -128,7 +128,7 @@ module _ (P : Value → Type 0) (threads : List Thread) (initial : List Value) (
   needing_store : (x y : ℕ) → IsDependency IsNeed initial rs x y
       → Contains (stores (events initial rs)) y
   needing_store x y h =
-      let k : (makes_store (executed h.run.outcome.walk.steps h.second) ≡ true) × (is_event (executed h.run.outcome.walk.steps h.second) ≡ true) = store_is (executed h.run.outcome.walk.steps h.second) h.related.1.0 h.related.1.1 in
+      let k : (is_store_instruction (executed h.run.outcome.walk.steps h.second) ≡ true) × (is_event (executed h.run.outcome.walk.steps h.second) ≡ true) = store_is (executed h.run.outcome.walk.steps h.second) h.related.1.0 h.related.1.1 in
       let s : Stands h.thread h.run.outcome.walk.steps h.run.outcome.walk.events h.second = stands h.thread h.run h.second h.its_run k.1 in
       let z : 0 + (length (events initial (take h.thread rs)) + event_index (executed h.run.outcome.walk.steps) h.second) ≡ length (events initial (take h.thread rs)) + event_index (executed h.run.outcome.walk.steps) h.second = omega arith in
       subst (λ (k : ℕ). Contains (stores (events initial rs)) k) (z ∙ sym h.to)

@@ -15,7 +15,7 @@ use Rattle.text_values.specs.declared.test.Value.TheVariants as values
 use Rattle.thread_runs.specs.declared.value.Value.{Value}
 use Rattle.thread_runs.specs.declared.value.Value.TheVariants.{Number, Address, NoValue}
 use Rattle.thread_runs.specs.declared.instruction.Instruction.{Instruction}
-use Rattle.thread_runs.specs.declared.instruction.Instruction.TheVariants.{Immediate, Move, AddImmediate, Operate, Load, LoadIndexed, Store, StoreIndexed, Compare, CompareImmediate, Branch, Jump, Barrier}
+use Rattle.thread_runs.specs.declared.instruction.Instruction.TheVariants.{Immediate, Move, AddImmediate, Operate, Load, LoadIndexed, Store, StoreIndexed, Compare, CompareImmediate, Branch, Jump, Fence}
 use Rattle.thread_runs.specs.declared.instruction.Line.{Line}
 use Rattle.thread_runs.specs.declared.instruction.Program.{Program}
 use Rattle.thread_runs.specs.declared.state.State.{State}
@@ -125,7 +125,7 @@ after_quiet (Compare a b) v s sound h = (refl, h)
 after_quiet (CompareImmediate a n) v s sound h = (refl, h)
 after_quiet (Branch c l) v s sound h = (refl, h)
 after_quiet (Jump l) v s sound h = (refl, h)
-after_quiet (Barrier f) v s sound h = (refl, h)
+after_quiet (Fence f) v s sound h = (refl, h)
 
 quiet_more : (i : Instruction) (b : Bool) (v : Value) (w : Walk) → is_fault i w.state ≡ false
     → IsQuiet w → IsQuiet (walk_after i b v w)

@@ -10,18 +10,15 @@ use Rattle.thread_runs.specs.Runs.{Thread, Run, InDomain, IsLess}
 use Rattle.thread_runs.specs.AllRuns.{HasRuns}
 use Rattle.thread_runs.specs.FreeRuns.{HasFreeRuns, IsOtherFreeRun}
 use Rattle.ppc_semantics.specs.Domain.{threads_of, load_total, IsDomain, IsFirstFailure, IsDomainRefusal, IsDomainAt, IsBoundedRound, InDomainAt, HasManyValues, HasManyRuns, HasCombinations}
-use Rattle.ppc_semantics.specs.declared.fault.DomainRefusal.{DomainRefusal}
-use Rattle.ppc_semantics.specs.declared.fault.DomainRefusal.TheVariants as no_domain
 use Rattle.candidates.proofs.Elements.{member_cases, member_first, member_later}
 use Rattle.candidates.proofs.OneProgram.{Alike, programs_alike, test_executions_one}
 use Rattle.candidates.proofs.Sole.{first_rises, rest_rises, same_rising, less_apart, runs_sole}
 use Rattle.candidates.specs.Executions.{Execution}
-use Rattle.candidates.specs.Faults.{space_refusal_of}
 use Rattle.candidates.specs.Listed.{AreTestExecutions, ListsExecutions, HasManyExecutions, HasFaultedExecution, HasNoDomain, IsSpaceRefusal}
-use Rattle.candidates.specs.Laws.{HasOneSpaceOrRefusal}
+use Rattle.candidates.specs.Laws.{HasOneDomainOrRefusal, HasOneSpaceOrRefusal}
 use Rattle.candidates.specs.declared.candidate.Space.{Space}
-use Rattle.candidates.specs.declared.fault.EvalRefusal.{EvalRefusal}
-use Rattle.candidates.specs.declared.fault.EvalRefusal.TheVariants.{TooManyEvents, TooManyValues, TooManyRuns, TooManyCandidates, AddressFault, TooManyCombinations}
+use Rattle.ppc_semantics.specs.declared.fault.EvalRefusal.{EvalRefusal}
+use Rattle.ppc_semantics.specs.declared.fault.EvalRefusal.TheVariants.{TooManyEvents, TooManyValues, TooManyRuns, TooManyCandidates, AddressFault, TooManyCombinations}
 
 -- a list without one element
 pub without : {X : Type 0} → List X → ℕ → List X
@@ -121,49 +118,61 @@ combinations_counted (t ∷ ts) V m n h k =
     ∙ ap (λ (i : ℕ). k.0 * i) (combinations_counted ts V h.1 k.1 h.3 k.3) ∙ sym k.4
 
 -- a program has a domain, or one refusal
-domain_or_refused : (p : Program) (V : List Value) (r : DomainRefusal) → IsDomain p V
+domain_or_refused : (p : Program) (V : List Value) (r : EvalRefusal) → IsDomain p V
     → IsDomainRefusal p r → ⊥
-domain_or_refused p V no_domain.TooManyEvents d h = omega (arith, d.events, h)
-domain_or_refused p V no_domain.TooManyValues d h =
+domain_or_refused p V TooManyEvents d h = omega (arith, d.events, h)
+domain_or_refused p V TooManyValues d h =
     all_within p HasManyValues (within_values p) d.rounds h.0 h.1
-domain_or_refused p V no_domain.TooManyRuns d h =
+domain_or_refused p V TooManyRuns d h =
     all_within p HasManyRuns (within_runs p) d.rounds h.0 h.1
-domain_or_refused p V no_domain.TooManyCombinations d h =
+domain_or_refused p V TooManyCombinations d h =
     let e : h.values ≡ V = round_one p (load_total p) h.values V h.last d.last in
     let same : h.combinations ≡ d.combinations.0 = combinations_counted (threads_of p) V h.combinations d.combinations.0 (subst (λ (W : List Value). HasCombinations (threads_of p) W h.combinations) e h.counted) d.combinations.1 in
     omega (arith, same, h.many, d.combinations.2)
+domain_or_refused p V TooManyCandidates d h = absurd h
+domain_or_refused p V AddressFault d h = absurd h
 
-one_refused : (p : Program) (q r : DomainRefusal) → IsDomainRefusal p q → IsDomainRefusal p r → q ≡ r
-one_refused p no_domain.TooManyEvents no_domain.TooManyEvents h k = refl
-one_refused p no_domain.TooManyEvents no_domain.TooManyValues h k =
+one_refused : (p : Program) (q r : EvalRefusal) → IsDomainRefusal p q → IsDomainRefusal p r → q ≡ r
+one_refused p TooManyEvents TooManyEvents h k = refl
+one_refused p TooManyEvents TooManyValues h k =
     absurd (omega (arith, h, k.1.events))
-one_refused p no_domain.TooManyEvents no_domain.TooManyRuns h k =
+one_refused p TooManyEvents TooManyRuns h k =
     absurd (omega (arith, h, k.1.events))
-one_refused p no_domain.TooManyEvents no_domain.TooManyCombinations h k =
+one_refused p TooManyEvents TooManyCombinations h k =
     absurd (omega (arith, h, k.events))
-one_refused p no_domain.TooManyValues no_domain.TooManyEvents h k =
+one_refused p TooManyValues TooManyEvents h k =
     absurd (omega (arith, k, h.1.events))
-one_refused p no_domain.TooManyValues no_domain.TooManyValues h k = refl
-one_refused p no_domain.TooManyValues no_domain.TooManyRuns h k =
+one_refused p TooManyValues TooManyValues h k = refl
+one_refused p TooManyValues TooManyRuns h k =
     absurd (one_first p HasManyValues HasManyRuns (within_values p) (within_runs p)
     (values_or_runs p) h.0 k.0 h.1 k.1)
-one_refused p no_domain.TooManyValues no_domain.TooManyCombinations h k =
+one_refused p TooManyValues TooManyCombinations h k =
     absurd (all_within p HasManyValues (within_values p) k.rounds h.0 h.1)
-one_refused p no_domain.TooManyRuns no_domain.TooManyEvents h k =
+one_refused p TooManyRuns TooManyEvents h k =
     absurd (omega (arith, k, h.1.events))
-one_refused p no_domain.TooManyRuns no_domain.TooManyValues h k =
+one_refused p TooManyRuns TooManyValues h k =
     absurd (one_first p HasManyValues HasManyRuns (within_values p) (within_runs p)
     (values_or_runs p) k.0 h.0 k.1 h.1)
-one_refused p no_domain.TooManyRuns no_domain.TooManyRuns h k = refl
-one_refused p no_domain.TooManyRuns no_domain.TooManyCombinations h k =
+one_refused p TooManyRuns TooManyRuns h k = refl
+one_refused p TooManyRuns TooManyCombinations h k =
     absurd (all_within p HasManyRuns (within_runs p) k.rounds h.0 h.1)
-one_refused p no_domain.TooManyCombinations no_domain.TooManyEvents h k =
+one_refused p TooManyCombinations TooManyEvents h k =
     absurd (omega (arith, k, h.events))
-one_refused p no_domain.TooManyCombinations no_domain.TooManyValues h k =
+one_refused p TooManyCombinations TooManyValues h k =
     absurd (all_within p HasManyValues (within_values p) h.rounds k.0 k.1)
-one_refused p no_domain.TooManyCombinations no_domain.TooManyRuns h k =
+one_refused p TooManyCombinations TooManyRuns h k =
     absurd (all_within p HasManyRuns (within_runs p) h.rounds k.0 k.1)
-one_refused p no_domain.TooManyCombinations no_domain.TooManyCombinations h k = refl
+one_refused p TooManyCombinations TooManyCombinations h k = refl
+one_refused p TooManyEvents TooManyCandidates h k = absurd k
+one_refused p TooManyEvents AddressFault h k = absurd k
+one_refused p TooManyValues TooManyCandidates h k = absurd k
+one_refused p TooManyValues AddressFault h k = absurd k
+one_refused p TooManyRuns TooManyCandidates h k = absurd k
+one_refused p TooManyRuns AddressFault h k = absurd k
+one_refused p TooManyCombinations TooManyCandidates h k = absurd k
+one_refused p TooManyCombinations AddressFault h k = absurd k
+one_refused p TooManyCandidates r h k = absurd h
+one_refused p AddressFault r h k = absurd h
 
 -- two programs of a test are refused alike
 module _ (p q : Program) (a : Alike p q) where
@@ -226,11 +235,11 @@ module _ (p q : Program) (a : Alike p q) where
     many = h.many;
   }
 
-  refused_alike : (r : DomainRefusal) → IsDomainRefusal p r → IsDomainRefusal q r
-  refused_alike no_domain.TooManyEvents h = omega (arith, h, a.events)
-  refused_alike no_domain.TooManyValues h = (h.0, first_alike HasManyValues values_alike h.0 h.1)
-  refused_alike no_domain.TooManyRuns h = (h.0, first_alike HasManyRuns runs_alike h.0 h.1)
-  refused_alike no_domain.TooManyCombinations h = record {
+  refused_alike : (r : EvalRefusal) → IsDomainRefusal p r → IsDomainRefusal q r
+  refused_alike TooManyEvents h = omega (arith, h, a.events)
+  refused_alike TooManyValues h = (h.0, first_alike HasManyValues values_alike h.0 h.1)
+  refused_alike TooManyRuns h = (h.0, first_alike HasManyRuns runs_alike h.0 h.1)
+  refused_alike TooManyCombinations h = record {
     events = omega (arith, h.events, a.events);
     rounds = rounds_alike h.rounds;
     values = h.values;
@@ -243,17 +252,32 @@ module _ (p q : Program) (a : Alike p q) where
         h.counted;
     many = h.many;
   }
+  refused_alike TooManyCandidates h = absurd h
+  refused_alike AddressFault h = absurd h
 
 -- of a test
-executions_or_refused : (t : Test) (i : List Value) (xs : List Execution) (d : DomainRefusal)
+executions_or_refused : (t : Test) (i : List Value) (xs : List Execution) (d : EvalRefusal)
     → AreTestExecutions t i xs → HasNoDomain t d → ⊥
 executions_or_refused t i xs d h k =
     domain_or_refused h.program h.values d h.domain (refused_alike k.0 h.program
     (programs_alike t k.0 h.program k.1 h.of_test) d k.2)
 
-one_no_domain : (t : Test) (q r : DomainRefusal) → HasNoDomain t q → HasNoDomain t r → q ≡ r
+one_no_domain : (t : Test) (q r : EvalRefusal) → HasNoDomain t q → HasNoDomain t r → q ≡ r
 one_no_domain t q r h k =
     one_refused k.0 q r (refused_alike h.0 k.0 (programs_alike t h.0 k.0 h.1 k.1) q h.2) k.2
+
+pub one_domain : (t : Test) → HasOneDomainOrRefusal t
+one_domain t = record {
+  one_domain = λ V W h k.
+      let a : Alike h.0 k.0 = programs_alike t h.0 k.0 h.1 k.1 in
+      round_one k.0 (load_total k.0) V W
+      (subst (λ (n : ℕ). IsDomainAt k.0 n V) a.loads
+      (round_alike h.0 k.0 a (load_total h.0) V h.2.last)) k.2.last;
+  one_refusal = one_no_domain t;
+  domain_or_refused = λ V r h k.
+      domain_or_refused h.0 V r h.2
+      (refused_alike k.0 h.0 (programs_alike t k.0 h.0 k.1 h.1) r k.2);
+}
 
 same_length : (t : Test) (i j : List Value) (xs ys : List Execution) → AreTestExecutions t i xs
     → AreTestExecutions t j ys → length xs ≡ length ys
@@ -269,38 +293,38 @@ many_or_faulted t m f =
 -- which of the three kinds a refusal is of
 Sort : Test → EvalRefusal → Type 0
 Sort t r =
-    ((d : DomainRefusal) × (r ≡ space_refusal_of d) × HasNoDomain t d)
+    HasNoDomain t r
     ⊎ (((r ≡ TooManyCandidates) × HasManyExecutions t)
     ⊎ ((r ≡ AddressFault) × HasFaultedExecution t))
 
 sorted : (t : Test) (r : EvalRefusal) → IsSpaceRefusal t r → Sort t r
 unfolding Sort
-sorted t TooManyEvents h = inl (no_domain.TooManyEvents, refl, h)
-sorted t TooManyValues h = inl (no_domain.TooManyValues, refl, h)
-sorted t TooManyRuns h = inl (no_domain.TooManyRuns, refl, h)
-sorted t TooManyCombinations h = inl (no_domain.TooManyCombinations, refl, h)
+sorted t TooManyEvents h = inl h
+sorted t TooManyValues h = inl h
+sorted t TooManyRuns h = inl h
+sorted t TooManyCombinations h = inl h
 sorted t TooManyCandidates h = inr (inl (refl, h))
 sorted t AddressFault h = inr (inr (refl, h))
 
 sorts_one : (t : Test) (q r : EvalRefusal) → Sort t q → Sort t r → q ≡ r
 unfolding Sort
-sorts_one t q r (inl h) (inl k) = h.1 ∙ ap space_refusal_of (one_no_domain t h.0 k.0 h.2 k.2) ∙ sym k.1
+sorts_one t q r (inl h) (inl k) = one_no_domain t q r h k
 sorts_one t q r (inl h) (inr (inl m)) =
-    absurd (executions_or_refused t m.1.initial m.1.all h.0 m.1.executions h.2)
+    absurd (executions_or_refused t m.1.initial m.1.all q m.1.executions h)
 sorts_one t q r (inl h) (inr (inr f)) =
-    absurd (executions_or_refused t f.1.initial f.1.all h.0 f.1.executions h.2)
+    absurd (executions_or_refused t f.1.initial f.1.all q f.1.executions h)
 sorts_one t q r (inr (inl m)) (inl k) =
-    absurd (executions_or_refused t m.1.initial m.1.all k.0 m.1.executions k.2)
+    absurd (executions_or_refused t m.1.initial m.1.all r m.1.executions k)
 sorts_one t q r (inr (inl m)) (inr (inl n)) = m.0 ∙ sym n.0
 sorts_one t q r (inr (inl m)) (inr (inr f)) = absurd (many_or_faulted t m.1 f.1)
 sorts_one t q r (inr (inr f)) (inl k) =
-    absurd (executions_or_refused t f.1.initial f.1.all k.0 f.1.executions k.2)
+    absurd (executions_or_refused t f.1.initial f.1.all r f.1.executions k)
 sorts_one t q r (inr (inr f)) (inr (inl m)) = absurd (many_or_faulted t m.1 f.1)
 sorts_one t q r (inr (inr f)) (inr (inr g)) = f.0 ∙ sym g.0
 
 listed_or : (t : Test) (s : Space) (r : EvalRefusal) → ListsExecutions t s → Sort t r → ⊥
 unfolding Sort
-listed_or t s r h (inl k) = executions_or_refused t h.initial h.all k.0 h.executions k.2
+listed_or t s r h (inl k) = executions_or_refused t h.initial h.all r h.executions k
 listed_or t s r h (inr (inl m)) =
     let e : length h.all ≡ length m.1.all =
     same_length t h.initial m.1.initial h.all m.1.all h.executions m.1.executions in

@@ -5,7 +5,7 @@ use Rattle.std.proofs.lemmas.Option.{same_Some}
 use Rattle.thread_runs.specs.declared.value.Value.{Value}
 use Rattle.thread_runs.specs.declared.value.Value.TheVariants.{NoValue}
 use Rattle.thread_runs.specs.declared.instruction.Instruction.{Instruction}
-use Rattle.thread_runs.specs.declared.instruction.Instruction.TheVariants.{Immediate, Move, AddImmediate, Operate, Load, LoadIndexed, Store, StoreIndexed, Compare, CompareImmediate, Branch, Jump, Barrier}
+use Rattle.thread_runs.specs.declared.instruction.Instruction.TheVariants.{Immediate, Move, AddImmediate, Operate, Load, LoadIndexed, Store, StoreIndexed, Compare, CompareImmediate, Branch, Jump, Fence}
 use Rattle.thread_runs.specs.declared.instruction.Line.{Line}
 use Rattle.thread_runs.specs.declared.instruction.Line.TheVariants.{Label, Does}
 use Rattle.thread_runs.specs.declared.instruction.RunStep.{RunStep}
@@ -79,7 +79,7 @@ event_count (Compare a b) v s = refl
 event_count (CompareImmediate a n) v s = refl
 event_count (Branch c l) v s = refl
 event_count (Jump l) v s = refl
-event_count (Barrier f) v s = refl
+event_count (Fence f) v s = refl
 
 pub one_place_more : (b : Bool) (k : ℕ) → cond b (k + 1) k ≡ k + cond b 1 0
 one_place_more true k = omega arith

@@ -1,4 +1,4 @@
--- Reads-from of the executions of a choice of runs: the ways to read that are found.
+-- Reads-from of the executions of a choice of runs: the read choices that are found.
 use Rattle.std.proofs.Common.{ℕ, suc, ◌≡◌, ◌+◌, ◌↔◌, ◌&&◌, Bool, true, false, cond, nat_eq, List, [], ◌∷◌, ◌++◌, map, filter, Some, slice_get, refl, ap, sym, subst, ◌∙◌, inl, inr, arith, append_assoc, append-nil, eq-eqb}
 use Rattle.std.specs.List.{flat_map, AllZip}
 use Rattle.std.proofs.lemmas.List.{map-append}
@@ -10,10 +10,10 @@ use Rattle.run_combinations.proofs.Pruning.{is_store_of}
 use Rattle.candidates.proofs.Products.{FilteredEach, filter_of_products, filter_twice, filter_as}
 use Rattle.candidates.specs.Executions.{MayRead, product, read_choices, loads, stores}
 use Rattle.run_combinations.specs.Lists.{tuples, IsFiltered, none, kept, left}
-use Rattle.run_combinations.specs.Events.{numbers, ReadsFrom, reads, writes, is_load, is_store}
-use Rattle.run_combinations.specs.Ways.{AreReadChoices, IsReadChoice, accesses_in, stores_for, may_read, same_value}
+use Rattle.run_combinations.specs.Events.{numbers, ReadsFrom, is_load_action, is_store_action, is_load, is_store}
+use Rattle.run_combinations.specs.ReadChoices.{AreReadChoices, IsReadChoice, accesses_in, stores_for, may_read, same_value}
 use Rattle.run_combinations.specs.declared.combination.Action.{Action}
-use Rattle.run_combinations.specs.declared.combination.Action.TheVariants.{Read, Write, Fence}
+use Rattle.run_combinations.specs.declared.combination.Action.TheVariants.{Load, Store, Fence}
 use Rattle.run_combinations.specs.declared.combination.Event.{Event}
 
 true_false : true ≡ false → ⊥
@@ -51,19 +51,19 @@ same_itself (Number n) = same_number n
 same_itself (Address n) = same_number n
 same_itself NoValue = refl
 
-reads_itself : (l : ℕ) (v : Value) → may_read (Read l v) (Write l v) ≡ true
+reads_itself : (l : ℕ) (v : Value) → may_read (Load l v) (Store l v) ≡ true
 reads_itself l v = ap (λ (b : Bool). b && same_value v v) (same_number l) ∙ same_itself v
 
-read_is : (a : Action) → reads a ≡ true → (l : ℕ) × (v : Value) × (a ≡ Read l v)
-read_is (Read l v) e = (l, v, refl)
-read_is (Write l v) e = absurd cc
+read_is : (a : Action) → is_load_action a ≡ true → (l : ℕ) × (v : Value) × (a ≡ Load l v)
+read_is (Load l v) e = (l, v, refl)
+read_is (Store l v) e = absurd cc
 read_is (Fence f) e = absurd cc
 
-store_is : (a b : Action) → may_read a b ≡ true → writes b ≡ true
-store_is (Read l v) (Write k w) e = refl
-store_is (Read l v) (Read k w) e = absurd cc
-store_is (Read l v) (Fence f) e = absurd cc
-store_is (Write l v) b e = absurd cc
+store_is : (a b : Action) → may_read a b ≡ true → is_store_action b ≡ true
+store_is (Load l v) (Store k w) e = refl
+store_is (Load l v) (Load k w) e = absurd cc
+store_is (Load l v) (Fence f) e = absurd cc
+store_is (Store l v) b e = absurd cc
 store_is (Fence f) b e = absurd cc
 
 -- the stores that one load may read
@@ -76,18 +76,18 @@ one_load es n e there load =
     to : (j : ℕ) (s : Event) → slice_get es j ≡ Some s → MayRead es n (0 + j)
         → may_read e.action s.action ≡ true
     to j s g m =
-        let a : e.action ≡ Read m.0 m.1 = ap (λ (x : Event). x.action) (same_Some _ _ (sym there ∙ m.2.1)) ∙ m.2.2 in
+        let a : e.action ≡ Load m.0 m.1 = ap (λ (x : Event). x.action) (same_Some _ _ (sym there ∙ m.2.1)) ∙ m.2.2 in
         let z : 0 + j ≡ j = omega arith in
-        let b : s.action ≡ Write m.0 m.1 = ap (λ (x : Event). x.action) (same_Some _ _ (sym g ∙ sym (ap (λ (k : ℕ). slice_get es k) z) ∙ m.3.1)) ∙ m.3.2 in
+        let b : s.action ≡ Store m.0 m.1 = ap (λ (x : Event). x.action) (same_Some _ _ (sym g ∙ sym (ap (λ (k : ℕ). slice_get es k) z) ∙ m.3.1)) ∙ m.3.2 in
         ap (λ (x : Action). may_read x s.action) a
-        ∙ ap (λ (x : Action). may_read (Read m.0 m.1) x) b ∙ reads_itself m.0 m.1
+        ∙ ap (λ (x : Action). may_read (Load m.0 m.1) x) b ∙ reads_itself m.0 m.1
 
     back : (j : ℕ) (s : Event) → slice_get es j ≡ Some s → may_read e.action s.action ≡ true
         → MayRead es n (0 + j)
     back j s g h =
-        let r : (l : ℕ) × (v : Value) × (e.action ≡ Read l v) = read_is e.action load in
+        let r : (l : ℕ) × (v : Value) × (e.action ≡ Load l v) = read_is e.action load in
         let z : 0 + j ≡ j = omega arith in
-        let w : s.action ≡ Write r.0 r.1 = is_store_of r.0 r.1 s.action (sym (ap (λ (x : Action). may_read x s.action) r.2) ∙ h) in
+        let w : s.action ≡ Store r.0 r.1 = is_store_of r.0 r.1 s.action (sym (ap (λ (x : Action). may_read x s.action) r.2) ∙ h) in
         (r.0, r.1, (e, there, r.2), (s, ap (λ (k : ℕ). slice_get es k) z ∙ g, w))
 
 -- and those of each load
@@ -123,14 +123,14 @@ joined f (x ∷ c) rs =
     (λ (x : ℕ). map (λ (rest : List ℕ). x ∷ rest) rs) c)
     ∙ ap (λ (l : List (List ℕ)). map f (map (λ (rest : List ℕ). x ∷ rest) rs) ++ l) (joined f c rs)
 
-behind : (front : List ℕ) (x : ℕ) (rs : List (List ℕ))
-    → map (λ (rest : List ℕ). (front ++ x ∷ []) ++ rest) rs
-    ≡ map (λ (rest : List ℕ). front ++ rest) (map (λ (rest : List ℕ). x ∷ rest) rs)
-behind front x [] = refl
-behind front x (r ∷ rs) =
-    ap (λ (l : List ℕ). l ∷ map (λ (rest : List ℕ). (front ++ x ∷ []) ++ rest) rs)
-    (append_assoc front (x ∷ []) r)
-    ∙ ap (λ (l : List (List ℕ)). (front ++ x ∷ r) ∷ l) (behind front x rs)
+behind : (prefix : List ℕ) (x : ℕ) (rs : List (List ℕ))
+    → map (λ (rest : List ℕ). (prefix ++ x ∷ []) ++ rest) rs
+    ≡ map (λ (rest : List ℕ). prefix ++ rest) (map (λ (rest : List ℕ). x ∷ rest) rs)
+behind prefix x [] = refl
+behind prefix x (r ∷ rs) =
+    ap (λ (l : List ℕ). l ∷ map (λ (rest : List ℕ). (prefix ++ x ∷ []) ++ rest) rs)
+    (append_assoc prefix (x ∷ []) r)
+    ∙ ap (λ (l : List (List ℕ)). (prefix ++ x ∷ r) ∷ l) (behind prefix x rs)
 
 flat_same : (f g : ℕ → List (List ℕ)) → ((x : ℕ) → f x ≡ g x) → (c : List ℕ)
     → flat_map f c ≡ flat_map g c
@@ -139,22 +139,22 @@ flat_same f g same (x ∷ c) =
     ap (λ (l : List (List ℕ)). l ++ flat_map f c) (same x)
     ∙ ap (λ (l : List (List ℕ)). g x ++ l) (flat_same f g same c)
 
-fronted : (cs : List (List ℕ)) (front : List ℕ)
-    → tuples front cs ≡ map (λ (rest : List ℕ). front ++ rest) (product cs)
-fronted [] front = ap (λ (l : List ℕ). l ∷ []) (sym (append-nil front))
-fronted (c ∷ cs) front =
-    flat_same (λ (x : ℕ). tuples (front ++ x ∷ []) cs)
+prefixed : (cs : List (List ℕ)) (prefix : List ℕ)
+    → tuples prefix cs ≡ map (λ (rest : List ℕ). prefix ++ rest) (product cs)
+prefixed [] prefix = ap (λ (l : List ℕ). l ∷ []) (sym (append-nil prefix))
+prefixed (c ∷ cs) prefix =
+    flat_same (λ (x : ℕ). tuples (prefix ++ x ∷ []) cs)
     (λ (x : ℕ).
-    map (λ (rest : List ℕ). front ++ rest) (map (λ (rest : List ℕ). x ∷ rest) (product cs)))
-    (λ x. fronted cs (front ++ x ∷ []) ∙ behind front x (product cs)) c
-    ∙ sym (joined (λ (rest : List ℕ). front ++ rest) c (product cs))
+    map (λ (rest : List ℕ). prefix ++ rest) (map (λ (rest : List ℕ). x ∷ rest) (product cs)))
+    (λ x. prefixed cs (prefix ++ x ∷ []) ∙ behind prefix x (product cs)) c
+    ∙ sym (joined (λ (rest : List ℕ). prefix ++ rest) c (product cs))
 
 map_itself : (xs : List (List ℕ)) → map (λ (rest : List ℕ). [] ++ rest) xs ≡ xs
 map_itself [] = refl
 map_itself (x ∷ xs) = ap (λ (l : List (List ℕ)). x ∷ l) (map_itself xs)
 
 pub tuples_are : (cs : List (List ℕ)) → tuples [] cs ≡ product cs
-tuples_are cs = fronted cs [] ∙ map_itself (product cs)
+tuples_are cs = prefixed cs [] ∙ map_itself (product cs)
 
 -- cycles of equal relations
 path_as : (R S : ℕ → ℕ → Type 0) → ((a b : ℕ) → R a b → S a b) → (through : List ℕ) (a b : ℕ)
@@ -165,39 +165,39 @@ path_as R S same (c ∷ cs) a b h = (same a c h.0, path_as R S same cs c b h.1)
 pub acyclic_as : (R S : ℕ → ℕ → Type 0) → ((a b : ℕ) → R a b → S a b) → IsAcyclic S → IsAcyclic R
 acyclic_as R S same never a p = never a (p.0, path_as R S same p.0 a a p.1)
 
--- the ways to read are just the choices of a store for each load, of its location and value,
+-- the read choices are just the choices of a store for each load, of its location and value,
 -- without a cycle of reads-from and these needs
 pub reads_found : (es : List Event) (pairs : List (ℕ × ℕ)) (Need : ℕ → ℕ → Type 0)
     → ((a b : ℕ) → Need a b → (accesses_in es pairs).Need a b)
-    → ((a b : ℕ) → (accesses_in es pairs).Need a b → Need a b) → (ways : List (List ℕ))
-    → AreReadChoices es pairs ways
+    → ((a b : ℕ) → (accesses_in es pairs).Need a b → Need a b) → (choices : List (List ℕ))
+    → AreReadChoices es pairs choices
     → IsFiltered
-    (λ way. AllZip (MayRead es) (loads es) way
-    × IsAcyclic (Union Need (ReadsFrom (loads es) way)))
-    (read_choices es) ways
-reads_found es pairs Need there back ways are =
+    (λ reads_from. AllZip (MayRead es) (loads es) reads_from
+    × IsAcyclic (Union Need (ReadsFrom (loads es) reads_from)))
+    (read_choices es) choices
+reads_found es pairs Need there back choices are =
     filter_twice (AllZip (MayRead es) (loads es))
-    (λ way. IsAcyclic (Union Need (ReadsFrom (loads es) way))) (read_choices es)
-    (product (map (stores_for es) (filter is_load es))) ways
+    (λ reads_from. IsAcyclic (Union Need (ReadsFrom (loads es) reads_from))) (read_choices es)
+    (product (map (stores_for es) (filter is_load es))) choices
     (filter_of_products (MayRead es) (loads es) (map (λ load. stores es) (loads es))
     (map (stores_for es) (filter is_load es)) (each_load es 0 es
     (λ j. let z : 0 + j ≡ j = omega arith in ap (λ (k : ℕ). slice_get es k) z)))
     (filter_as (IsReadChoice (accesses_in es pairs))
-    (λ way. IsAcyclic (Union Need (ReadsFrom (loads es) way))) (λ way. (to way, from way))
-    (product (map (stores_for es) (filter is_load es))) ways
-    (subst (λ (l : List (List ℕ)). IsFiltered (IsReadChoice (accesses_in es pairs)) l ways)
+    (λ reads_from. IsAcyclic (Union Need (ReadsFrom (loads es) reads_from))) (λ reads_from. (to reads_from, from reads_from))
+    (product (map (stores_for es) (filter is_load es))) choices
+    (subst (λ (l : List (List ℕ)). IsFiltered (IsReadChoice (accesses_in es pairs)) l choices)
     (tuples_are (map (stores_for es) (filter is_load es))) are))
   where
-    to : (way : List ℕ) → IsReadChoice (accesses_in es pairs) way
-        → IsAcyclic (Union Need (ReadsFrom (loads es) way))
-    to way h =
-        acyclic_as (Union Need (ReadsFrom (loads es) way))
-        (Union (accesses_in es pairs).Need (ReadsFrom (loads es) way))
+    to : (reads_from : List ℕ) → IsReadChoice (accesses_in es pairs) reads_from
+        → IsAcyclic (Union Need (ReadsFrom (loads es) reads_from))
+    to reads_from h =
+        acyclic_as (Union Need (ReadsFrom (loads es) reads_from))
+        (Union (accesses_in es pairs).Need (ReadsFrom (loads es) reads_from))
         (λ a b u. elim u [ inl x ↦ inl (there a b x) | inr y ↦ inr y ]) h
 
-    from : (way : List ℕ) → IsAcyclic (Union Need (ReadsFrom (loads es) way))
-        → IsReadChoice (accesses_in es pairs) way
-    from way h =
-        acyclic_as (Union (accesses_in es pairs).Need (ReadsFrom (loads es) way))
-        (Union Need (ReadsFrom (loads es) way))
+    from : (reads_from : List ℕ) → IsAcyclic (Union Need (ReadsFrom (loads es) reads_from))
+        → IsReadChoice (accesses_in es pairs) reads_from
+    from reads_from h =
+        acyclic_as (Union (accesses_in es pairs).Need (ReadsFrom (loads es) reads_from))
+        (Union Need (ReadsFrom (loads es) reads_from))
         (λ a b u. elim u [ inl x ↦ inl (back a b x) | inr y ↦ inr y ]) h

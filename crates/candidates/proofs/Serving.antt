@@ -9,7 +9,7 @@ use Rattle.thread_runs.specs.declared.instruction.Event.TheVariants as does
 use Rattle.thread_runs.specs.declared.instruction.Program.{Program}
 use Rattle.thread_runs.specs.Runs.{Thread, Run, IsThreadRun}
 use Rattle.thread_runs.specs.AllRuns.{thread_of}
-use Rattle.thread_runs.specs.Held.{MayHold, AreLeft, none, stays, goes, IsUnserved}
+use Rattle.thread_runs.specs.LocationValues.{MayHold, AreLeft, none, stays, goes, IsUnserved}
 use Rattle.thread_runs.proofs.Serving.{all_go, left_append, left_map}
 use Rattle.ppc_semantics.specs.Domain.{threads_from, threads_of}
 use Rattle.run_combinations.specs.Events.{action_in, with_action, thread_events, initial_stores, HasLoad, HasStore, CannotRead}
@@ -17,7 +17,7 @@ use Rattle.run_combinations.specs.Lists as lists
 use Rattle.run_combinations.specs.Lists.{IsFiltered}
 use Rattle.run_combinations.proofs.Filters.{IsFiltered-append, IsFiltered-split, Split}
 use Rattle.run_combinations.proofs.Pruning.{load_front, load_behind, store_split}
-use Rattle.run_combinations.specs.declared.combination.Action.TheVariants.{Write}
+use Rattle.run_combinations.specs.declared.combination.Action.TheVariants.{Store}
 use Rattle.candidates.proofs.AllListed.{filtered_there}
 use Rattle.candidates.proofs.Elements.{member_cases, member_first, member_later, no_member, mapped, joined}
 use Rattle.candidates.proofs.Listing.{none_executed}
@@ -69,10 +69,10 @@ product_left p (all ∷ alls) (rs ∷ rss) h =
     rows_left p (product alls) (product rss) (product_left p alls rss h.1) all rs h.0
 
 -- what a load takes, and what a store has
-raw_load : (thread l : ℕ) (v : Value) (es : List run.Event) → Contains es (does.Reads (Address l) v)
+raw_load : (thread l : ℕ) (v : Value) (es : List run.Event) → Contains es (does.Load (Address l) v)
     → HasLoad l v (thread_events thread es)
-raw_load thread l v [] c = absurd (no_member (does.Reads (Address l) v) c)
-raw_load thread l v (e ∷ es) c = elim (member_cases e es (does.Reads (Address l) v) c) [
+raw_load thread l v [] c = absurd (no_member (does.Load (Address l) v) c)
+raw_load thread l v (e ∷ es) c = elim (member_cases e es (does.Load (Address l) v) c) [
   | inl is ↦ load_front l v (with_action thread (action_in e)) (thread_events thread es)
       (subst (λ (x : run.Event). HasLoad l v (with_action thread (action_in x))) (sym is)
       (inl refl))
@@ -81,41 +81,41 @@ raw_load thread l v (e ∷ es) c = elim (member_cases e es (does.Reads (Address 
 ]
 
 run_load : (thread l : ℕ) (v : Value) (rs : List Run) (r : Run) → Contains rs r
-    → Contains r.outcome.walk.events (does.Reads (Address l) v)
+    → Contains r.outcome.walk.events (does.Load (Address l) v)
     → HasLoad l v (events_from thread rs)
 run_load thread l v [] r c d = absurd (no_member r c)
 run_load thread l v (q ∷ rs) r c d = elim (member_cases q rs r c) [
   | inl is ↦ load_front l v (thread_events thread q.outcome.walk.events)
       (events_from (thread + 1) rs) (raw_load thread l v q.outcome.walk.events (subst
-      (λ (x : Run). Contains x.outcome.walk.events (does.Reads (Address l) v)) (sym is) d))
+      (λ (x : Run). Contains x.outcome.walk.events (does.Load (Address l) v)) (sym is) d))
   | inr e ↦ load_behind l v (thread_events thread q.outcome.walk.events)
       (events_from (thread + 1) rs) (run_load (thread + 1) l v rs r e d)
 ]
 
 stored_at : (thread l : ℕ) (v : Value) (e : run.Event)
-    → HasStore l v (with_action thread (action_in e)) → e ≡ does.Writes (Address l) v
-stored_at thread l v (does.Writes (Address m) w) (inl is) = write_is is
+    → HasStore l v (with_action thread (action_in e)) → e ≡ does.Store (Address l) v
+stored_at thread l v (does.Store (Address m) w) (inl is) = write_is is
   where
-    write_is : Write m w ≡ Write l v → does.Writes (Address m) w ≡ does.Writes (Address l) v
+    write_is : Store m w ≡ Store l v → does.Store (Address m) w ≡ does.Store (Address l) v
     write_is e = cc
-stored_at thread l v (does.Writes (Address m) w) (inr none_there) = absurd none_there
-stored_at thread l v (does.Writes (Number m) w) h = absurd h
-stored_at thread l v (does.Writes NoValue w) h = absurd h
-stored_at thread l v (does.Reads (Address m) w) (inl is) = absurd cc
-stored_at thread l v (does.Reads (Address m) w) (inr none_there) = absurd none_there
-stored_at thread l v (does.Reads (Number m) w) h = absurd h
-stored_at thread l v (does.Reads NoValue w) h = absurd h
-stored_at thread l v (does.Orders f) (inl is) = absurd cc
-stored_at thread l v (does.Orders f) (inr none_there) = absurd none_there
+stored_at thread l v (does.Store (Address m) w) (inr none_there) = absurd none_there
+stored_at thread l v (does.Store (Number m) w) h = absurd h
+stored_at thread l v (does.Store NoValue w) h = absurd h
+stored_at thread l v (does.Load (Address m) w) (inl is) = absurd cc
+stored_at thread l v (does.Load (Address m) w) (inr none_there) = absurd none_there
+stored_at thread l v (does.Load (Number m) w) h = absurd h
+stored_at thread l v (does.Load NoValue w) h = absurd h
+stored_at thread l v (does.Fence f) (inl is) = absurd cc
+stored_at thread l v (does.Fence f) (inr none_there) = absurd none_there
 
 raw_store : (thread l : ℕ) (v : Value) (es : List run.Event)
-    → HasStore l v (thread_events thread es) → Contains es (does.Writes (Address l) v)
+    → HasStore l v (thread_events thread es) → Contains es (does.Store (Address l) v)
 raw_store thread l v [] h = absurd h
 raw_store thread l v (e ∷ es) h =
     elim (store_split l v (with_action thread (action_in e)) (thread_events thread es) h) [
       | inl here ↦ subst (λ (x : run.Event). Contains (e ∷ es) x) (stored_at thread l v e here)
           (member_first e es)
-      | inr rest ↦ member_later e es (does.Writes (Address l) v) (raw_store thread l v es rest)
+      | inr rest ↦ member_later e es (does.Store (Address l) v) (raw_store thread l v es rest)
     ]
 
 initial_store : (at l : ℕ) (v : Value) (vs : List Value) → HasStore l v (initial_stores at vs)
@@ -125,10 +125,10 @@ initial_store at l v (u ∷ vs) (inl is) =
     let e : at ≡ l = location_is is in
     (0, (omega (arith, e)), ap (λ (x : Value). Some x) (value_is is))
   where
-    location_is : Write at u ≡ Write l v → at ≡ l
+    location_is : Store at u ≡ Store l v → at ≡ l
     location_is e = cc
 
-    value_is : Write at u ≡ Write l v → u ≡ v
+    value_is : Store at u ≡ Store l v → u ≡ v
     value_is e = cc
 initial_store at l v (u ∷ vs) (inr h) =
     let (k, e, there) = initial_store (at + 1) l v vs h in (suc k, (omega (arith, e)), there)
@@ -145,7 +145,7 @@ thread_there p (suc n) t c = elim (Contains-push_cases (threads_from p n) (threa
 abbrev IsStoredBy : List Thread → List Value → ℕ → Value → Type 0
 IsStoredBy threads V l v =
     (t : Thread) × Contains threads t × (r : Run) × IsThreadRun t (Contains V) r
-    × Contains r.outcome.walk.events (does.Writes (Address l) v)
+    × Contains r.outcome.walk.events (does.Store (Address l) v)
 
 run_store : (V : List Value) (thread l : ℕ) (v : Value) (threads : List Thread) (rs : List Run)
     → AllZip (λ t r. IsThreadRun t (Contains V) r) threads rs → HasStore l v (events_from thread rs)
@@ -203,13 +203,13 @@ none_of P (x ∷ xs) never =
     lists.left (never x (member_first x xs)) (none_of P xs (λ y c. never y (member_later x xs y c)))
 
 abbrev taken : List Run → List ℕ → List (List ℕ) → Execution
-taken rs way order = record { runs = rs; reads_from = way; coherence = order }
+taken rs reads_from coherence = record { runs = rs; reads_from = reads_from; coherence = coherence }
 
 runs_are : (initial : List Value) (rs : List Run) (x : Execution)
     → Contains (over_runs initial rs) x → x.runs ≡ rs
 runs_are initial rs x c =
-    let (way, within, found) = joined (λ (way : List ℕ). map (taken rs way) (orders (events initial rs) initial)) (read_choices (events initial rs)) x c in
-    let (order, there, is) = mapped (taken rs way) (orders (events initial rs) initial) x found in
+    let (reads_from, within, found) = joined (λ (reads_from : List ℕ). map (taken rs reads_from) (orders (events initial rs) initial)) (read_choices (events initial rs)) x c in
+    let (coherence, there, is) = mapped (taken rs reads_from) (orders (events initial rs) initial) x found in
     sym (ap (λ (y : Execution). y.runs) is)
 
 module _ (p : Program) (V : List Value) where

@@ -30,7 +30,7 @@ use Rattle.run_combinations.specs.Orders.{all_orders, stores_of, AreInitialStore
 use Rattle.run_combinations.specs.Search.{PrefixLists, with_run, initial_prefix}
 use Rattle.run_combinations.specs.Combinations.{CombinationLists, combination_lists, ordered, pairs, candidates_of}
 use Rattle.candidates.specs.Space.{candidates_in, end_at, registers_at, shown_of}
-use Rattle.run_combinations.specs.Ways.{IsReadChoice, accesses_in}
+use Rattle.run_combinations.specs.ReadChoices.{IsReadChoice, accesses_in}
 use Rattle.run_combinations.specs.declared.combination.Combination.{Combination}
 use Rattle.run_combinations.specs.declared.combination.Event.{Event}
 use Rattle.run_combinations.specs.declared.layout.ThreadParts.{ThreadParts}
@@ -177,11 +177,11 @@ module _ (n : ℕ) (initial : List Value) (threads : List Thread) (V : List Valu
       only (inl h) = absurd cc
       only (inr s) = s
 
-  runs_of : (rs : List Run) (ways : List (List ℕ)) (x : Execution)
-      → Contains (flat_map (λ w. map (executed_so initial rs w) (orders_of_runs rs)) ways) x
+  runs_of : (rs : List Run) (choices : List (List ℕ)) (x : Execution)
+      → Contains (flat_map (λ w. map (executed_so initial rs w) (orders_of_runs rs)) choices) x
       → x.runs ≡ rs
-  runs_of rs ways x c =
-      let (w, there, in_row) = joined (λ w. map (executed_so initial rs w) (orders_of_runs rs)) ways x c in
+  runs_of rs choices x c =
+      let (w, there, in_row) = joined (λ w. map (executed_so initial rs w) (orders_of_runs rs)) choices x c in
       let (o, found, is) = mapped (executed_so initial rs w) (orders_of_runs rs) x in_row in
       sym (ap (λ (y : Execution). y.runs) is)
 
@@ -190,15 +190,15 @@ module _ (n : ℕ) (initial : List Value) (threads : List Thread) (V : List Valu
       → HasFaultAmong bs
   fault_among [] ss xs no_more x c f = absurd (no_member x c)
   fault_among (b ∷ bs) ss xs (not_one are h) x c f = inr (fault_among bs ss xs h x c f)
-  fault_among (b ∷ bs) (s ∷ ss) xs (one_more {xs = ys} {way = way} {ways = ways} rs i are h) x c f =
+  fault_among (b ∷ bs) (s ∷ ss) xs (one_more {xs = ys} {reads_from = reads_from} {choices = choices} rs i are h) x c f =
       elim
       (Contains-append_cases
-      (flat_map (λ w. map (executed_so initial rs w) (orders_of_runs rs)) (way ∷ ways)) ys x
+      (flat_map (λ w. map (executed_so initial rs w) (orders_of_runs rs)) (reads_from ∷ choices)) ys x
       c) [
         | inl own ↦ inl (
-          (faulted_is b rs i).1 (subst SomeFault (runs_of rs (way ∷ ways) x own) f),
-          way,
-          ways,
+          (faulted_is b rs i).1 (subst SomeFault (runs_of rs (reads_from ∷ choices) x own) f),
+          reads_from,
+          choices,
           are,
         )
         | inr d ↦ inr (fault_among bs ss ys h x d f)
@@ -240,24 +240,24 @@ module _ (n : ℕ) (initial : List Value) (threads : List Thread) (V : List Valu
       some_none : {w : List ℕ} {ws : List (List ℕ)} → (w ∷ ws) ≡ [] → ⊥
       some_none e = cc
   faulted_execution e (b ∷ bs) ss xs (not_one are h) (inr f) = faulted_execution e bs ss xs h f
-  faulted_execution e (b ∷ bs) (s ∷ ss) xs (one_more {xs = ys} {way = way} {ways = ways} rs i are h)
+  faulted_execution e (b ∷ bs) (s ∷ ss) xs (one_more {xs = ys} {reads_from = reads_from} {choices = choices} rs i are h)
       (inl f) =
-      let own : List Execution = flat_map (λ w. map (executed_so initial rs w) (orders_of_runs rs)) (way ∷ ways) in
+      let own : List Execution = flat_map (λ w. map (executed_so initial rs w) (orders_of_runs rs)) (reads_from ∷ choices) in
       let o : (o : List (List ℕ)) × Contains (orders_of_runs rs) o = some_orders e b rs i in
-      let x : Execution = executed_so initial rs way o.0 in (
+      let x : Execution = executed_so initial rs reads_from o.0 in (
         x,
         Contains-append_left own ys x (joined_there
-            (λ w. map (executed_so initial rs w) (orders_of_runs rs)) (way ∷ ways) way x
-            (member_first way ways) (mapped_there (executed_so initial rs way)
+            (λ w. map (executed_so initial rs w) (orders_of_runs rs)) (reads_from ∷ choices) reads_from x
+            (member_first reads_from choices) (mapped_there (executed_so initial rs reads_from)
             (orders_of_runs rs) o.0 o.1)),
         (faulted_is b rs i).0 f.0,
       )
-  faulted_execution e (b ∷ bs) (s ∷ ss) xs (one_more {xs = ys} {way = way} {ways = ways} rs i are h)
+  faulted_execution e (b ∷ bs) (s ∷ ss) xs (one_more {xs = ys} {reads_from = reads_from} {choices = choices} rs i are h)
       (inr f) =
       let (x, there, fault) = faulted_execution e bs ss ys h f in (
         x,
         Contains-append_right
-            (flat_map (λ w. map (executed_so initial rs w) (orders_of_runs rs)) (way ∷ ways))
+            (flat_map (λ w. map (executed_so initial rs w) (orders_of_runs rs)) (reads_from ∷ choices))
             ys x there,
         fault,
       )
@@ -285,28 +285,28 @@ module _ (n : ℕ) (initial : List Value) (threads : List Thread) (V : List Valu
   }
 
   one_shown : (b : PrefixLists) (rs : List Run) → IsListed n initial threads V ts b rs
-      → (c : Combination) (ways : List (List ℕ))
-      → combination_lists c ≡ ordered n (record b.combination { sources = ways })
-      → (way : List ℕ) (order : List (List ℕ))
-      → AreShown initial registers (executed_so initial rs way order) (c, (way, flat order))
-  one_shown b rs i c ways eq way order =
+      → (c : Combination) (choices : List (List ℕ))
+      → combination_lists c ≡ ordered n (record b.combination { reads_from = choices })
+      → (reads_from : List ℕ) (coherence : List (List ℕ))
+      → AreShown initial registers (executed_so initial rs reads_from coherence) (c, (reads_from, flat coherence))
+  one_shown b rs i c choices eq reads_from coherence =
       let ends : Ends ts rs [] b.combination.runs = run_ends V threads 0 ts i.made rs (initial_prefix (initial_stores 0 initial)) b i.one i.goes in
       record {
         events = ap (λ (x : CombinationLists). x.events) eq ∙ i.events;
         addr =
-            shown_pairs dependencies.addr b rs i (executed_so initial rs way order) refl
+            shown_pairs dependencies.addr b rs i (executed_so initial rs reads_from coherence) refl
             c.dependencies.addr_pairs.items (ap
             (λ (x : CombinationLists). x.dependencies.addr_pairs) eq);
         «data» =
-            shown_pairs dependencies.data_listed b rs i (executed_so initial rs way order) refl
+            shown_pairs dependencies.data_listed b rs i (executed_so initial rs reads_from coherence) refl
             c.dependencies.data_pairs.items (ap
             (λ (x : CombinationLists). x.dependencies.data_pairs) eq);
         ctrl =
-            shown_pairs dependencies.ctrl b rs i (executed_so initial rs way order) refl
+            shown_pairs dependencies.ctrl b rs i (executed_so initial rs reads_from coherence) refl
             c.dependencies.ctrl_pairs.items (ap
             (λ (x : CombinationLists). x.dependencies.ctrl_pairs) eq);
         ctrlisync =
-            shown_pairs dependencies.ctrlisync b rs i (executed_so initial rs way order) refl
+            shown_pairs dependencies.ctrlisync b rs i (executed_so initial rs reads_from coherence) refl
             c.dependencies.ctrlisync_pairs.items (ap
             (λ (x : CombinationLists). x.dependencies.ctrlisync_pairs) eq);
         reads_from = refl;
@@ -317,25 +317,25 @@ module _ (n : ℕ) (initial : List Value) (threads : List Thread) (V : List Valu
             ∙ ends.found registers files_are;
       }
 
-  -- each way with each order
+  -- each read choice with each order
   row_shown : (b : PrefixLists) (rs : List Run) → IsListed n initial threads V ts b rs
-      → (c : Combination) (ways : List (List ℕ))
-      → combination_lists c ≡ ordered n (record b.combination { sources = ways })
-      → (way : List ℕ) (os : List (List (List ℕ)))
-      → AllZip (AreShown initial registers) (map (executed_so initial rs way) os)
-      (map (λ t. (c, t)) (map (λ y. (way, y)) (map flat os)))
-  row_shown b rs i c ways eq way [] = tt
-  row_shown b rs i c ways eq way (o ∷ os) =
-      (one_shown b rs i c ways eq way o, row_shown b rs i c ways eq way os)
+      → (c : Combination) (choices : List (List ℕ))
+      → combination_lists c ≡ ordered n (record b.combination { reads_from = choices })
+      → (reads_from : List ℕ) (os : List (List (List ℕ)))
+      → AllZip (AreShown initial registers) (map (executed_so initial rs reads_from) os)
+      (map (λ t. (c, t)) (map (λ y. (reads_from, y)) (map flat os)))
+  row_shown b rs i c choices eq reads_from [] = tt
+  row_shown b rs i c choices eq reads_from (o ∷ os) =
+      (one_shown b rs i c choices eq reads_from o, row_shown b rs i c choices eq reads_from os)
 
   rows_shown : (b : PrefixLists) (rs : List Run) → IsListed n initial threads V ts b rs
-      → (c : Combination) (ways : List (List ℕ))
-      → combination_lists c ≡ ordered n (record b.combination { sources = ways })
+      → (c : Combination) (choices : List (List ℕ))
+      → combination_lists c ≡ ordered n (record b.combination { reads_from = choices })
       → (some : List (List ℕ)) (os : List (List (List ℕ)))
       → AllZip (AreShown initial registers) (flat_map (λ w. map (executed_so initial rs w) os) some)
       (map (λ t. (c, t)) (pairs some (map flat os)))
-  rows_shown b rs i c ways eq [] os = tt
-  rows_shown b rs i c ways eq (w ∷ some) os =
+  rows_shown b rs i c choices eq [] os = tt
+  rows_shown b rs i c choices eq (w ∷ some) os =
       subst (λ (l : List (Combination × (List ℕ × List ℕ))). AllZip (AreShown initial registers)
       (map (executed_so initial rs w) os
       ++ flat_map (λ w. map (executed_so initial rs w) os) some) l)
@@ -344,16 +344,16 @@ module _ (n : ℕ) (initial : List Value) (threads : List Thread) (V : List Valu
       (flat_map (λ w. map (executed_so initial rs w) os) some)
       (map (λ t. (c, t)) (map (λ y. (w, y)) (map flat os)))
       (map (λ t. (c, t)) (pairs some (map flat os)))
-      (row_shown b rs i c ways eq w os) (rows_shown b rs i c ways eq some os))
+      (row_shown b rs i c choices eq w os) (rows_shown b rs i c choices eq some os))
 
   candidates_are : n ≡ length initial → (b : PrefixLists) (rs : List Run)
-      → IsListed n initial threads V ts b rs → (c : Combination) (ways : List (List ℕ))
-      → combination_lists c ≡ ordered n (record b.combination { sources = ways })
-      → candidates_of c ≡ pairs ways (map flat (orders_of_runs n initial threads V ts rs))
+      → IsListed n initial threads V ts b rs → (c : Combination) (choices : List (List ℕ))
+      → combination_lists c ≡ ordered n (record b.combination { reads_from = choices })
+      → candidates_of c ≡ pairs choices (map flat (orders_of_runs n initial threads V ts rs))
   unfolding candidates_of
-  candidates_are e b rs i c ways eq =
-      ap (λ (l : List (List ℕ)). pairs l c.orders) (ap (λ (x : CombinationLists). x.sources) eq)
-      ∙ ap (λ (l : List (List ℕ)). pairs ways l) (ap (λ (x : CombinationLists). x.orders) eq
+  candidates_are e b rs i c choices eq =
+      ap (λ (l : List (List ℕ)). pairs l c.orders) (ap (λ (x : CombinationLists). x.reads_from) eq)
+      ∙ ap (λ (l : List (List ℕ)). pairs choices l) (ap (λ (x : CombinationLists). x.orders) eq
       ∙ sym (orders_are n initial threads V ts e b rs i))
 
   pub all_shown : n ≡ length initial
@@ -367,14 +367,14 @@ module _ (n : ℕ) (initial : List Value) (threads : List Thread) (V : List Valu
   all_shown e (b ∷ bs) ss xs cs eq (not_one are h) = all_shown e bs ss xs cs eq h
   all_shown e (b ∷ bs) (s ∷ ss) xs [] eq (one_more rs i are h) = absurd cc
   all_shown e (b ∷ bs) (s ∷ ss) xs (c ∷ cs) eq
-      (one_more {xs = ys} {way = way} {ways = ways} rs i are h) =
-      let own : List Execution = flat_map (λ w. map (executed_so initial rs w) (orders_of_runs n initial threads V ts rs)) (way ∷ ways) in
+      (one_more {xs = ys} {reads_from = reads_from} {choices = choices} rs i are h) =
+      let own : List Execution = flat_map (λ w. map (executed_so initial rs w) (orders_of_runs n initial threads V ts rs)) (reads_from ∷ choices) in
       zip_both (AreShown initial registers) own ys (map (λ t. (c, t)) (candidates_of c))
       (candidates_in cs)
       (subst
       (λ (l : List (List ℕ × List ℕ)).
       AllZip (AreShown initial registers) own (map (λ t. (c, t)) l))
-      (sym (candidates_are e b rs i c (way ∷ ways) (heads eq)))
-      (rows_shown b rs i c (way ∷ ways) (heads eq) (way ∷ ways)
+      (sym (candidates_are e b rs i c (reads_from ∷ choices) (heads eq)))
+      (rows_shown b rs i c (reads_from ∷ choices) (heads eq) (reads_from ∷ choices)
       (orders_of_runs n initial threads V ts rs)))
       (all_shown e bs ss ys cs (tails eq) h)

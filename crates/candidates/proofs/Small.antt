@@ -11,7 +11,7 @@ use Rattle.thread_runs.specs.declared.value.Value.{Value}
 use Rattle.thread_runs.specs.declared.value.Value.TheVariants.{NoValue}
 use Rattle.thread_runs.specs.declared.instruction.Event as run
 use Rattle.thread_runs.specs.declared.instruction.Instruction.{Instruction}
-use Rattle.thread_runs.specs.declared.instruction.Instruction.TheVariants.{Immediate, Move, AddImmediate, Operate, Load, LoadIndexed, Store, StoreIndexed, Compare, CompareImmediate, Branch, Jump, Barrier}
+use Rattle.thread_runs.specs.declared.instruction.Instruction.TheVariants.{Immediate, Move, AddImmediate, Operate, Load, LoadIndexed, Store, StoreIndexed, Compare, CompareImmediate, Branch, Jump, Fence}
 use Rattle.thread_runs.specs.declared.instruction.Line.{Line}
 use Rattle.thread_runs.specs.declared.instruction.Line.TheVariants.{Label, Does}
 use Rattle.thread_runs.specs.declared.instruction.Program.{Program}
@@ -20,7 +20,7 @@ use Rattle.thread_runs.specs.declared.state.State.{State}
 use Rattle.thread_runs.specs.Machine.{is_load, is_fault, takes_branch, event_of}
 use Rattle.thread_runs.specs.Runs.{Walk, Outcome, Run, walk_at, walk_after, walk_past, ends, after_load, after_instruction, after_line, run_from}
 use Rattle.thread_runs.specs.AllRuns.{ShownRun, run_shown, shown_run, lines_at, thread_of}
-use Rattle.thread_runs.specs.Held.{IsUnserved, ShowsServed}
+use Rattle.thread_runs.specs.LocationValues.{IsUnserved, ShowsServed}
 use Rattle.thread_runs.proofs.Serving.{left_contains}
 use Rattle.ppc_semantics.specs.Domain.{makes_event, has_event, IsDomain}
 use Rattle.run_combinations.specs.Events.{action_in, with_action, thread_events, initial_stores}
@@ -50,7 +50,7 @@ event_few (Compare a b) v s = omega arith
 event_few (CompareImmediate a n) v s = omega arith
 event_few (Branch c l) v s = omega arith
 event_few (Jump l) v s = omega arith
-event_few (Barrier f) v s = omega arith
+event_few (Fence f) v s = omega arith
 
 -- what is left of the text adds so many
 abbrev pub Adds : List Line → ℕ → Type 0

@@ -65,7 +65,7 @@ found_there threads cs i left place e x lt is inside at holds d =
 
 pub candidate_there : (threads : List (Vec (List Value) Global)) (c : Combination) (p n : ℕ)
     (v : Vec ℕ Global) (w : List ℕ) (x : Execution) → n ≡ length c.orders
-    → p < length (candidates_of c) → v ≡ get_or c.sources.items (p / n) v
+    → p < length (candidates_of c) → v ≡ get_or c.reads_from.items (p / n) v
     → w ≡ get_or c.orders (p % n) [] → IsCandidateOf threads c (v.items, w) x
     → HoldsAt (λ t. IsCandidateOf threads c t x) (candidates_of c) p
 candidate_there threads c p n v w x is lt source order holds d =
@@ -75,7 +75,7 @@ candidate_there threads c p n v w x is lt source order holds d =
     there =
         candidate_at c p d v (has_orders c p lt) ((has_index c p (has_orders c p lt)).1 lt)
         ∙ sym (ap
-        (λ (k : ℕ). ((get_or c.sources.items (p / k) v).items, get_or c.orders (p % k) []))
+        (λ (k : ℕ). ((get_or c.reads_from.items (p / k) v).items, get_or c.orders (p % k) []))
         is)
         ∙ sym (ap (λ (u : Vec ℕ Global). (u.items, get_or c.orders (p % n) [])) source)
         ∙ sym (ap (λ (l : List ℕ). (v.items, l)) order)

@@ -8,9 +8,9 @@ use Rattle.std.proofs.lemmas.Option.{same_Some}
 use Rattle.thread_runs.specs.declared.value.Value.{Value}
 use Rattle.thread_runs.specs.declared.value.Value.TheVariants.{Number, Address, NoValue}
 use Rattle.thread_runs.specs.declared.instruction.Event as run
-use Rattle.thread_runs.specs.declared.instruction.Event.TheVariants.{Reads, Writes}
+use Rattle.thread_runs.specs.declared.instruction.Event.TheVariants as run_event
 use Rattle.thread_runs.specs.declared.instruction.Instruction.{Instruction}
-use Rattle.thread_runs.specs.declared.instruction.Instruction.TheVariants.{Immediate, Move, AddImmediate, Operate, Load, LoadIndexed, Store, StoreIndexed, Compare, CompareImmediate, Branch, Jump, Barrier}
+use Rattle.thread_runs.specs.declared.instruction.Instruction.TheVariants.{Immediate, Move, AddImmediate, Operate, Load, LoadIndexed, Store, StoreIndexed, Compare, CompareImmediate, Branch, Jump, Fence as FenceInstruction}
 use Rattle.thread_runs.specs.declared.instruction.Line.{Line}
 use Rattle.thread_runs.specs.declared.instruction.RunStep.{RunStep}
 use Rattle.thread_runs.specs.declared.state.State.{State}
@@ -21,7 +21,7 @@ use Rattle.candidates.proofs.Elements.{behind_first, in_first}
 use Rattle.candidates.proofs.Places.{along, Placed, placed_more, places_same}
 use Rattle.candidates.proofs.Whole.{AreLocated, located_both, event_located, located_all}
 use Rattle.text_values.specs.declared.instruction.Fence.{Fence}
-use Rattle.run_combinations.specs.Events.{thread_events, with_action, action_in, makes_store, fence_of_instruction, IsKind}
+use Rattle.run_combinations.specs.Events.{thread_events, with_action, action_in, is_store_instruction, fence_of_instruction, IsKind}
 use Rattle.run_combinations.specs.declared.combination.Action.TheVariants.{Fence as FenceAction}
 use Rattle.run_combinations.specs.declared.combination.Event.{Event}
 
@@ -34,8 +34,8 @@ pub record Alone (t : ℕ) (i : Instruction) (es : List run.Event) : Type 0 wher
 no_fence : {f : Fence} → Some f ≡ None → ⊥
 no_fence e = cc
 
-read_alone : (t : ℕ) (i : Instruction) (x v : Value) → makes_store i ≡ false → fence_of_instruction i ≡ None
-    → not (is_address x) ≡ false → Alone t i (Reads x v ∷ [])
+read_alone : (t : ℕ) (i : Instruction) (x v : Value) → is_store_instruction i ≡ false → fence_of_instruction i ≡ None
+    → not (is_address x) ≡ false → Alone t i (run_event.Load x v ∷ [])
 read_alone t i (Number n) v never unfenced h = absurd cc
 read_alone t i (Address l) v never unfenced h =
     record {
@@ -55,7 +55,7 @@ read_alone t i (Address l) v never unfenced h =
 read_alone t i NoValue v never unfenced h = absurd cc
 
 write_alone : (t : ℕ) (i : Instruction) (x v : Value) → loads i ≡ false → fence_of_instruction i ≡ None
-    → not (is_address x) ≡ false → Alone t i (Writes x v ∷ [])
+    → not (is_address x) ≡ false → Alone t i (run_event.Store x v ∷ [])
 write_alone t i (Number n) v never unfenced h = absurd cc
 write_alone t i (Address l) v never unfenced h =
     record {
@@ -91,7 +91,7 @@ alone t (Compare a b) v s h e = absurd cc
 alone t (CompareImmediate a n) v s h e = absurd cc
 alone t (Branch c l) v s h e = absurd cc
 alone t (Jump l) v s h e = absurd cc
-alone t (Barrier f) v s h e =
+alone t (FenceInstruction f) v s h e =
     record {
       event = _;
       alone = refl;

@@ -5,9 +5,9 @@ use Rattle.std.proofs.lemmas.Bool.{cases_eq, cases_lt}
 use Rattle.std.proofs.lemmas.List.{length-append}
 use Rattle.thread_runs.specs.declared.value.Value.{Value}
 use Rattle.thread_runs.specs.declared.instruction.Event as run
-use Rattle.thread_runs.specs.declared.instruction.Event.TheVariants.{Reads, Writes}
+use Rattle.thread_runs.specs.declared.instruction.Event.TheVariants as run_event
 use Rattle.thread_runs.specs.declared.instruction.Instruction.{Instruction}
-use Rattle.thread_runs.specs.declared.instruction.Instruction.TheVariants.{Immediate, Move, AddImmediate, Operate, Load, LoadIndexed, Store, StoreIndexed, Compare, CompareImmediate, Branch, Jump, Barrier}
+use Rattle.thread_runs.specs.declared.instruction.Instruction.TheVariants.{Immediate, Move, AddImmediate, Operate, Load, LoadIndexed, Store, StoreIndexed, Compare, CompareImmediate, Branch, Jump, Fence}
 use Rattle.thread_runs.specs.declared.instruction.Line.{Line}
 use Rattle.thread_runs.specs.declared.state.State.{State}
 use Rattle.thread_runs.specs.Machine.{register, is_load, event_of}
@@ -40,10 +40,10 @@ shape (Compare a b) v s = inl refl
 shape (CompareImmediate a n) v s = inl refl
 shape (Branch c l) v s = inl refl
 shape (Jump l) v s = inl refl
-shape (Barrier f) v s = inr (_, refl)
+shape (Fence f) v s = inr (_, refl)
 
 pub load_of : (i : Instruction) (v : Value) (s : State) → is_load i ≡ true
-    → (a : Value) × (event_of i v s ≡ Reads a v ∷ [])
+    → (a : Value) × (event_of i v s ≡ run_event.Load a v ∷ [])
 load_of (Load d a) v s e = (_, refl)
 load_of (LoadIndexed d a b) v s e = (_, refl)
 load_of (Immediate d n) v s e = absurd cc
@@ -56,16 +56,16 @@ load_of (Compare a b) v s e = absurd cc
 load_of (CompareImmediate a n) v s e = absurd cc
 load_of (Branch c l) v s e = absurd cc
 load_of (Jump l) v s e = absurd cc
-load_of (Barrier f) v s e = absurd cc
+load_of (Fence f) v s e = absurd cc
 
-stored_same : {a b x y : Value} → (Writes a x ∷ []) ≡ (Writes b y ∷ []) → x ≡ y
+stored_same : {a b x y : Value} → (run_event.Store a x ∷ []) ≡ (run_event.Store b y ∷ []) → x ≡ y
 stored_same e = cc
 
 abbrev pub StoresValue : Instruction → State → Value → Type 0
 StoresValue i s w = (q : ℕ) × IsStoredRegister i (Register q) × (w ≡ register s q)
 
 store_of : (i : Instruction) (v : Value) (s : State) (a w : Value)
-    → event_of i v s ≡ Writes a w ∷ [] → StoresValue i s w
+    → event_of i v s ≡ run_event.Store a w ∷ [] → StoresValue i s w
 store_of (Store d b) v s a w e = (d, refl, sym (stored_same e))
 store_of (StoreIndexed d b c) v s a w e = (d, refl, sym (stored_same e))
 store_of (Load d b) v s a w e = absurd cc
@@ -78,7 +78,7 @@ store_of (Compare b c) v s a w e = absurd cc
 store_of (CompareImmediate b n) v s a w e = absurd cc
 store_of (Branch c l) v s a w e = absurd cc
 store_of (Jump l) v s a w e = absurd cc
-store_of (Barrier f) v s a w e = absurd cc
+store_of (Fence f) v s a w e = absurd cc
 
 -- the events of instructions, by their event places
 module _ (f : Executed) (l : ℕ → Value) (s : State) where
@@ -165,12 +165,12 @@ pub record StoredAt (s : State) (o : Outcome) (k : ℕ) (w : Value) : Type 0 whe
 
 pub stored_at : (lines : List Line) (s : State) (vs : List Value) (o : Outcome)
     → run_of lines s vs ≡ Some o → (k : ℕ) (a w : Value)
-    → slice_get o.walk.events k ≡ Some (Writes a w) → StoredAt s o k w
+    → slice_get o.walk.events k ≡ Some (run_event.Store a w) → StoredAt s o k w
 stored_at lines s vs o e k a w is =
     let walk : IsWalkFrom s o.walk = run_is_walk lines s vs o e in
     let f : Executed = executed o.walk.steps in
     let l : ℕ → Value = loaded_at o.walk.steps in
-    let r : Step f l s (length o.walk.steps) k (Writes a w) = step_of f l s (length o.walk.steps) k (Writes a w) (sym (ap (λ (es : List run.Event). slice_get es k) walk.events) ∙ is) in
+    let r : Step f l s (length o.walk.steps) k (run_event.Store a w) = step_of f l s (length o.walk.steps) k (run_event.Store a w) (sym (ap (λ (es : List run.Event). slice_get es k) walk.events) ∙ is) in
     record { step = r.step; place = r.place; stores = store_of (f r.step) (l r.step) (state_at f l s r.step) a w r.event }
 
 -- and what a load reads
@@ -179,13 +179,13 @@ pub loaded_there : (lines : List Line) (s : State) (vs : List Value) (o : Outcom
     → is_load (executed o.walk.steps j) ≡ true
     → (a : Value)
     × (slice_get o.walk.events (event_index (executed o.walk.steps) j)
-    ≡ Some (Reads a (loaded_at o.walk.steps j)))
+    ≡ Some (run_event.Load a (loaded_at o.walk.steps j)))
 loaded_there lines s vs o e j lt load =
     let walk : IsWalkFrom s o.walk = run_is_walk lines s vs o e in
     let f : Executed = executed o.walk.steps in
     let l : ℕ → Value = loaded_at o.walk.steps in
-    let own : (a : Value) × (event_of (f j) (l j) (state_at f l s j) ≡ Reads a (l j) ∷ []) = load_of (f j) (l j) (state_at f l s j) load in (
+    let own : (a : Value) × (event_of (f j) (l j) (state_at f l s j) ≡ run_event.Load a (l j) ∷ []) = load_of (f j) (l j) (state_at f l s j) load in (
       own.0,
       ap (λ (es : List run.Event). slice_get es (event_index f j)) walk.events
-          ∙ event_there f l s (length o.walk.steps) j (Reads own.0 (l j)) lt own.1,
+          ∙ event_there f l s (length o.walk.steps) j (run_event.Load own.0 (l j)) lt own.1,
     )

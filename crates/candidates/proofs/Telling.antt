@@ -17,7 +17,7 @@ use Rattle.candidates.proofs.Kept.{AreKept, AllRuns, all_kept, product_kept, run
 use Rattle.candidates.proofs.Serving.{all_executions}
 use Rattle.candidates.proofs.Listing.{AreListed, no_more, one_more, not_one, Listing, all_listed}
 use Rattle.candidates.proofs.Small.{layout_small}
-use Rattle.candidates.specs.declared.fault.EvalRefusal.TheVariants.{TooManyEvents, TooManyValues, TooManyRuns, TooManyCandidates, AddressFault, TooManyCombinations}
+use Rattle.ppc_semantics.specs.declared.fault.EvalRefusal.TheVariants.{TooManyEvents, TooManyValues, TooManyRuns, TooManyCandidates, AddressFault, TooManyCombinations}
 use Rattle.candidates.specs.declared.fault.SpaceFault.{SpaceFault}
 use Rattle.candidates.specs.declared.fault.SpaceFault.TheVariants.{Refused, OutOfMemory}
 use Rattle.candidates.proofs.Deciding.{combined}
@@ -27,12 +27,9 @@ use Rattle.candidates.specs.TestSpaces.{IsRefusedAs, IsTestRefusal, HasLayout, I
 use Rattle.candidates.specs.Executions.{Execution, HasFaultedRun, product, events}
 use Rattle.run_combinations.specs.Layouts.{IsLaidOut}
 use Rattle.candidates.specs.Listed.{AreTestExecutions, ShowsExecution, ListsExecutions, HasManyExecutions, HasFaultedExecution, IsSpaceRefusal, IsSpaceFault}
-use Rattle.candidates.specs.Faults.{space_refusal_of}
-use Rattle.candidates.specs.declared.fault.EvalRefusal.{EvalRefusal}
+use Rattle.ppc_semantics.specs.declared.fault.EvalRefusal.{EvalRefusal}
 use Rattle.ppc_semantics.specs.Lowering.{IsTestDomainFault, AreNamesOf, test_names}
 use Rattle.text_values.specs.declared.name.Name.{Name}
-use Rattle.ppc_semantics.specs.declared.fault.DomainRefusal.{DomainRefusal}
-use Rattle.ppc_semantics.specs.declared.fault.DomainRefusal.TheVariants as no_domain
 use Rattle.ppc_semantics.specs.declared.fault.DomainFault.TheVariants as domain_faults
 use Rattle.run_combinations.specs.Orders.{all_orders}
 use Rattle.run_combinations.specs.Events.{initial_stores}
@@ -108,8 +105,8 @@ pub as_many : (n : ℕ) (initial : List Value) (threads : List Thread) (V : List
 as_many n initial threads V ts [] [] xs e no_more = refl
 as_many n initial threads V ts [] (c ∷ cs) xs e h = elim h [ ]
 as_many n initial threads V ts (b ∷ bs) (c ∷ cs) xs e
-    (one_more {xs = ys} {way = way} {ways = rest} rs i are h) =
-    let ways : List (List ℕ) = way ∷ rest in
+    (one_more {xs = ys} {reads_from = reads_from} {choices = rest} rs i are h) =
+    let choices : List (List ℕ) = reads_from ∷ rest in
     let os : List (List (List ℕ)) = product (orders_at (events initial rs) initial) in
     let f : length (events initial rs) ≤ 128 = subst (λ (l : List Event). length l ≤ 128) i.events i.few in
     let o : length os ≡ length (all_orders b.combination.events n) =
@@ -117,12 +114,12 @@ as_many n initial threads V ts (b ∷ bs) (c ∷ cs) xs e
     ∙ ap (λ (l : List (List ℕ)). length l) (orders_flat (events initial rs) initial f)
     ∙ ap (λ (k : ℕ). length (all_orders (events initial rs) k)) (sym e)
     ∙ ap (λ (l : List Event). length (all_orders l n)) (sym i.events) in
-    let a : length (flat_map (λ w. map (executed_so initial rs w) os) ways ++ ys) ≡ length (flat_map (λ w. map (executed_so initial rs w) os) ways) + length ys = length-append (flat_map (λ w. map (executed_so initial rs w) os) ways) ys in
-    let r : length (flat_map (λ w. map (executed_so initial rs w) os) ways) ≡ length ways * length os = length_rows (executed_so initial rs) os ways in
-    let m : length ways * length os ≡ length ways * length (all_orders b.combination.events n) = ap (λ (k : ℕ). length ways * k) o in
+    let a : length (flat_map (λ w. map (executed_so initial rs w) os) choices ++ ys) ≡ length (flat_map (λ w. map (executed_so initial rs w) os) choices) + length ys = length-append (flat_map (λ w. map (executed_so initial rs w) os) choices) ys in
+    let r : length (flat_map (λ w. map (executed_so initial rs w) os) choices) ≡ length choices * length os = length_rows (executed_so initial rs) os choices in
+    let m : length choices * length os ≡ length choices * length (all_orders b.combination.events n) = ap (λ (k : ℕ). length choices * k) o in
     let later : length ys ≡ candidate_total cs = as_many n initial threads V ts bs cs ys e h in
     a ∙ ap (λ (k : ℕ). k + length ys) (r ∙ m)
-    ∙ ap (λ (k : ℕ). length ways * length (all_orders b.combination.events n) + k) later
+    ∙ ap (λ (k : ℕ). length choices * length (all_orders b.combination.events n) + k) later
 as_many n initial threads V ts (b ∷ bs) cs xs e (not_one are h) =
     as_many n initial threads V ts bs cs xs e h
 
@@ -203,12 +200,14 @@ fault_told t l h f =
     let x : (x : Execution) × Contains told.all x × HasFaultedRun x = faulted_execution (location_count l) initial (threads_of h.0) h.1 l.threads.items n (all_combinations l) f.all told.all told.listed f.fault in
     record { initial = initial; all = told.all; executions = told.executions; few = omega (arith, c, g); execution = x.0; there = x.1; fault = x.2 }
 
-domain_told : (t : Test) (d : DomainRefusal) → IsTestDomainFault t (domain_faults.Refused d)
-    → IsSpaceRefusal t (space_refusal_of d)
-domain_told t no_domain.TooManyEvents h = h
-domain_told t no_domain.TooManyValues h = h
-domain_told t no_domain.TooManyRuns h = h
-domain_told t no_domain.TooManyCombinations h = h
+domain_told : (t : Test) (r : EvalRefusal) → IsTestDomainFault t (domain_faults.Refused r)
+    → IsSpaceRefusal t r
+domain_told t TooManyEvents h = h
+domain_told t TooManyValues h = h
+domain_told t TooManyRuns h = h
+domain_told t TooManyCombinations h = h
+domain_told t TooManyCandidates h = absurd h.2
+domain_told t AddressFault h = absurd h.2
 
 layout_told_refused : (t : Test) (l : Layout) (r : EvalRefusal) → HasLayout t l → IsRefusedAs l r
     → IsSpaceRefusal t r
@@ -221,6 +220,5 @@ layout_told_refused t l TooManyCombinations h impossible = absurd impossible
 
 pub refused_told : (t : Test) (f : SpaceFault) → IsTestRefusal t f → IsSpaceFault t f
 refused_told t (OutOfMemory e) h = tt
-refused_told t (Refused r) (inl h) =
-    subst (λ (x : EvalRefusal). IsSpaceRefusal t x) (sym h.1) (domain_told t h.0 h.2)
+refused_told t (Refused r) (inl h) = domain_told t r h
 refused_told t (Refused r) (inr h) = layout_told_refused t h.0 r h.1 h.2

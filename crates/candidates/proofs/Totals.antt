@@ -7,7 +7,7 @@ use Rattle.std.specs.declared.alloc.AllocError.{AllocError}
 use Rattle.std.specs.declared.alloc.Global.{Global}
 use Rattle.std.proofs.lemmas.Bool.{or_cases, or_parts}
 use Rattle.text_values.specs.declared.test.Test.{Test}
-use Rattle.candidates.specs.declared.fault.EvalRefusal.{EvalRefusal}
+use Rattle.ppc_semantics.specs.declared.fault.EvalRefusal.{EvalRefusal}
 use Rattle.candidates.specs.declared.fault.SpaceFault.{SpaceFault}
 use Rattle.candidates.specs.declared.fault.SpaceFault.TheVariants.{Refused, OutOfMemory}
 use Rattle.thread_runs.specs.declared.instruction.Program.{Program}
@@ -17,11 +17,11 @@ use Rattle.ppc_semantics.specs.Lowering.{IsProgram}
 use Rattle.run_combinations.specs.Keys.{IsKeyed, bit_of}
 use Rattle.run_combinations.specs.Layouts.{AreServedRuns, IsLaidOut}
 use Rattle.candidates.specs.declared.candidate.Space.{Space}
-use Rattle.run_combinations.specs.Ways.{AreReadChoices, IsReadChoice, accesses_in}
+use Rattle.run_combinations.specs.ReadChoices.{AreReadChoices, IsReadChoice, accesses_in}
 use Rattle.run_combinations.specs.Lists.{tuples}
 use Rattle.run_combinations.specs.Search.{PrefixLists, Tally, PrefixFits, AllPrefixesFit, tally_with, with_run, combinations, TalliesAll, none, more, AreTooMuch, now, later, no_tally, tally, initial_prefix, all_combinations, location_count}
 use Rattle.run_combinations.specs.Combinations.{CombinationLists, combination_lists, ordered}
-use Rattle.run_combinations.specs.Candidates.{AreCombinations, nothing_left, with_ways, without, candidate_total, HasFaultedCandidate, AreCandidates, AreTooMany, AreFaulted, AreSmall}
+use Rattle.run_combinations.specs.Candidates.{AreCombinations, nothing_left, with_read_choices, without, candidate_total, HasFaultedCandidate, AreCandidates, AreTooMany, AreFaulted, AreSmall}
 use Rattle.candidates.specs.TestSpaces.{IsAnswerTo, HasKeyedLayout, IsLayoutFault, IsTestSpace, IsTestRefusal}
 use Rattle.candidates.specs.Faults.{space_fault_of}
 use Rattle.ppc_semantics.specs.declared.fault.DomainFault.{DomainFault}
@@ -46,9 +46,9 @@ pub record Sum (n : ℕ) (bs : List PrefixLists) (t u : Tally) : Type 0 where
       × (t.faulted ≡ false)
   pub fault : u.faulted ≡ true → (t.faulted ≡ true) ⊎ HasFaultedCandidate bs
 
-same_ways : (b : PrefixLists) (xs ys : List (List ℕ)) → AreReadChoices b.combination.events b.needs xs
+same_read_choices : (b : PrefixLists) (xs ys : List (List ℕ)) → AreReadChoices b.combination.events b.needs xs
     → AreReadChoices b.combination.events b.needs ys → xs ≡ ys
-same_ways b xs ys h k =
+same_read_choices b xs ys h k =
     IsFiltered-unique (IsReadChoice (accesses_in b.combination.events b.needs))
     (tuples [] (accesses_in b.combination.events b.needs).sources) xs ys h k
 
@@ -65,8 +65,8 @@ true_not_false : (b : Bool) → b ≡ true → b ≡ false → ⊥
 true_not_false true t f = cc
 true_not_false false t f = cc
 
-wayless : {x : List ℕ} {xs : List (List ℕ)} → (x ∷ xs) ≡ [] → ⊥
-wayless e = cc
+choiceless : {x : List ℕ} {xs : List (List ℕ)} → (x ∷ xs) ≡ [] → ⊥
+choiceless e = cc
 
 pub summed : (n : ℕ) (bs : List PrefixLists) (t u : Tally) → TalliesAll n bs t u → Sum n bs t u
 summed n [] t u none =
@@ -79,8 +79,8 @@ summed n [] t u none =
     }
 summed n (b ∷ bs) t v (more {u = w} j h) = step j.0 j.1 j.2 (summed n bs w v h)
   where
-    step : (ways : List (List ℕ)) → AreReadChoices b.combination.events b.needs ways
-        → w ≡ tally_with n b ways t → Sum n bs w v → Sum n (b ∷ bs) t v
+    step : (choices : List (List ℕ)) → AreReadChoices b.combination.events b.needs choices
+        → w ≡ tally_with n b choices t → Sum n bs w v → Sum n (b ∷ bs) t v
     step [] are e s = record {
       all = s.all;
       are = without are s.are;
@@ -91,7 +91,7 @@ summed n (b ∷ bs) t v (more {u = w} j h) = step j.0 j.1 j.2 (summed n bs w v h
           let k : (map (ordered n) v.kept ≡ map (ordered n) w.kept ++ s.all) × (HasFaultedCandidate bs → ⊥) × (w.faulted ≡ false) = s.kept f in (
             k.0 ∙ ap (λ (x : Tally). map (ordered n) x.kept ++ s.all) e,
             (λ x. elim x [
-              | inl y ↦ wayless (same_ways b (y.1 ∷ y.2) [] y.3 are)
+              | inl y ↦ choiceless (same_read_choices b (y.1 ∷ y.2) [] y.3 are)
               | inr y ↦ k.1
                   y
             ]),
@@ -104,29 +104,29 @@ summed n (b ∷ bs) t v (more {u = w} j h) = step j.0 j.1 j.2 (summed n bs w v h
                 (inr y)
           ];
     }
-    step (way ∷ ways) are e s = record {
-      all = ordered n (record b.combination { sources = way ∷ ways }) ∷ s.all;
-      are = with_ways are s.are;
+    step (reads_from ∷ choices) are e s = record {
+      all = ordered n (record b.combination { reads_from = reads_from ∷ choices }) ∷ s.all;
+      are = with_read_choices are s.are;
       count =
-          let c : w.count ≡ t.count + length (way ∷ ways) * length (all_orders b.combination.events n) = ap (λ (x : Tally). x.count) e in
+          let c : w.count ≡ t.count + length (reads_from ∷ choices) * length (all_orders b.combination.events n) = ap (λ (x : Tally). x.count) e in
           let d : v.count ≡ w.count + candidate_total s.all = s.count in
           omega (arith, c, d);
       kept = λ f.
           let k : (map (ordered n) v.kept ≡ map (ordered n) w.kept ++ s.all) × (HasFaultedCandidate bs → ⊥) × (w.faulted ≡ false) = s.kept f in
           let o : (t.faulted || b.faulted) ≡ false = sym (ap (λ (x : Tally). x.faulted) e) ∙ k.2 in
           let p : (t.faulted ≡ false) × (b.faulted ≡ false) = or_parts t.faulted b.faulted o in
-          let q : w.kept ≡ t.kept ++ record b.combination { sources = way ∷ ways } ∷ [] = ap (λ (x : Tally). x.kept) e ∙ ap (λ (x : Bool). if x then t.kept else t.kept ++ record b.combination { sources = way ∷ ways } ∷ []) o in (
+          let q : w.kept ≡ t.kept ++ record b.combination { reads_from = reads_from ∷ choices } ∷ [] = ap (λ (x : Tally). x.kept) e ∙ ap (λ (x : Bool). if x then t.kept else t.kept ++ record b.combination { reads_from = reads_from ∷ choices } ∷ []) o in (
             k.0 ∙ ap (λ (l : List CombinationLists). map (ordered n) l ++ s.all) q
                 ∙ ap (λ (l : List CombinationLists). l ++ s.all) (map_pushed n t.kept
-                (record b.combination { sources = way ∷ ways }))
+                (record b.combination { reads_from = reads_from ∷ choices }))
                 ∙ append_assoc (map (ordered n) t.kept)
-                (ordered n (record b.combination { sources = way ∷ ways }) ∷ []) s.all,
+                (ordered n (record b.combination { reads_from = reads_from ∷ choices }) ∷ []) s.all,
             (λ x. elim x [ inl y ↦ true_not_false b.faulted y.0 p.1 | inr y ↦ k.1 y ]),
             p.0,
           );
       fault = λ f. elim (s.fault f) [
         | inl y ↦ elim (or_cases t.faulted b.faulted (sym (ap (λ (x : Tally). x.faulted) e) ∙ y))
-            [ inl a ↦ inl a | inr a ↦ inr (inl (a, way, ways, are)) ]
+            [ inl a ↦ inl a | inr a ↦ inr (inl (a, reads_from, choices, are)) ]
         | inr y ↦ inr (inr y)
       ];
     }
@@ -134,17 +134,17 @@ summed n (b ∷ bs) t v (more {u = w} j h) = step j.0 j.1 j.2 (summed n bs w v h
 pub over_all : (n : ℕ) (bs : List PrefixLists) (t : Tally) → AreTooMuch n bs t
     → (cs : List CombinationLists) → AreCombinations n bs cs → 16384 < t.count + candidate_total cs
 over_all n [] t h cs k = elim h [ ]
-over_all n (b ∷ bs) t (now h) cs (with_ways {cs = ds} {way = w} {ways = ws} are rest) =
+over_all n (b ∷ bs) t (now h) cs (with_read_choices {cs = ds} {reads_from = w} {read_choices = ws} are rest) =
     let g : 16384 < t.count + length (w ∷ ws) * length (all_orders b.combination.events n) = h (w ∷ ws) are in omega (arith, g)
 over_all n (b ∷ bs) t (now h) cs (without are rest) =
     let g : 16384 < t.count + length (let l : List (List ℕ) = [] in l) * length (all_orders b.combination.events n) = h [] are in omega (arith, g)
-over_all n (b ∷ bs) t (later {u = u} j h) cs (with_ways {cs = ds} {way = w} {ways = ws} are rest) =
+over_all n (b ∷ bs) t (later {u = u} j h) cs (with_read_choices {cs = ds} {reads_from = w} {read_choices = ws} are rest) =
     let g : 16384 < u.count + candidate_total ds = over_all n bs u h ds rest in
-    let e : u.count ≡ t.count + length (w ∷ ws) * length (all_orders b.combination.events n) = ap (λ (x : Tally). x.count) (j.2 ∙ ap (λ (l : List (List ℕ)). tally_with n b l t) (same_ways b j.0 (w ∷ ws) j.1 are)) in
+    let e : u.count ≡ t.count + length (w ∷ ws) * length (all_orders b.combination.events n) = ap (λ (x : Tally). x.count) (j.2 ∙ ap (λ (l : List (List ℕ)). tally_with n b l t) (same_read_choices b j.0 (w ∷ ws) j.1 are)) in
     omega (arith, g, e)
 over_all n (b ∷ bs) t (later {u = u} j h) cs (without are rest) =
     let g : 16384 < u.count + candidate_total cs = over_all n bs u h cs rest in
-    let e : u.count ≡ t.count = ap (λ (x : Tally). x.count) (j.2 ∙ ap (λ (l : List (List ℕ)). tally_with n b l t) (same_ways b j.0 [] j.1 are)) in
+    let e : u.count ≡ t.count = ap (λ (x : Tally). x.count) (j.2 ∙ ap (λ (l : List (List ℕ)). tally_with n b l t) (same_read_choices b j.0 [] j.1 are)) in
     omega (arith, g, e)
 
 -- nothing was found before
@@ -298,7 +298,7 @@ all_searched l o f cs e b h m =
 pub test_fault : (t : Test) (p : Program) (e : DomainFault) (f : SpaceFault) → f ≡ space_fault_of e
     → IsProgram t p → LacksDomain p e → IsLayoutFault t f
 test_fault t p (domain_faults.Refused r) f is h k =
-    subst (λ (x : SpaceFault). IsLayoutFault t x) (sym is) (r, refl, (p, h, k))
+    subst (λ (x : SpaceFault). IsLayoutFault t x) (sym is) (p, h, k)
 test_fault t p (domain_faults.OutOfMemory x) f is h k =
     subst (λ (x : SpaceFault). IsLayoutFault t x) (sym is) tt
 

@@ -5,9 +5,9 @@ use Rattle.std.proofs.lemmas.Option.{same_Some}
 use Rattle.thread_runs.specs.declared.value.Value.{Value}
 use Rattle.thread_runs.specs.declared.value.Value.TheVariants.{Number, Address, NoValue}
 use Rattle.thread_runs.specs.declared.instruction.Event as run
-use Rattle.thread_runs.specs.declared.instruction.Event.TheVariants.{Reads, Writes}
+use Rattle.thread_runs.specs.declared.instruction.Event.TheVariants as run_event
 use Rattle.thread_runs.specs.declared.instruction.Instruction.{Instruction}
-use Rattle.thread_runs.specs.declared.instruction.Instruction.TheVariants.{Immediate, Move, AddImmediate, Operate, Load, LoadIndexed, Store, StoreIndexed, Compare, CompareImmediate, Branch, Jump, Barrier}
+use Rattle.thread_runs.specs.declared.instruction.Instruction.TheVariants.{Immediate, Move, AddImmediate, Operate, Load, LoadIndexed, Store, StoreIndexed, Compare, CompareImmediate, Branch, Jump, Fence}
 use Rattle.thread_runs.specs.declared.instruction.Line.{Line}
 use Rattle.thread_runs.specs.declared.instruction.Line.TheVariants.{Label, Does}
 use Rattle.thread_runs.specs.declared.state.State.{State}
@@ -15,7 +15,7 @@ use Rattle.thread_runs.specs.Machine.{register, sum_of, is_load, is_fault, is_ad
 use Rattle.thread_runs.specs.Runs.{Walk, Outcome, walk_at, walk_after, walk_past, ends, after_load, after_instruction, after_line, run_from, run_of}
 use Rattle.run_combinations.specs.Events.{action_in, with_action, thread_events}
 use Rattle.run_combinations.specs.declared.combination.Action.{Action}
-use Rattle.run_combinations.specs.declared.combination.Action.TheVariants.{Read, Write, Fence}
+use Rattle.run_combinations.specs.declared.combination.Action.TheVariants as actions
 
 -- each event is a fence or is at a location
 abbrev pub AreLocated : List run.Event → Type 0
@@ -26,14 +26,14 @@ pub located_both : (es fs : List run.Event) → AreLocated es → AreLocated fs 
 located_both [] fs h k = k
 located_both (e ∷ es) fs h k = (h.0, located_both es fs h.1 k)
 
-read_located : (x v : Value) → not (is_address x) ≡ false → AreLocated (Reads x v ∷ [])
+read_located : (x v : Value) → not (is_address x) ≡ false → AreLocated (run_event.Load x v ∷ [])
 read_located (Number n) v h = absurd cc
-read_located (Address l) v h = ((Read l v, refl), tt)
+read_located (Address l) v h = ((actions.Load l v, refl), tt)
 read_located NoValue v h = absurd cc
 
-write_located : (x v : Value) → not (is_address x) ≡ false → AreLocated (Writes x v ∷ [])
+write_located : (x v : Value) → not (is_address x) ≡ false → AreLocated (run_event.Store x v ∷ [])
 write_located (Number n) v h = absurd cc
-write_located (Address l) v h = ((Write l v, refl), tt)
+write_located (Address l) v h = ((actions.Store l v, refl), tt)
 write_located NoValue v h = absurd cc
 
 pub event_located : (i : Instruction) (v : Value) (s : State) → is_fault i s ≡ false
@@ -51,7 +51,7 @@ event_located (Compare a b) v s h = tt
 event_located (CompareImmediate a n) v s h = tt
 event_located (Branch c l) v s h = tt
 event_located (Jump l) v s h = tt
-event_located (Barrier f) v s h = ((Fence f, refl), tt)
+event_located (Fence f) v s h = ((actions.Fence f, refl), tt)
 
 -- what is left of the text keeps it so
 abbrev Keeps : List Line → Type 0

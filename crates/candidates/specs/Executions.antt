@@ -11,7 +11,7 @@ use Rattle.dataflow.specs.Chains.{Executed, IsNeed, event_index}
 use Rattle.run_combinations.specs.Lists.{IsFiltered}
 use Rattle.run_combinations.specs.Events.{numbers, is_store_to, AreDistinct, thread_events, initial_stores, is_load, is_store, ReadsFrom}
 use Rattle.run_combinations.specs.declared.combination.Action.{Action}
-use Rattle.run_combinations.specs.declared.combination.Action.TheVariants.{Read, Write}
+use Rattle.run_combinations.specs.declared.combination.Action.TheVariants.{Load, Store}
 use Rattle.run_combinations.specs.declared.combination.Event.{Event}
 
 -- An execution: a run of each thread; reads-from, which gives for each load, in the order of the
@@ -72,8 +72,8 @@ Does es n action = (e : Event) × (slice_get es n ≡ Some e) × (e.action ≡ a
 -- the load reads the store: both are of one location and one value
 abbrev pub MayRead : List Event → ℕ → ℕ → Type 0
 MayRead es load store =
-    (location : ℕ) × (value : Value) × Does es load (Read location value)
-    × Does es store (Write location value)
+    (location : ℕ) × (value : Value) × Does es load (Load location value)
+    × Does es store (Store location value)
 
 -- the list is an order of the stores of a location: the initial store, which has the number of the
 -- location, is the first, and each of the stores stands in it just once

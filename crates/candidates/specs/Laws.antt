@@ -6,8 +6,8 @@ use Rattle.text_values.specs.declared.test.Test.{Test}
 use Rattle.thread_runs.specs.declared.instruction.Program.{Program}
 use Rattle.thread_runs.specs.declared.value.Value.{Value}
 use Rattle.ppc_semantics.specs.Domain.{IsDomainAt, load_total, threads_of}
-use Rattle.ppc_semantics.specs.Lowering.{IsProgram}
-use Rattle.candidates.specs.declared.fault.EvalRefusal.{EvalRefusal}
+use Rattle.ppc_semantics.specs.Lowering.{IsProgram, IsTestDomain}
+use Rattle.ppc_semantics.specs.declared.fault.EvalRefusal.{EvalRefusal}
 use Rattle.thread_runs.specs.ValueSet.{IsProperValue}
 use Rattle.thread_runs.specs.Runs.{Thread, Run, IsThreadRun, run_of, executed}
 use Rattle.candidates.specs.Executions.{Execution, IsExecution, AreExecutions, Does, events, stores, over_runs, event_number}
@@ -16,10 +16,10 @@ use Rattle.dataflow.specs.Chains.{is_event}
 use Rattle.run_combinations.specs.Events.{thread_events, CannotRead, IsKind}
 use Rattle.run_combinations.specs.declared.combination.Event.{Event}
 use Rattle.candidates.specs.Space.{shown_by, ShowTheSame}
-use Rattle.run_combinations.specs.declared.combination.Action.TheVariants.{Write}
+use Rattle.run_combinations.specs.declared.combination.Action.TheVariants.{Store}
 use Rattle.candidates.specs.declared.execution.Execution as shown
 use Rattle.candidates.specs.declared.candidate.Space.{Space}
-use Rattle.candidates.specs.Listed.{AreTestExecutions, ShowsExecution, ListsExecutions, IsSpaceRefusal}
+use Rattle.candidates.specs.Listed.{AreTestExecutions, ShowsExecution, ListsExecutions, HasNoDomain, IsSpaceRefusal}
 
 -- the law of the domain: what is shown, where the loads of the execution take any values whatever,
 -- is an execution over the values of the last round, also of a test that is refused for a bound
@@ -62,7 +62,7 @@ NumbersItsSteps initial threads runs =
 pub record IsCovered (initial : List Value) (x : Execution) (store : ℕ) : Type 0 where
   pub location : ℕ
   pub value : Value
-  pub stores : Does (events initial x.runs) store (Write location value)
+  pub stores : Does (events initial x.runs) store (Store location value)
   pub order : List ℕ
   pub coherence : slice_get x.coherence location ≡ Some order
   pub there : Contains order store
@@ -74,6 +74,13 @@ CoversEachStore t =
     → IsExecution p.initial.items (threads_of p) IsProperValue x
     → (store : ℕ) → Contains (stores (events p.initial.items x.runs)) store
     → IsCovered p.initial.items x store
+
+-- the domain of a test is one list, or it is refused for one reason: never both
+pub record HasOneDomainOrRefusal (t : Test) : Type 0 where
+  pub one_domain : (V W : List Value) → IsTestDomain t V → IsTestDomain t W → V ≡ W
+  pub one_refusal : (q r : EvalRefusal) → HasNoDomain t q → HasNoDomain t r → q ≡ r
+  pub domain_or_refused : (V : List Value) (r : EvalRefusal) → IsTestDomain t V → HasNoDomain t r
+      → ⊥
 
 -- a test has one outcome: a space or a refusal, and one refusal at most
 pub record HasOneSpaceOrRefusal (t : Test) : Type 0 where

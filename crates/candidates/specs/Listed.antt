@@ -8,10 +8,8 @@ use Rattle.thread_runs.specs.declared.instruction.Program.{Program}
 use Rattle.thread_runs.specs.declared.value.Value.{Value}
 use Rattle.ppc_semantics.specs.Domain.{IsDomain, IsDomainRefusal, threads_of}
 use Rattle.ppc_semantics.specs.Lowering.{IsProgram, AreNamesOf, test_names}
-use Rattle.ppc_semantics.specs.declared.fault.DomainRefusal.{DomainRefusal}
-use Rattle.ppc_semantics.specs.declared.fault.DomainRefusal.TheVariants as no_domain
-use Rattle.candidates.specs.declared.fault.EvalRefusal.{EvalRefusal}
-use Rattle.candidates.specs.declared.fault.EvalRefusal.TheVariants.{TooManyEvents, TooManyValues, TooManyRuns, TooManyCandidates, AddressFault, TooManyCombinations}
+use Rattle.ppc_semantics.specs.declared.fault.EvalRefusal.{EvalRefusal}
+use Rattle.ppc_semantics.specs.declared.fault.EvalRefusal.TheVariants.{TooManyEvents, TooManyValues, TooManyRuns, TooManyCandidates, AddressFault, TooManyCombinations}
 use Rattle.candidates.specs.declared.fault.SpaceFault.{SpaceFault}
 use Rattle.candidates.specs.declared.fault.SpaceFault.TheVariants.{Refused, OutOfMemory}
 use Rattle.dataflow.specs.Chains.{Executed, IsAddr, IsData, IsCtrl, IsCtrlIsync, IsNeed, IsPairBefore}
@@ -45,8 +43,8 @@ pub record ShowsExecution (initial : List Value) (x : Execution) (e : Shown) : T
   pub «data» : AreDependencyPairs IsData initial x e.dependencies.data_pairs
   pub ctrl : AreDependencyPairs IsCtrl initial x e.dependencies.ctrl_pairs
   pub ctrlisync : AreDependencyPairs IsCtrlIsync initial x e.dependencies.ctrlisync_pairs
-  pub reads_from : e.sources ≡ x.reads_from
-  pub coherence : e.order ≡ flat_map (λ order. order) x.coherence
+  pub reads_from : e.reads_from ≡ x.reads_from
+  pub coherence : e.coherence ≡ flat_map (λ order. order) x.coherence
   pub registers : e.registers ≡ map (λ r. r.outcome.walk.state.registers) x.runs
 
 -- the space lists just the executions of the test, in their order: at most 16,384, of which none
@@ -78,15 +76,15 @@ pub record HasFaultedExecution (t : Test) : Type 0 where
   pub fault : HasFaultedRun execution
 
 -- the domain of the test is refused
-abbrev pub HasNoDomain : Test → DomainRefusal → Type 0
+abbrev pub HasNoDomain : Test → EvalRefusal → Type 0
 HasNoDomain t r = (p : Program) × IsProgram t p × IsDomainRefusal p r
 
 -- why a test has no space: its domain is refused, or its executions call for a refusal
 abbrev pub IsSpaceRefusal : Test → EvalRefusal → Type 0
-IsSpaceRefusal t TooManyEvents = HasNoDomain t no_domain.TooManyEvents
-IsSpaceRefusal t TooManyValues = HasNoDomain t no_domain.TooManyValues
-IsSpaceRefusal t TooManyRuns = HasNoDomain t no_domain.TooManyRuns
-IsSpaceRefusal t TooManyCombinations = HasNoDomain t no_domain.TooManyCombinations
+IsSpaceRefusal t TooManyEvents = HasNoDomain t TooManyEvents
+IsSpaceRefusal t TooManyValues = HasNoDomain t TooManyValues
+IsSpaceRefusal t TooManyRuns = HasNoDomain t TooManyRuns
+IsSpaceRefusal t TooManyCombinations = HasNoDomain t TooManyCombinations
 IsSpaceRefusal t TooManyCandidates = HasManyExecutions t
 IsSpaceRefusal t AddressFault = HasFaultedExecution t
 

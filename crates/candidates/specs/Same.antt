@@ -21,14 +21,14 @@ pairs_left xs ys i j = cond (nat_lt j (length ys)) (pairs_from xs ys i j) []
 abbrev pub candidates_from : List Combination → ℕ → ℕ → List Candidate
 candidates_from [] i j = []
 candidates_from (c ∷ cs) i j =
-    map (λ t. (c, t)) (pairs_left (lists_of c.sources.items) c.orders i j) ++ candidates_in cs
+    map (λ t. (c, t)) (pairs_left (lists_of c.reads_from.items) c.orders i j) ++ candidates_in cs
 
 -- those that are left
 abbrev pub left_in : Candidates → List Candidate
 left_in c = candidates_from c.combinations.now c.source c.order
 
 abbrev pub chosen : Chosen → Candidate
-chosen c = (c.combination.now, (c.sources.now, c.order.now))
+chosen c = (c.combination.now, (c.reads_from.now, c.coherence.now))
 
 -- the next candidate is taken from those that are left
 abbrev pub IsNextCandidate : Candidates → Candidates → Option Chosen → Type 0

@@ -33,24 +33,24 @@ pub record IsCandidateOf (threads : List (Vec (List Value) Global)) (c : Combina
     (t : List ℕ × List ℕ) (e : Execution) : Type 0 where
   pub events : e.events.items ≡ c.events.items
   pub dependencies : dependency_lists e.dependencies ≡ dependency_lists c.dependencies
-  pub sources : e.sources.items ≡ t.0
-  pub order : e.order.items ≡ t.1
+  pub reads_from : e.reads_from.items ≡ t.0
+  pub coherence : e.coherence.items ≡ t.1
   pub registers : e.registers.items ≡ registers_at threads c.runs.items
 
 -- what an execution shows, as plain data
 pub record Shown : Type 0 where
   pub events : List Event
   pub dependencies : DependencyLists
-  pub sources : List ℕ
-  pub order : List ℕ
+  pub reads_from : List ℕ
+  pub coherence : List ℕ
   pub registers : List (List Value)
 
 abbrev pub shown_by : Execution → Shown
 shown_by e = record {
   events = e.events.items;
   dependencies = dependency_lists e.dependencies;
-  sources = e.sources.items;
-  order = e.order.items;
+  reads_from = e.reads_from.items;
+  coherence = e.coherence.items;
   registers = e.registers.items;
 }
 
@@ -59,8 +59,8 @@ abbrev pub shown_of : List (Vec (List Value) Global) → Candidate → Shown
 shown_of threads x = record {
   events = x.0.events.items;
   dependencies = dependency_lists x.0.dependencies;
-  sources = x.1.0;
-  order = x.1.1;
+  reads_from = x.1.0;
+  coherence = x.1.1;
   registers = registers_at threads x.0.runs.items;
 }
 

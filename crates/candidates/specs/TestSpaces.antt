@@ -1,7 +1,7 @@
 -- The space of a layout, or why it has none; and the space of a test, or why it has none.
 use Rattle.std.specs.Prelude.{Vec, ℕ, ◌≡◌, ◌⊎◌, List, map, Option, Result, Ok, Err}
-use Rattle.candidates.specs.declared.fault.EvalRefusal.{EvalRefusal}
-use Rattle.candidates.specs.declared.fault.EvalRefusal.TheVariants.{TooManyCandidates, AddressFault}
+use Rattle.ppc_semantics.specs.declared.fault.EvalRefusal.{EvalRefusal}
+use Rattle.ppc_semantics.specs.declared.fault.EvalRefusal.TheVariants.{TooManyCandidates, AddressFault}
 use Rattle.std.specs.declared.alloc.Global.{Global}
 use Rattle.thread_runs.specs.declared.value.Value.{Value}
 use Rattle.candidates.specs.declared.fault.SpaceFault.{SpaceFault}
@@ -10,9 +10,7 @@ use Rattle.thread_runs.specs.declared.instruction.Program.{Program}
 use Rattle.thread_runs.specs.declared.run.Run.{Run}
 use Rattle.ppc_semantics.specs.Domain.{IsDomain}
 use Rattle.ppc_semantics.specs.Lowering.{IsProgram, IsTestDomainFault}
-use Rattle.ppc_semantics.specs.declared.fault.DomainRefusal.{DomainRefusal}
 use Rattle.ppc_semantics.specs.declared.fault.DomainFault.TheVariants as domain_faults
-use Rattle.candidates.specs.Faults.{space_refusal_of}
 use Rattle.text_values.specs.declared.test.Test.{Test}
 use Rattle.run_combinations.specs.Keys.{IsKeyed}
 use Rattle.run_combinations.specs.Events.{initial_stores}
@@ -64,8 +62,7 @@ abbrev pub IsTestSpace : Test → Space → Type 0
 IsTestSpace t s = (l : Layout) × HasLayout t l × IsLayoutSpace l s
 
 abbrev pub IsLayoutFault : Test → SpaceFault → Type 0
-IsLayoutFault t (Refused r) =
-    (d : DomainRefusal) × (r ≡ space_refusal_of d) × IsTestDomainFault t (domain_faults.Refused d)
+IsLayoutFault t (Refused r) = IsTestDomainFault t (domain_faults.Refused r)
 IsLayoutFault t (OutOfMemory e) = Unit {0}
 
 abbrev pub IsTestRefusal : Test → SpaceFault → Type 0

@@ -43,13 +43,13 @@ fn execution_of(
         (candidates_of combination.now) index) }
 {
     let orders = combination.orders.len();
-    let sources = &combination.sources[index / orders];
-    let order = combination.orders.order(index % orders);
+    let reads_from = &combination.reads_from[index / orders];
+    let coherence = combination.orders.order(index % orders);
     Ok(Execution {
         events: Vec::from_slice(alloc, &combination.events)?,
         dependencies: combination.dependencies.copied(alloc)?,
-        sources: Vec::from_slice(alloc, sources)?,
-        order: Vec::from_slice(alloc, order)?,
+        reads_from: Vec::from_slice(alloc, reads_from)?,
+        coherence: Vec::from_slice(alloc, coherence)?,
         registers: final_registers(alloc, registers, &combination.runs)?,
     })
 }

@@ -14,9 +14,9 @@ pub struct Execution {
     /// The dependencies, by the numbers of their events.
     pub dependencies: Dependencies,
     /// For each load in event order, the number of the store that it reads.
-    pub sources: Vec<u8>,
+    pub reads_from: Vec<u8>,
     /// The stores of each location after one another, in coherence order.
-    pub order: Vec<u8>,
+    pub coherence: Vec<u8>,
     /// For each thread, what the registers hold at the end.
     pub registers: Vec<[Value; 32]>,
     /// There are at most 128 events.

@@ -5,7 +5,7 @@ ghost use Rattle.std.specs.Prelude.{List};
 ghost use Rattle.thread_runs.specs.declared.value.Value.{Value};
 ghost use Rattle.thread_runs.specs.Runs.{Thread, Run};
 ghost use Rattle.candidates.specs.Listed.{ChoosesApart};
-ghost use Rattle.candidates.specs.Laws.{HasAllExecutions, CoversEachStore, LosesNoValue, HasOneSpaceOrRefusal, HasOneList, ShowOneTest, LosesNoExecution, DropsNoEvent, NumbersItsSteps};
+ghost use Rattle.candidates.specs.Laws.{HasAllExecutions, CoversEachStore, LosesNoValue, HasOneDomainOrRefusal, HasOneSpaceOrRefusal, HasOneList, ShowOneTest, LosesNoExecution, DropsNoEvent, NumbersItsSteps};
 
 use crate::{Execution, Space};
 use text_values::Test;
@@ -59,6 +59,13 @@ pub fn dependencies_name_events_of_their_steps()
 /// Each store of an execution stands in the coherence of its location.
 pub fn coherence_covers_each_store(test: &Test)
     ensures { CoversEachStore test.now }
+{
+    let _test = test;
+}
+
+/// The domain of a test is one list of values, or it is refused for one reason.
+pub fn domains_are_one(test: &Test)
+    ensures { HasOneDomainOrRefusal test.now }
 {
     let _test = test;
 }

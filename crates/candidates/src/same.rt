@@ -23,8 +23,8 @@ pub struct Candidates<'a> {
 #[derive(Drop)]
 pub struct Chosen<'a> {
     combination: &'a Combination,
-    sources: &'a [u8],
-    order: &'a [u8],
+    reads_from: &'a [u8],
+    coherence: &'a [u8],
 }
 
 fn are_same_bytes(first: &[u8], second: &[u8]) -> bool
@@ -38,21 +38,21 @@ fn is_same_action(first: Action, second: Action) -> bool
 {
     match (first, second) {
         (
-            Action::Read {
+            Action::Load {
                 location: one,
                 value,
             },
-            Action::Read {
+            Action::Load {
                 location: other,
                 value: second_value,
             },
         ) => one == other && is_same(value, second_value),
         (
-            Action::Write {
+            Action::Store {
                 location: one,
                 value,
             },
-            Action::Write {
+            Action::Store {
                 location: other,
                 value: second_value,
             },
@@ -123,11 +123,11 @@ impl<'a> Candidates<'a> {
         ensures { IsNextCandidate self.old self.new result }
     {
         while let Some(combination) = self.combinations.first() {
-            if self.source < combination.sources.len() && self.order < combination.orders.len() {
+            if self.source < combination.reads_from.len() && self.order < combination.orders.len() {
                 let chosen = Chosen {
                     combination,
-                    sources: &combination.sources[self.source],
-                    order: combination.orders.order(self.order),
+                    reads_from: &combination.reads_from[self.source],
+                    coherence: combination.orders.order(self.order),
                 };
                 self.order += 1;
                 if self.order == combination.orders.len() {
@@ -157,8 +157,8 @@ fn is_same_chosen(
 {
     let one = first.combination;
     let other = second.combination;
-    are_same_bytes(first.sources, second.sources)
-        && are_same_bytes(first.order, second.order)
+    are_same_bytes(first.reads_from, second.reads_from)
+        && are_same_bytes(first.coherence, second.coherence)
         && are_same_events(&one.events, &other.events)
         && one.dependencies.is_same(&other.dependencies)
         && are_same_ends(first_ends, &one.runs, second_ends, &other.runs)

@@ -1,12 +1,12 @@
 -- The laws of the names of a group as a number.
-use Rattle.std.proofs.Common.{ℕ, ◌≡◌, ◌<◌, ◌↔◌, ◌⊎◌, ◌*◌, ◌-◌, ◌%◌, ◌^◌, ◌+◌, ◌∙◌, w64, min, inl, inr, arith, sym, List, length, get_or}
+use Rattle.std.proofs.Common.{ℕ, ◌≡◌, ◌<◌, ◌↔◌, ◌⊎◌, ◌*◌, ◌-◌, ◌%◌, ◌^◌, ◌+◌, ◌∙◌, ◌≤◌, w64, min, refl, inl, inr, arith, sym, List, length, get_or}
 use Rattle.std.specs.Int.{bit_at}
 use Rattle.std.specs.Int.RustNames.{bit_or}
 use Rattle.std.proofs.lemmas.Nat.Bits.{bit_at-zero, bit_at_set_same, bit_at_set_other, bit_at_ones}
 use Rattle.std.proofs.lemmas.Bool.{cases_eq}
 use Rattle.std.proofs.lemmas.List.{get_or_read}
 use Rattle.binding_graph.specs.declared.resolved.Body.{Body}
-use Rattle.cat_eval.specs.Uses.{ShareBit, IsAmong, UsesAny, UsesAt}
+use Rattle.cat_eval.specs.Uses.{ShareBit, IsAmong, UsesAny, UsesAt, UsesNear}
 use Rattle.bit_relations.proofs.Bits.{zero_or_one}
 
 pub among_none : (k : ℕ) → IsAmong 0 k → ⊥
@@ -87,3 +87,17 @@ next_unused grew names position bodies body lt is unused before k = (
     | inr other ↦ (before k).1 (h.0, omega (arith, other, h.1), h.2, h.3)
   ]),
 )
+
+-- in a group of up to 64 names each has a bit of its own
+pub own_bit : (grew names : ℕ) (bodies : List Body) → length bodies ≤ 64
+    → ((k : ℕ) → IsAmong names k ↔ UsesNear grew bodies k) → (k : ℕ) → k < 64
+    → (bit_at names k ≡ 1) ↔ UsesAt grew bodies k
+unfolding IsAmong
+own_bit grew names bodies few near k lt =
+    let least : min k 63 ≡ k = grind (arith, k, lt) in (
+      (λ h.
+          let (other, share, at) = (near k).0 (rw least h) in
+          let there : other < length bodies = at.1 in
+          let same : other ≡ k = grind (arith, share, there, few, lt) in rw same at at),
+      (λ at. let h = (near k).1 (k, refl, at) in rw least at h),
+    )

@@ -114,8 +114,8 @@ pub last_now : (check : CheckCode) (inputs : List (Bor Column)) (bases : List Na
 last_now check inputs bases base known n here right = λ answer one e ends.
     let (long, at) = ends_long (bases ++ base ∷ []) one ends in
     let many : length (bases ++ base ∷ []) ≡ length bases + 1 = length-append bases (base ∷ []) in
-    let front : length bases ≡ length ends.0 = omega (arith, long, many) in
-    let same : base ≡ one = same_Some base one (sym (get_last bases base) ∙ ap (λ (k : ℕ). slice_get (bases ++ base ∷ []) k) front ∙ at) in
+    let prefix : length bases ≡ length ends.0 = omega (arith, long, many) in
+    let same : base ≡ one = same_Some base one (sym (get_last bases base) ∙ ap (λ (k : ℕ). slice_get (bases ++ base ∷ []) k) prefix ∙ at) in
     let place : n ≡ length (bases ++ base ∷ []) - 1 = omega (arith, here, many) in
     subst (λ (m : ℕ). IsAnswerOver check inputs one m check.code.kind answer) place
     (subst (λ (b : NamedValues). IsAnswerOver check inputs b n check.code.kind answer) same

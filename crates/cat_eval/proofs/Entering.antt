@@ -69,29 +69,29 @@ flat_step f xs i x lt is =
     one f x = append-nil (f x)
 
 -- the candidates in the order of the loops are those of the space
-so_listed : (c : Combination) (sources : List ℕ) (orders : List (List ℕ))
-    → reading_so c sources orders ≡ map (λ t. (c, t)) (map (λ y. (sources, y)) orders)
-so_listed c sources [] = refl
-so_listed c sources (o ∷ os) =
-    ap (λ (rest : List Candidate). (c, (sources, o)) ∷ rest) (so_listed c sources os)
+so_listed : (c : Combination) (reads_from : List ℕ) (orders : List (List ℕ))
+    → reading_so c reads_from orders ≡ map (λ t. (c, t)) (map (λ y. (reads_from, y)) orders)
+so_listed c reads_from [] = refl
+so_listed c reads_from (o ∷ os) =
+    ap (λ (rest : List Candidate). (c, (reads_from, o)) ∷ rest) (so_listed c reads_from os)
 
-ways_listed : (c : Combination) (ways : List (Vec ℕ Global)) (orders : List (List ℕ))
-    → flat_map (λ s. reading_so c s.items orders) ways
-    ≡ map (λ t. (c, t)) (pairs (lists_of ways) orders)
-ways_listed c [] orders = refl
-ways_listed c (w ∷ ws) orders =
-    ap (λ (front : List Candidate). front ++ flat_map (λ s. reading_so c s.items orders) ws)
+read_choices_listed : (c : Combination) (read_choices : List (Vec ℕ Global)) (orders : List (List ℕ))
+    → flat_map (λ s. reading_so c s.items orders) read_choices
+    ≡ map (λ t. (c, t)) (pairs (lists_of read_choices) orders)
+read_choices_listed c [] orders = refl
+read_choices_listed c (w ∷ ws) orders =
+    ap (λ (prefix : List Candidate). prefix ++ flat_map (λ s. reading_so c s.items orders) ws)
     (so_listed c w.items orders)
     ∙ ap (λ (back : List Candidate). map (λ t. (c, t)) (map (λ y. (w.items, y)) orders) ++ back)
-    (ways_listed c ws orders)
+    (read_choices_listed c ws orders)
     ∙ sym (map-append (λ t. (c, t)) (map (λ y. (w.items, y)) orders) (pairs (lists_of ws) orders))
 
-in_listed : (c : Combination) → reading_in c c.sources.items ≡ map (λ t. (c, t)) (candidates_of c)
+in_listed : (c : Combination) → reading_in c c.reads_from.items ≡ map (λ t. (c, t)) (candidates_of c)
 unfolding candidates_of
-in_listed c = ways_listed c c.sources.items c.orders
+in_listed c = read_choices_listed c c.reads_from.items c.orders
 
 pub listed : (cs : List Combination) → of_combinations cs ≡ candidates_in cs
 listed [] = refl
 listed (c ∷ cs) =
-    ap (λ (front : List Candidate). front ++ of_combinations cs) (in_listed c)
+    ap (λ (prefix : List Candidate). prefix ++ of_combinations cs) (in_listed c)
     ∙ ap (λ (back : List Candidate). map (λ t. (c, t)) (candidates_of c) ++ back) (listed cs)

@@ -108,41 +108,41 @@ world_at names reads orders (b ∷ bs) (c ∷ cs) h (suc k) one at =
 -- a set has no pairs, and a relation no events
 
 no_pairs : (name : Predefined) → is_set name ≡ true
-    → (n : ℕ) (c : Combination) (sources order : List ℕ) (a b : ℕ)
-    → RelationIn name n c sources order a b → ⊥
-no_pairs names.Loads is n c sources order a b h = h.2
-no_pairs names.Stores is n c sources order a b h = h.2
-no_pairs names.Accesses is n c sources order a b h = h.2
-no_pairs names.Fences is n c sources order a b h = h.2
-no_pairs names.InitialStores is n c sources order a b h = h.2
-no_pairs names.SyncFences is n c sources order a b h = h.2
-no_pairs names.LwsyncFences is n c sources order a b h = h.2
-no_pairs names.EieioFences is n c sources order a b h = h.2
-no_pairs names.IsyncFences is n c sources order a b h = h.2
-no_pairs names.Identity is n c sources order a b h = absurd (false≢true is)
-no_pairs names.ProgramOrder is n c sources order a b h = absurd (false≢true is)
-no_pairs names.SameLocation is n c sources order a b h = absurd (false≢true is)
-no_pairs names.ProgramOrderSameLocation is n c sources order a b h = absurd (false≢true is)
-no_pairs names.Internal is n c sources order a b h = absurd (false≢true is)
-no_pairs names.External is n c sources order a b h = absurd (false≢true is)
-no_pairs names.ReadsFrom is n c sources order a b h = absurd (false≢true is)
-no_pairs names.Coherence is n c sources order a b h = absurd (false≢true is)
-no_pairs names.FromReads is n c sources order a b h = absurd (false≢true is)
-no_pairs names.ReadsFromExternal is n c sources order a b h = absurd (false≢true is)
-no_pairs names.ReadsFromInternal is n c sources order a b h = absurd (false≢true is)
-no_pairs names.CoherenceExternal is n c sources order a b h = absurd (false≢true is)
-no_pairs names.CoherenceInternal is n c sources order a b h = absurd (false≢true is)
-no_pairs names.FromReadsExternal is n c sources order a b h = absurd (false≢true is)
-no_pairs names.FromReadsInternal is n c sources order a b h = absurd (false≢true is)
-no_pairs names.Communication is n c sources order a b h = absurd (false≢true is)
-no_pairs names.AddressDependency is n c sources order a b h = absurd (false≢true is)
-no_pairs names.DataDependency is n c sources order a b h = absurd (false≢true is)
-no_pairs names.ControlDependency is n c sources order a b h = absurd (false≢true is)
-no_pairs names.ControlIsyncDependency is n c sources order a b h = absurd (false≢true is)
-no_pairs names.SyncOrder is n c sources order a b h = absurd (false≢true is)
-no_pairs names.LwsyncOrder is n c sources order a b h = absurd (false≢true is)
-no_pairs names.EieioOrder is n c sources order a b h = absurd (false≢true is)
-no_pairs names.IsyncOrder is n c sources order a b h = absurd (false≢true is)
+    → (n : ℕ) (c : Combination) (reads_from coherence : List ℕ) (a b : ℕ)
+    → RelationIn name n c reads_from coherence a b → ⊥
+no_pairs names.Loads is n c reads_from coherence a b h = h.2
+no_pairs names.Stores is n c reads_from coherence a b h = h.2
+no_pairs names.Accesses is n c reads_from coherence a b h = h.2
+no_pairs names.Fences is n c reads_from coherence a b h = h.2
+no_pairs names.InitialStores is n c reads_from coherence a b h = h.2
+no_pairs names.SyncFences is n c reads_from coherence a b h = h.2
+no_pairs names.LwsyncFences is n c reads_from coherence a b h = h.2
+no_pairs names.EieioFences is n c reads_from coherence a b h = h.2
+no_pairs names.IsyncFences is n c reads_from coherence a b h = h.2
+no_pairs names.Identity is n c reads_from coherence a b h = absurd (false≢true is)
+no_pairs names.ProgramOrder is n c reads_from coherence a b h = absurd (false≢true is)
+no_pairs names.SameLocation is n c reads_from coherence a b h = absurd (false≢true is)
+no_pairs names.ProgramOrderSameLocation is n c reads_from coherence a b h = absurd (false≢true is)
+no_pairs names.Internal is n c reads_from coherence a b h = absurd (false≢true is)
+no_pairs names.External is n c reads_from coherence a b h = absurd (false≢true is)
+no_pairs names.ReadsFrom is n c reads_from coherence a b h = absurd (false≢true is)
+no_pairs names.Coherence is n c reads_from coherence a b h = absurd (false≢true is)
+no_pairs names.FromReads is n c reads_from coherence a b h = absurd (false≢true is)
+no_pairs names.ReadsFromExternal is n c reads_from coherence a b h = absurd (false≢true is)
+no_pairs names.ReadsFromInternal is n c reads_from coherence a b h = absurd (false≢true is)
+no_pairs names.CoherenceExternal is n c reads_from coherence a b h = absurd (false≢true is)
+no_pairs names.CoherenceInternal is n c reads_from coherence a b h = absurd (false≢true is)
+no_pairs names.FromReadsExternal is n c reads_from coherence a b h = absurd (false≢true is)
+no_pairs names.FromReadsInternal is n c reads_from coherence a b h = absurd (false≢true is)
+no_pairs names.Communication is n c reads_from coherence a b h = absurd (false≢true is)
+no_pairs names.AddressDependency is n c reads_from coherence a b h = absurd (false≢true is)
+no_pairs names.DataDependency is n c reads_from coherence a b h = absurd (false≢true is)
+no_pairs names.ControlDependency is n c reads_from coherence a b h = absurd (false≢true is)
+no_pairs names.ControlIsyncDependency is n c reads_from coherence a b h = absurd (false≢true is)
+no_pairs names.SyncOrder is n c reads_from coherence a b h = absurd (false≢true is)
+no_pairs names.LwsyncOrder is n c reads_from coherence a b h = absurd (false≢true is)
+no_pairs names.EieioOrder is n c reads_from coherence a b h = absurd (false≢true is)
+no_pairs names.IsyncOrder is n c reads_from coherence a b h = absurd (false≢true is)
 
 no_events : (name : Predefined) → is_set name ≡ false → (n : ℕ) (c : Combination) (a : ℕ)
     → SetIn c n name a → ⊥

@@ -8,7 +8,7 @@ use Rattle.text_values.specs.declared.predefined.Predefined.{Predefined}
 use Rattle.text_values.specs.declared.predefined.Predefined.TheVariants as names
 use Rattle.dataflow.specs.DependencyLists.{DependencyLists}
 use Rattle.run_combinations.specs.declared.combination.Action.{Action}
-use Rattle.run_combinations.specs.declared.combination.Action.TheVariants.{Read, Write, Fence}
+use Rattle.run_combinations.specs.declared.combination.Action.TheVariants.{Load, Store, Fence}
 use Rattle.run_combinations.specs.declared.combination.Combination.{Combination}
 use Rattle.run_combinations.specs.declared.combination.Event.{Event}
 use Rattle.base_names.specs.Events.{location_of, IsAccess, IsFence, IsSameThread, IsSameLocation, At, Both, ProgramOrder, Fenced, ListedPairs}
@@ -19,67 +19,67 @@ use Rattle.cat_eval.specs.Alike.{IsActionLike, IsLike, AreEventsLike, AreAlike}
 use Rattle.cat_eval.proofs.Visits.{get_within}
 
 abbrev is_read : Action → Bool
-is_read (Read l v) = true
-is_read (Write l v) = false
+is_read (Load l v) = true
+is_read (Store l v) = false
 is_read (Fence f) = false
 
 abbrev is_write : Action → Bool
-is_write (Read l v) = false
-is_write (Write l v) = true
+is_write (Load l v) = false
+is_write (Store l v) = true
 is_write (Fence f) = false
 
 abbrev is_fence : Action → Bool
-is_fence (Read l v) = false
-is_fence (Write l v) = false
+is_fence (Load l v) = false
+is_fence (Store l v) = false
 is_fence (Fence f) = true
 
 action_back : (a b : Action) → IsActionLike a b → IsActionLike b a
-action_back (Read l v) (Read m w) h = sym h
-action_back (Read l v) (Write m w) h = h
-action_back (Read l v) (Fence g) h = h
-action_back (Write l v) (Read m w) h = h
-action_back (Write l v) (Write m w) h = sym h
-action_back (Write l v) (Fence g) h = h
-action_back (Fence f) (Read m w) h = h
-action_back (Fence f) (Write m w) h = h
+action_back (Load l v) (Load m w) h = sym h
+action_back (Load l v) (Store m w) h = h
+action_back (Load l v) (Fence g) h = h
+action_back (Store l v) (Load m w) h = h
+action_back (Store l v) (Store m w) h = sym h
+action_back (Store l v) (Fence g) h = h
+action_back (Fence f) (Load m w) h = h
+action_back (Fence f) (Store m w) h = h
 action_back (Fence f) (Fence g) h = sym h
 
 like_back : (e f : Event) → IsLike e f → IsLike f e
 like_back e f h = (sym h.0, action_back e.action f.action h.1)
 
 same_location : (a b : Action) → IsActionLike a b → location_of a ≡ location_of b
-same_location (Read l v) (Read m w) h = ap (λ (n : ℕ). Some n) h
-same_location (Read l v) (Write m w) h = absurd h
-same_location (Read l v) (Fence g) h = absurd h
-same_location (Write l v) (Read m w) h = absurd h
-same_location (Write l v) (Write m w) h = ap (λ (n : ℕ). Some n) h
-same_location (Write l v) (Fence g) h = absurd h
-same_location (Fence f) (Read m w) h = absurd h
-same_location (Fence f) (Write m w) h = absurd h
+same_location (Load l v) (Load m w) h = ap (λ (n : ℕ). Some n) h
+same_location (Load l v) (Store m w) h = absurd h
+same_location (Load l v) (Fence g) h = absurd h
+same_location (Store l v) (Load m w) h = absurd h
+same_location (Store l v) (Store m w) h = ap (λ (n : ℕ). Some n) h
+same_location (Store l v) (Fence g) h = absurd h
+same_location (Fence f) (Load m w) h = absurd h
+same_location (Fence f) (Store m w) h = absurd h
 same_location (Fence f) (Fence g) h = refl
 
-read_like : (a b : Action) → IsActionLike a b → (l : ℕ) (v : _) → a ≡ Read l v
-    → (m : ℕ) × (w : _) × (b ≡ Read m w)
-read_like (Read l v) (Read m w) h k u e = (m, w, refl)
-read_like (Read l v) (Write m w) h k u e = absurd h
-read_like (Read l v) (Fence g) h k u e = absurd h
-read_like (Write l v) b h k u e = absurd (false≢true (ap is_read e))
+read_like : (a b : Action) → IsActionLike a b → (l : ℕ) (v : _) → a ≡ Load l v
+    → (m : ℕ) × (w : _) × (b ≡ Load m w)
+read_like (Load l v) (Load m w) h k u e = (m, w, refl)
+read_like (Load l v) (Store m w) h k u e = absurd h
+read_like (Load l v) (Fence g) h k u e = absurd h
+read_like (Store l v) b h k u e = absurd (false≢true (ap is_read e))
 read_like (Fence f) b h k u e = absurd (false≢true (ap is_read e))
 
-write_like : (a b : Action) → IsActionLike a b → (l : ℕ) (v : _) → a ≡ Write l v
-    → (m : ℕ) × (w : _) × (b ≡ Write m w)
-write_like (Write l v) (Write m w) h k u e = (m, w, refl)
-write_like (Write l v) (Read m w) h k u e = absurd h
-write_like (Write l v) (Fence g) h k u e = absurd h
-write_like (Read l v) b h k u e = absurd (false≢true (ap is_write e))
+write_like : (a b : Action) → IsActionLike a b → (l : ℕ) (v : _) → a ≡ Store l v
+    → (m : ℕ) × (w : _) × (b ≡ Store m w)
+write_like (Store l v) (Store m w) h k u e = (m, w, refl)
+write_like (Store l v) (Load m w) h k u e = absurd h
+write_like (Store l v) (Fence g) h k u e = absurd h
+write_like (Load l v) b h k u e = absurd (false≢true (ap is_write e))
 write_like (Fence f) b h k u e = absurd (false≢true (ap is_write e))
 
 fence_like : (a b : Action) → IsActionLike a b → (k : _) → a ≡ Fence k → b ≡ Fence k
 fence_like (Fence f) (Fence g) h k e = ap (λ x. Fence x) (sym h) ∙ e
-fence_like (Fence f) (Read m w) h k e = absurd h
-fence_like (Fence f) (Write m w) h k e = absurd h
-fence_like (Read l v) b h k e = absurd (false≢true (ap is_fence e))
-fence_like (Write l v) b h k e = absurd (false≢true (ap is_fence e))
+fence_like (Fence f) (Load m w) h k e = absurd h
+fence_like (Fence f) (Store m w) h k e = absurd h
+fence_like (Load l v) b h k e = absurd (false≢true (ap is_fence e))
+fence_like (Store l v) b h k e = absurd (false≢true (ap is_fence e))
 
 access_like : (e f : Event) → IsLike e f → IsAccess e → IsAccess f
 access_like e f h (l, at) = (l, sym (same_location e.action f.action h.1) ∙ at)

@@ -10,15 +10,15 @@ use Rattle.cat_eval.specs.Needs.{AreSuited}
 use Rattle.std.proofs.Math.Bool.{or_assoc}
 
 -- what was listed stays so, and more is
-pub listed_more : (old now new front back : List Predefined) → AreListed now (old ++ front)
-    → AreListed new (now ++ back) → AreListed new (old ++ (front ++ back))
-listed_more old now new front back before step name inside =
-    elim (Contains-append_cases old (front ++ back) name inside) [
+pub listed_more : (old now new prefix back : List Predefined) → AreListed now (old ++ prefix)
+    → AreListed new (now ++ back) → AreListed new (old ++ (prefix ++ back))
+listed_more old now new prefix back before step name inside =
+    elim (Contains-append_cases old (prefix ++ back) name inside) [
       | inl h ↦ step name (Contains-append_left now back name
-          (before name (Contains-append_left old front name h)))
-      | inr h ↦ elim (Contains-append_cases front back name h) [
+          (before name (Contains-append_left old prefix name h)))
+      | inr h ↦ elim (Contains-append_cases prefix back name h) [
         | inl f ↦ step name (Contains-append_left now back name
-            (before name (Contains-append_right old front name f)))
+            (before name (Contains-append_right old prefix name f)))
         | inr b ↦ step name (Contains-append_right now back name b)
       ]
     ]

@@ -84,9 +84,9 @@ module _ (known : Known) (c : Combination) (entered : IsEntered known c) where
   set_meant names.EieioOrder held = no_set names.EieioOrder (λ a h. absurd h.1.2)
   set_meant names.IsyncOrder held = no_set names.IsyncOrder (λ a h. absurd h.1.2)
 
-  module _ (consistent : IsConsistent known) (sources order : List ℕ) where
-    from_reads : HasReadsFrom known c sources → HasCoherence known c order
-        → Same (Has known.from_reads) (FromReadsIn c known.count sources order)
+  module _ (consistent : IsConsistent known) (reads_from coherence : List ℕ) where
+    from_reads : HasReadsFrom known c reads_from → HasCoherence known c coherence
+        → Same (Has known.from_reads) (FromReadsIn c known.count reads_from coherence)
     from_reads reads orders a b = (
       (λ h.
           let k = (consistent.made.pairs a b).0 h in (
@@ -103,10 +103,10 @@ module _ (known : Known) (c : Combination) (entered : IsEntered known c) where
 
     -- what the loads read and the order of the stores matter where the name changes with them
     pub relation_meant : (name : Predefined)
-        → (IsTrue (changes_with_reads name) → HasReadsFrom known c sources)
-        → (IsTrue (changes_with_orders name) → HasCoherence known c order)
+        → (IsTrue (changes_with_reads name) → HasReadsFrom known c reads_from)
+        → (IsTrue (changes_with_orders name) → HasCoherence known c coherence)
         → (is_set name ≡ false → Gives known name)
-        → Same (KnownPairs known name) (RelationIn name known.count c sources order)
+        → Same (KnownPairs known name) (RelationIn name known.count c reads_from coherence)
     relation_meant names.Loads reads orders given = no_relation names.Loads (λ a b h. absurd h.2)
     relation_meant names.Stores reads orders given = no_relation names.Stores (λ a b h. absurd h.2)
     relation_meant names.Accesses reads orders given =

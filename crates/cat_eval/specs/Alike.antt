@@ -2,20 +2,20 @@
 use Rattle.std.specs.Prelude.{ℕ, ◌≡◌, ◌<◌, List, length, slice_index_or}
 use Rattle.dataflow.specs.DependencyLists.{dependency_lists}
 use Rattle.run_combinations.specs.declared.combination.Action.{Action}
-use Rattle.run_combinations.specs.declared.combination.Action.TheVariants.{Read, Write, Fence}
+use Rattle.run_combinations.specs.declared.combination.Action.TheVariants.{Load, Store, Fence}
 use Rattle.run_combinations.specs.declared.combination.Combination.{Combination}
 use Rattle.run_combinations.specs.declared.combination.Event.{Event}
 
 -- of one kind and one location
 abbrev pub IsActionLike : Action → Action → Type 0
-IsActionLike (Read l v) (Read m w) = l ≡ m
-IsActionLike (Read l v) (Write m w) = ⊥
-IsActionLike (Read l v) (Fence g) = ⊥
-IsActionLike (Write l v) (Read m w) = ⊥
-IsActionLike (Write l v) (Write m w) = l ≡ m
-IsActionLike (Write l v) (Fence g) = ⊥
-IsActionLike (Fence f) (Read m w) = ⊥
-IsActionLike (Fence f) (Write m w) = ⊥
+IsActionLike (Load l v) (Load m w) = l ≡ m
+IsActionLike (Load l v) (Store m w) = ⊥
+IsActionLike (Load l v) (Fence g) = ⊥
+IsActionLike (Store l v) (Load m w) = ⊥
+IsActionLike (Store l v) (Store m w) = l ≡ m
+IsActionLike (Store l v) (Fence g) = ⊥
+IsActionLike (Fence f) (Load m w) = ⊥
+IsActionLike (Fence f) (Store m w) = ⊥
 IsActionLike (Fence f) (Fence g) = f ≡ g
 
 -- and of one thread

@@ -9,16 +9,17 @@ use Rattle.binding_graph.specs.declared.resolved.Role.TheVariants as roles
 
 -- the candidates of a combination that read so, one for each order
 abbrev pub reading_so : Combination → List ℕ → List (List ℕ) → List Candidate
-reading_so combination sources orders = map (λ order. (combination, (sources, order))) orders
+reading_so combination reads_from orders =
+    map (λ coherence. (combination, (reads_from, coherence))) orders
 
 -- those with one of these reads-from, for each order of the stores
 abbrev pub reading_in : Combination → List (Vec ℕ Global) → List Candidate
-reading_in combination ways =
-    flat_map (λ sources. reading_so combination sources.items combination.orders) ways
+reading_in combination read_choices =
+    flat_map (λ reads_from. reading_so combination reads_from.items combination.orders) read_choices
 
 -- those of combinations after one another
 abbrev pub of_combinations : List Combination → List Candidate
-of_combinations combinations = flat_map (λ one. reading_in one one.sources.items) combinations
+of_combinations combinations = flat_map (λ one. reading_in one one.reads_from.items) combinations
 
 -- how many names an item binds
 abbrev pub name_count : Role → ℕ

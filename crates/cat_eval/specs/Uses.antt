@@ -1,9 +1,12 @@
 -- Which names of its own group an expression uses.
-use Rattle.std.specs.Prelude.{ℕ, ◌≡◌, ◌<◌, min, List, length, slice_index_or, Any}
+use Rattle.std.specs.Prelude.{ℕ, ◌≡◌, ◌<◌, min, List, [], length, Option, Some, None, slice_get, slice_index_or, Any}
 use Rattle.std.specs.Int.{bit_at}
 use Rattle.binding_graph.specs.declared.resolved.Step.{Step}
 use Rattle.binding_graph.specs.declared.resolved.Step.TheVariants as steps
 use Rattle.binding_graph.specs.declared.resolved.Body.{Body}
+use Rattle.binding_graph.specs.declared.resolved.ResolvedItem.{ResolvedItem}
+use Rattle.binding_graph.specs.declared.resolved.Role.{Role}
+use Rattle.binding_graph.specs.declared.resolved.Role.TheVariants as roles
 use Rattle.binding_graph.specs.declared.resolved.Source.{Source}
 use Rattle.binding_graph.specs.declared.resolved.Source.TheVariants as sources
 
@@ -50,3 +53,17 @@ UsesAt names bodies position =
 -- this body, or one whose name shares the bit of its name, uses one of these names
 abbrev pub UsesNear : ℕ → List Body → ℕ → Type 0
 UsesNear names bodies position = (other : ℕ) × ShareBit other position × UsesAt names bodies other
+
+-- the bodies of an item's group: none of an item without one
+abbrev pub bodies_of : Role → List Body
+bodies_of (roles.Group recursive bodies) = bodies.items
+bodies_of (roles.Check check) = []
+bodies_of roles.Silent = []
+
+abbrev pub bodies_of_some : Option ResolvedItem → List Body
+bodies_of_some (Some item) = bodies_of item.role
+bodies_of_some None = []
+
+-- those of the item at this index: none where no item stands there
+abbrev pub bodies_at : List ResolvedItem → ℕ → List Body
+bodies_at items item = bodies_of_some (slice_get items item)

@@ -415,7 +415,9 @@ fn visited_columns(
 
 /// The value of each name of a group, for each candidate of a space. `inputs` are the values of
 /// the item's inputs, in their order. The names of a `let rec` have the least values that satisfy
-/// its equations. An item of another kind has no names. Errors: want of memory.
+/// its equations: said of bodies that are expressions and grow with their names, as those of a
+/// model without fault are by `evaluation_laws::items_are_coded`. An item of another kind has no
+/// names. Errors: want of memory.
 pub fn eval_group(
     alloc: Global,
     item: &ResolvedItem,

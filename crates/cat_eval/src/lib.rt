@@ -17,7 +17,7 @@ mod link;
 mod machine;
 mod names;
 mod needs;
-mod rounds;
+pub mod rounds;
 mod runs;
 mod seen;
 mod shape;

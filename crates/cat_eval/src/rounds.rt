@@ -1,9 +1,10 @@
 //! Which names of a recursive group have to be computed anew.
 
-ghost use Rattle.std.specs.Prelude.{◌≡◌, ℕ, ◌<◌, min, ◌↔◌, ◌⊎◌, IsTrue};
-ghost use Rattle.cat_eval.specs.Uses.{ShareBit, IsAmong, UsesOne, UsesAny, UsesNear};
+ghost use Rattle.std.specs.Prelude.{◌≡◌, ℕ, ◌<◌, ◌≤◌, length, min, ◌↔◌, ◌⊎◌, IsTrue};
+ghost use Rattle.std.specs.Int.{bit_at};
+ghost use Rattle.cat_eval.specs.Uses.{ShareBit, IsAmong, UsesOne, UsesAny, UsesAt, UsesNear, bodies_at};
 
-use binding_graph::{Body, Source, Step};
+use binding_graph::{Body, Resolved, Role, Source, Step};
 
 /// The bit of the name at a position: the 64th name of a group and those behind it share the last.
 fn bit_of(position: usize) -> usize
@@ -68,4 +69,35 @@ pub(crate) fn next_among(bodies: &[Body], grew: u64) -> u64
         }
     }
     names
+}
+
+/// The bodies of an item's group: none of an item without one, or where no item stands.
+fn bodies_at(resolved: &Resolved, item: usize) -> &[Body]
+    ensures { result.now ≡ bodies_at resolved.now.items.items item }
+{
+    match resolved.items.get(item) {
+        Some(found) => match &found.role {
+            Role::Group {
+                recursive: _,
+                bodies,
+            } => bodies,
+            Role::Check(_) => &[],
+            Role::Silent => &[],
+        },
+        None => &[],
+    }
+}
+
+/// The names of a recursive group that the next round computes anew: those whose bodies use a name
+/// that grew in this one. Bit i stands for the group's i-th name, from 0, in `grew` and in the
+/// answer. An item without a group has no names.
+pub fn next(resolved: &Resolved, item: usize, grew: u64) -> u64
+    // Of a group of up to 64 names, as each text has, the answer is exact.
+    ensures exact { length (bodies_at resolved.now.items.items item) ≤ 64 → (k : ℕ) → k < 64
+        → (bit_at result k ≡ 1) ↔ UsesAt grew (bodies_at resolved.now.items.items item) k }
+    // In a longer group the 64th name and those behind it share the last bit.
+    ensures shared { (k : ℕ) → IsAmong result k
+        ↔ UsesNear grew (bodies_at resolved.now.items.items item) k }
+{
+    next_among(bodies_at(resolved, item), grew)
 }

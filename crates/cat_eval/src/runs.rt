@@ -52,7 +52,7 @@ pub(crate) fn visit_runs<V: RunVisit>(
     for combination in &space.combinations {
         let count = combination.events.len();
         let Some(many) = combination
-            .sources
+            .reads_from
             .len()
             .checked_mul(combination.orders.len())
         else {

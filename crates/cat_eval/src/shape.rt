@@ -11,15 +11,15 @@ fn is_action_like(first: Action, second: Action) -> bool
 {
     match (first, second) {
         (
-            Action::Read { location: one, .. },
-            Action::Read {
+            Action::Load { location: one, .. },
+            Action::Load {
                 location: other,
                 ..
             },
         ) => one == other,
         (
-            Action::Write { location: one, .. },
-            Action::Write {
+            Action::Store { location: one, .. },
+            Action::Store {
                 location: other,
                 ..
             },

@@ -120,13 +120,13 @@ fn visit_combination<V: Visit>(
         → V.has_taken first bases visitor.old
         → OnOk result (
         let run = seen_run named.now (length bases) (length combination.now.events.items)
-        (length combination.now.sources.items * length combination.now.orders) in
+        (length combination.now.reads_from.items * length combination.now.orders) in
         IsAt named.now place.new (bases ++ run)
         × V.has_taken first (bases ++ run) visitor.new) }
 {
     let count = combination.events.len();
     let many = combination.orders.len();
-    for _at in 0..combination.sources.len() {
+    for _at in 0..combination.reads_from.len() {
         visit_run(named, count, many, machine, place, visitor)?;
     }
     Ok(())

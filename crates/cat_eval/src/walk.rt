@@ -31,7 +31,7 @@ pub(crate) trait Enter {
 }
 
 /// Goes over to an order of the stores, from a previous one where it is given.
-fn put_order(base: &mut Base, combination: &Combination, previous: Option<&[u8]>, order: &[u8])
+fn put_order(base: &mut Base, combination: &Combination, previous: Option<&[u8]>, coherence: &[u8])
     ensures count { base.new.count ≡ base.old.count }
     ensures known { IsConsistent base.new }
     ensures sets { base.new.sets ≡ base.old.sets }
@@ -39,56 +39,57 @@ fn put_order(base: &mut Base, combination: &Combination, previous: Option<&[u8]>
     ensures reads_from { base.new.reads_from ≡ base.old.reads_from }
     ensures ordered { IfSome previous.entry
         (λ earlier. HasCoherence base.old combination.now earlier.now)
-        → HasCoherence base.new combination.now order.now }
+        → HasCoherence base.new combination.now coherence.now }
 {
     match previous {
-        Some(earlier) => base.order_after(combination, earlier, order),
-        None => base.order(combination, order),
+        Some(earlier) => base.order_after(combination, earlier, coherence),
+        None => base.order(combination, coherence),
     }
 }
 
 /// Goes over to an order of the stores, where a name changes with it. Of a base that is that of the
 /// last candidate it says whether it still is.
-fn go_to_order(
+fn go_to_coherence(
     needs: &Needs,
     base: &mut Base,
     combination: &Combination,
     previous: Option<&[u8]>,
-    order: &[u8],
+    coherence: &[u8],
     again: bool,
 ) -> bool
     ensures kept { IsTrue result → IsTrue again × (base.new ≡ base.old) }
     ensures reordered { IsReordered base.old base.new }
     ensures ready { IsBaseReady needs.now.names.items base.old combination.now
         → IsBaseReady needs.now.names.items base.new combination.now }
-    ensures reading { (sources : List ℕ) → HasReadsFrom base.old combination.now sources
-        → HasReadsFrom base.new combination.now sources }
+    ensures reading { (reads_from : List ℕ) → HasReadsFrom base.old combination.now reads_from
+        → HasReadsFrom base.new combination.now reads_from }
     ensures ordered { IsTrue needs.now.orders
         → IfSome previous.entry (λ earlier. HasCoherence base.old combination.now earlier.now)
-        → HasCoherence base.new combination.now order.now }
+        → HasCoherence base.new combination.now coherence.now }
 {
     if needs.orders {
-        put_order(base, combination, previous, order);
+        put_order(base, combination, previous, coherence);
         return false;
     }
     again
 }
 
-/// Goes over to a way to read, where a name changes with it. It answers as above.
-fn go_to_sources(
+/// Goes over to a read choice, where a name changes with it. It answers as above.
+fn go_to_reads_from(
     needs: &Needs,
     base: &mut Base,
     combination: &Combination,
-    sources: &[u8],
+    reads_from: &[u8],
     again: bool,
 ) -> bool
     ensures kept { IsTrue result → IsTrue again × (base.new ≡ base.old) }
     ensures ready { IsBaseReady needs.now.names.items base.old combination.now
         → IsBaseReady needs.now.names.items base.new combination.now }
-    ensures reading { IsTrue needs.now.reads → HasReadsFrom base.new combination.now sources.now }
+    ensures reading { IsTrue needs.now.reads
+        → HasReadsFrom base.new combination.now reads_from.now }
 {
     if needs.reads {
-        base.read_from(combination, sources);
+        base.read_from(combination, reads_from);
         return false;
     }
     again
@@ -116,7 +117,7 @@ fn go_to_combination(
     }
 }
 
-/// Visits the candidates of a combination that read in the present way. `again` says whether the
+/// Visits the candidates of a combination of the present read choice. `again` says whether the
 /// base is that of the last candidate, before and after.
 fn enter_orders<V: Enter>(
     combination: &Combination,
@@ -127,22 +128,22 @@ fn enter_orders<V: Enter>(
 ) -> Result<bool, AllocError>
     requires { IsBaseReady needs.now.names.items base.old combination.now }
     ensures ready { IsBaseReady needs.now.names.items base.new combination.now }
-    ensures worlds { (sources : List ℕ)
-        → (IsTrue needs.now.reads → HasReadsFrom base.old combination.now sources)
+    ensures worlds { (reads_from : List ℕ)
+        → (IsTrue needs.now.reads → HasReadsFrom base.old combination.now reads_from)
         → (first : _) (bases : List Known) → (IsTrue again → EndsWith bases base.old)
         → V.has_taken first bases visitor.old
         → IfOk result (λ ends. (more : List Known)
         × AreWorlds needs.now.names.items needs.now.reads needs.now.orders more
-        (reading_so combination.now sources combination.now.orders)
+        (reading_so combination.now reads_from combination.now.orders)
         × V.has_taken first (bases ++ more) visitor.new
         × (IsTrue ends → EndsWith (bases ++ more) base.new)) }
 {
     let mut again = again;
     let mut previous: Option<&[u8]> = None;
     for index in 0..combination.orders.len() {
-        let order = combination.orders.order(index);
-        let same = go_to_order(needs, base, combination, previous, order, again);
-        previous = Some(order);
+        let coherence = combination.orders.order(index);
+        let same = go_to_coherence(needs, base, combination, previous, coherence, again);
+        previous = Some(coherence);
         visitor.enter(base, same, again)?;
         again = true;
     }
@@ -163,13 +164,13 @@ fn enter_combination<V: Enter>(
         → V.has_taken first bases visitor.old
         → IfOk result (λ ends. (more : List Known)
         × AreWorlds needs.now.names.items needs.now.reads needs.now.orders more
-        (reading_in combination.now combination.now.sources.items)
+        (reading_in combination.now combination.now.reads_from.items)
         × V.has_taken first (bases ++ more) visitor.new
         × (IsTrue ends → EndsWith (bases ++ more) base.new)) }
 {
     let mut again = again;
-    for sources in &combination.sources {
-        let same = go_to_sources(needs, base, combination, sources, again);
+    for reads_from in &combination.reads_from {
+        let same = go_to_reads_from(needs, base, combination, reads_from, again);
         again = enter_orders(combination, needs, base, same, visitor)?;
     }
     Ok(again)

@@ -114,8 +114,8 @@ same_names space another one two e = record {
     events = ap (λ (s : Shown). s.events) e;
     dependencies = ap (λ (s : Shown). s.dependencies) e;
   };
-  reads = ap (λ (s : Shown). s.sources) e;
-  order = ap (λ (s : Shown). s.order) e;
+  reads = ap (λ (s : Shown). s.reads_from) e;
+  coherence = ap (λ (s : Shown). s.coherence) e;
 }
 
 -- ---- columns

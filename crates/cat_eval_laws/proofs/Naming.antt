@@ -60,39 +60,39 @@ module _ (c d : Combination) (e : HaveSameFacts c d) (n : ℕ) where
   reads_kept : (reads : List ℕ) → ReadsFromIn c n reads ≡ ReadsFromIn d n reads
   reads_kept reads = ap (λ (es : List Event). Below n (ReadsFromBy es reads)) e.events
 
-  order_kept : (order : List ℕ) → CoherenceIn c n order ≡ CoherenceIn d n order
-  order_kept order = ap (λ (es : List Event). Below n (Coherence es order)) e.events
+  order_kept : (coherence : List ℕ) → CoherenceIn c n coherence ≡ CoherenceIn d n coherence
+  order_kept coherence = ap (λ (es : List Event). Below n (Coherence es coherence)) e.events
 
-  from_reads_kept : (reads order : List ℕ)
-      → FromReadsIn c n reads order ≡ FromReadsIn d n reads order
-  from_reads_kept reads order =
+  from_reads_kept : (reads coherence : List ℕ)
+      → FromReadsIn c n reads coherence ≡ FromReadsIn d n reads coherence
+  from_reads_kept reads coherence =
       ap
       (λ (es : List Event).
-      Composite (Inverse (Below n (ReadsFromBy es reads))) (Below n (Coherence es order))) e.events
+      Composite (Inverse (Below n (ReadsFromBy es reads))) (Below n (Coherence es coherence))) e.events
 
   both_kept : (P Q R S : ℕ → ℕ → Type 0) → P ≡ Q → R ≡ S → Inter P R ≡ Inter Q S
   both_kept P Q R S p r = λ i. Inter (p i) (r i)
 
-  relation_kept : (name : Predefined) (reads order : List ℕ)
-      → RelationIn name n c reads order ≡ RelationIn name n d reads order
-  relation_kept names.ReadsFrom reads order = reads_kept reads
-  relation_kept names.Coherence reads order = order_kept order
-  relation_kept names.FromReads reads order = from_reads_kept reads order
-  relation_kept names.ReadsFromExternal reads order =
+  relation_kept : (name : Predefined) (reads coherence : List ℕ)
+      → RelationIn name n c reads coherence ≡ RelationIn name n d reads coherence
+  relation_kept names.ReadsFrom reads coherence = reads_kept reads
+  relation_kept names.Coherence reads coherence = order_kept coherence
+  relation_kept names.FromReads reads coherence = from_reads_kept reads coherence
+  relation_kept names.ReadsFromExternal reads coherence =
       both_kept _ _ _ _ (shared_kept names.External) (reads_kept reads)
-  relation_kept names.ReadsFromInternal reads order =
+  relation_kept names.ReadsFromInternal reads coherence =
       both_kept _ _ _ _ (shared_kept names.Internal) (reads_kept reads)
-  relation_kept names.CoherenceExternal reads order =
-      both_kept _ _ _ _ (shared_kept names.External) (order_kept order)
-  relation_kept names.CoherenceInternal reads order =
-      both_kept _ _ _ _ (shared_kept names.Internal) (order_kept order)
-  relation_kept names.FromReadsExternal reads order =
-      both_kept _ _ _ _ (shared_kept names.External) (from_reads_kept reads order)
-  relation_kept names.FromReadsInternal reads order =
-      both_kept _ _ _ _ (shared_kept names.Internal) (from_reads_kept reads order)
-  relation_kept names.Communication reads order =
-      λ i. Union (Union (reads_kept reads i) (order_kept order i)) (from_reads_kept reads order i)
-  relation_kept name reads order = shared_kept name
+  relation_kept names.CoherenceExternal reads coherence =
+      both_kept _ _ _ _ (shared_kept names.External) (order_kept coherence)
+  relation_kept names.CoherenceInternal reads coherence =
+      both_kept _ _ _ _ (shared_kept names.Internal) (order_kept coherence)
+  relation_kept names.FromReadsExternal reads coherence =
+      both_kept _ _ _ _ (shared_kept names.External) (from_reads_kept reads coherence)
+  relation_kept names.FromReadsInternal reads coherence =
+      both_kept _ _ _ _ (shared_kept names.Internal) (from_reads_kept reads coherence)
+  relation_kept names.Communication reads coherence =
+      λ i. Union (Union (reads_kept reads i) (order_kept coherence i)) (from_reads_kept reads coherence i)
+  relation_kept name reads coherence = shared_kept name
 
 -- ---- the names of an item in a candidate
 
@@ -127,7 +127,7 @@ values_kept inputs others index e =
 pub record HaveSameNames (one two : Candidate) : Type 0 where
   pub facts : HaveSameFacts one.0 two.0
   pub reads : one.1.0 ≡ two.1.0
-  pub order : one.1.1 ≡ two.1.1
+  pub coherence : one.1.1 ≡ two.1.1
 
 module _ (one two : Candidate) (e : HaveSameNames one two) (inputs others : List (Bor Column))
     (f : map (λ c. c.now) inputs ≡ map (λ c. c.now) others) (k : ℕ) where
@@ -153,7 +153,7 @@ module _ (one two : Candidate) (e : HaveSameNames one two) (inputs others : List
       at_source (sources.Predefined name) =
           relation_kept one.0 two.0 e.facts n name one.1.0 one.1.1
           ∙ (ap (λ (reads : List ℕ). RelationIn name n two.0 reads one.1.1) e.reads
-          ∙ ap (λ (order : List ℕ). RelationIn name n two.0 two.1.0 order) e.order)
+          ∙ ap (λ (coherence : List ℕ). RelationIn name n two.0 two.1.0 coherence) e.coherence)
       at_source (sources.Input index) =
           pairs_read (slice_get inputs index) k n
           ∙ (ap (λ (o : Option Column). pairs_now o k n) (values_kept inputs others index f)

@@ -31,7 +31,7 @@ use Rattle.cat_expressions.specs.declared.terms.OpenExpression.{OpenExpression}
 use Rattle.cat_expressions.specs.Reading.{frame_of, stacked, stack_of, is_open, is_square, is_no_bracket, takes_operand}
 use Rattle.cat_expressions.specs.OpenReading.{StepsTo}
 
-pub stacked-push : (fs : List code_frame.Frame) (f : code_frame.Frame) (below : List machine.Frame)
+pub stacked-push : (fs : List code_frame.Frame) (f : code_frame.Frame) (below : List machine.TermFrame)
     → stacked (fs ++ f ∷ []) below ≡ frame_of f ∷ stacked fs below
 stacked-push [] f below = refl
 stacked-push (g ∷ fs) f below = stacked-push fs f (frame_of g ∷ below)
@@ -41,13 +41,13 @@ pub stack_of-push : (fs : List code_frame.Frame) (f : code_frame.Frame)
 stack_of-push fs f = stacked-push fs f []
 
 -- one turn of joining: the frame that was popped decides
-module _ (l : ℕ) (start : List machine.Frame × Term) (items rest : List code_frame.Frame) (v : Term)
+module _ (l : ℕ) (start : List machine.TermFrame × Term) (items rest : List code_frame.Frame) (v : Term)
     (so_far : start ≡ machine.fold_to l (stack_of items) v) where
   popped : (f : code_frame.Frame) → items ≡ rest ++ f ∷ []
       → start ≡ machine.fold_to l (frame_of f ∷ stack_of rest) v
   popped f e =
       so_far
-      ∙ ap (λ (fs : List machine.Frame). machine.fold_to l fs v)
+      ∙ ap (λ (fs : List machine.TermFrame). machine.fold_to l fs v)
       (ap stack_of e ∙ stack_of-push rest f)
 
   pub popped_prefix : (f : code_frame.Frame) → items ≡ rest ++ f ∷ [] → f ≡ frames.Prefix
@@ -73,7 +73,7 @@ module _ (l : ℕ) (start : List machine.Frame × Term) (items rest : List code_
       (sym left)
 
 -- what the innermost frame takes
-taken_alone : (l : ℕ) (f : code_frame.Frame) (below : List machine.Frame)
+taken_alone : (l : ℕ) (f : code_frame.Frame) (below : List machine.TermFrame)
     → takes_operand l (frame_of f ∷ below) ≡ takes_operand l (frame_of f ∷ [])
 taken_alone l frames.Group below = refl
 taken_alone l frames.Square below = refl
@@ -82,21 +82,21 @@ taken_alone l (frames.Left op a) below = refl
 taken_alone l (frames.Applied n args) below = refl
 
 split_last : (f : code_frame.Frame) (fs : List code_frame.Frame)
-    → (front : List code_frame.Frame) × (x : code_frame.Frame) × (f ∷ fs ≡ front ++ x ∷ [])
+    → (prefix : List code_frame.Frame) × (x : code_frame.Frame) × (f ∷ fs ≡ prefix ++ x ∷ [])
 split_last f [] = ([], f, refl)
 split_last f (g ∷ gs) =
     let r = split_last g gs in (f ∷ r.0, r.1, ap (λ (xs : List code_frame.Frame). f ∷ xs) r.2)
 
-taken_last : (l : ℕ) (fs front : List code_frame.Frame) (x f : code_frame.Frame)
-    → fs ≡ front ++ x ∷ [] → Some f ≡ slice_get fs (length fs - 1)
+taken_last : (l : ℕ) (fs prefix : List code_frame.Frame) (x f : code_frame.Frame)
+    → fs ≡ prefix ++ x ∷ [] → Some f ≡ slice_get fs (length fs - 1)
     → takes_operand l (frame_of f ∷ []) ≡ takes_operand l (stack_of fs)
-taken_last l fs front x f e h =
-    let many : length fs - 1 ≡ length front = omega (arith, ap length e, length-append front (x ∷ [])) in
-    let same : f ≡ x = sym (get_or_from_slice_get fs (length fs - 1) f f (sym h)) ∙ ap (λ (n : ℕ). get_or fs n f) many ∙ ap (λ (gs : List code_frame.Frame). get_or gs (length front) f) e ∙ get_or-append_seam front x [] f in
+taken_last l fs prefix x f e h =
+    let many : length fs - 1 ≡ length prefix = omega (arith, ap length e, length-append prefix (x ∷ [])) in
+    let same : f ≡ x = sym (get_or_from_slice_get fs (length fs - 1) f f (sym h)) ∙ ap (λ (n : ℕ). get_or fs n f) many ∙ ap (λ (gs : List code_frame.Frame). get_or gs (length prefix) f) e ∙ get_or-append_seam prefix x [] f in
     ap (λ (g : code_frame.Frame). takes_operand l (frame_of g ∷ [])) same
-    ∙ sym (taken_alone l x (stack_of front))
+    ∙ sym (taken_alone l x (stack_of prefix))
     ∙ sym (ap (λ (gs : List code_frame.Frame). takes_operand l (stack_of gs)) e
-    ∙ ap (takes_operand l) (stack_of-push front x))
+    ∙ ap (takes_operand l) (stack_of-push prefix x))
 
 pub taken_by : (l : ℕ) (fs : List code_frame.Frame) (f : code_frame.Frame)
     → Some f ≡ slice_get fs (length fs - 1)
@@ -121,7 +121,7 @@ popped_takes l items rest f g h e is =
     ∙ ap (takes_operand l) (stack_of-push rest f)) ∙ h
 
 -- an operand that no frame takes stays
-pub fold_stays : (l : ℕ) (fs : List machine.Frame) (v : Term) → takes_operand l fs ≡ false
+pub fold_stays : (l : ℕ) (fs : List machine.TermFrame) (v : Term) → takes_operand l fs ≡ false
     → machine.fold_to l fs v ≡ (fs, v)
 fold_stays l [] v h = refl
 fold_stays l (machine.InGroup ∷ fs) v h = refl
@@ -133,7 +133,7 @@ fold_stays l (machine.LeftOf op a ∷ fs) v h =
     h
 fold_stays l (machine.InArguments n args ∷ fs) v h = refl
 
-open_count-stacked : (fs : List code_frame.Frame) (below : List machine.Frame)
+open_count-stacked : (fs : List code_frame.Frame) (below : List machine.TermFrame)
     → machine.open_count (stacked fs below) ≡ count_by is_open fs + machine.open_count below
 open_count-stacked [] below = omega arith
 open_count-stacked (frames.Group ∷ fs) below =
@@ -157,7 +157,7 @@ pub open_count-stack : (fs : List code_frame.Frame)
     → machine.open_count (stack_of fs) ≡ count_by is_open fs
 open_count-stack fs = let h = open_count-stacked fs [] in omega arith
 
-is_outermost-stacked : (fs : List code_frame.Frame) (below : List machine.Frame)
+is_outermost-stacked : (fs : List code_frame.Frame) (below : List machine.TermFrame)
     → machine.is_outermost (stacked fs below)
     ≡ (list_all is_no_bracket fs && machine.is_outermost below)
 is_outermost-stacked [] below = refl
@@ -177,14 +177,14 @@ pub is_outermost-stack : (fs : List code_frame.Frame)
 is_outermost-stack fs = is_outermost-stacked fs [] ∙ and-true (list_all is_no_bracket fs)
 
 -- the outermost of what is open, once everything is joined
-pub popped_of : (p : List machine.Frame × Term) (all rest : List code_frame.Frame)
+pub popped_of : (p : List machine.TermFrame × Term) (all rest : List code_frame.Frame)
     (f : code_frame.Frame) (v : Term) → p ≡ (stack_of all, v) → all ≡ rest ++ f ∷ []
     → p ≡ (frame_of f ∷ stack_of rest, v)
 popped_of p all rest f v e split =
-    e ∙ ap (λ (fs : List machine.Frame). (fs, v)) (ap stack_of split ∙ stack_of-push rest f)
+    e ∙ ap (λ (fs : List machine.TermFrame). (fs, v)) (ap stack_of split ∙ stack_of-push rest f)
 
 -- `]` closes the innermost frame if that is `[`, and is refused if it is another
-pub square_refused : (used : ℕ) (f : code_frame.Frame) (fs : List machine.Frame) (v : Term)
+pub square_refused : (used : ℕ) (f : code_frame.Frame) (fs : List machine.TermFrame) (v : Term)
     → is_square f ≡ false → machine.square_closed used (frame_of f ∷ fs, v) ≡ machine.Refuses Syntax
 square_refused used frames.Group fs v e = refl
 square_refused used frames.Square fs v e = absurd cc
@@ -192,7 +192,7 @@ square_refused used frames.Prefix fs v e = refl
 square_refused used (frames.Left op a) fs v e = refl
 square_refused used (frames.Applied n args) fs v e = refl
 
-pub square_matched : (used : ℕ) (f : code_frame.Frame) (fs : List machine.Frame) (v : Term)
+pub square_matched : (used : ℕ) (f : code_frame.Frame) (fs : List machine.TermFrame) (v : Term)
     → is_square f ≡ true
     → machine.square_closed used (frame_of f ∷ fs, v) ≡ machine.Goes fs used (machine.Has (On v))
 square_matched used frames.Group fs v e = absurd cc
@@ -211,7 +211,7 @@ opened_below fs all f used e lt =
     (λ (x : Bool). if x then machine.Goes (frame_of f ∷ stack_of fs) used machine.Wants
     else machine.Refuses TooDeep)
     (lt-ltb _ _ lt)
-    ∙ ap (λ (gs : List machine.Frame). machine.Goes gs used machine.Wants)
+    ∙ ap (λ (gs : List machine.TermFrame). machine.Goes gs used machine.Wants)
     (sym (ap stack_of e ∙ stack_of-push fs f))
 
 -- an operand after a star and a tilde
@@ -223,9 +223,9 @@ pub star_tilde_other : (fs gs all : List code_frame.Frame) (used : ℕ) (left : 
     → StepsTo t r o (machine.operand limits (stack_of all) used t)
     → StepsTo t r o (machine.after_star_tilde limits (stack_of fs) used (term_of left) t)
 star_tilde_other fs gs all used left t r o other e pushed h =
-    let same : stack_of all ≡ machine.InPrefix ∷ machine.infix_at Product (stack_of fs) (term_of left) = ap stack_of pushed ∙ stack_of-push gs frames.Prefix ∙ ap (λ (xs : List machine.Frame). machine.InPrefix ∷ xs) e in
+    let same : stack_of all ≡ machine.InPrefix ∷ machine.infix_at Product (stack_of fs) (term_of left) = ap stack_of pushed ∙ stack_of-push gs frames.Prefix ∙ ap (λ (xs : List machine.TermFrame). machine.InPrefix ∷ xs) e in
     by_token t other (subst
-    (λ (xs : List machine.Frame). StepsTo t r o (machine.operand limits xs used t)) same h)
+    (λ (xs : List machine.TermFrame). StepsTo t r o (machine.operand limits xs used t)) same h)
   where
     by_token : (u : Token) → ((w : CheckWord) → u ≡ tokens.Check w → ⊥)
         → StepsTo t r o (machine.operand limits
@@ -259,5 +259,5 @@ comma_pushed fs after n args all a e pushed =
 
 -- the machine's result in another spelling
 pub steps_same : (t : Token) (r : Result code_step.ExpressionStep StepError) (o : OpenExpression)
-    (a b : machine.StepResult) → a ≡ b → StepsTo t r o b → StepsTo t r o a
-steps_same t r o a b e h = subst (λ (m : machine.StepResult). StepsTo t r o m) (sym e) h
+    (a b : machine.TermStep) → a ≡ b → StepsTo t r o b → StepsTo t r o a
+steps_same t r o a b e h = subst (λ (m : machine.TermStep). StepsTo t r o m) (sym e) h

@@ -32,7 +32,7 @@ whole_of (expectations.HasStarTilde v) = AllEvents
 -- what a token did to an expression, read before this token, is what the machine does, unless
 -- memory ran out
 abbrev pub StepsTo : Token → Result code_step.ExpressionStep StepError → OpenExpression
-    → machine.StepResult → Type 0
+    → machine.TermStep → Type 0
 StepsTo t (Ok code_steps.Goes) o made =
     made ≡ machine.Goes (stack_of o.frames.items) o.operators (expectation_of o.expected)
 StepsTo t (Ok code_steps.Ends) o made = made ≡ machine.Ends (whole_of o.expected)

@@ -8,7 +8,7 @@ use Rattle.text_values.specs.ModelValues.{term_of}
 use Rattle.cat_grammar.specs.Grammar.{level}
 use Rattle.cat_grammar.specs.Machine as machine
 
-abbrev pub frame_of : code_frame.Frame → machine.Frame
+abbrev pub frame_of : code_frame.Frame → machine.TermFrame
 frame_of frames.Group = machine.InGroup
 frame_of frames.Square = machine.InSquare
 frame_of frames.Prefix = machine.InPrefix
@@ -16,14 +16,14 @@ frame_of (frames.Left op a) = machine.LeftOf op (term_of a)
 frame_of (frames.Applied n args) = machine.InArguments n (map term_of args.items)
 
 -- the frames, the innermost first
-abbrev pub stacked : List code_frame.Frame → List machine.Frame → List machine.Frame
+abbrev pub stacked : List code_frame.Frame → List machine.TermFrame → List machine.TermFrame
 stacked [] below = below
 stacked (f ∷ fs) below = stacked fs (frame_of f ∷ below)
 
-abbrev pub stack_of : List code_frame.Frame → List machine.Frame
+abbrev pub stack_of : List code_frame.Frame → List machine.TermFrame
 stack_of fs = stacked fs []
 
-abbrev pub expectation_of : code_expectation.Expectation → machine.Expectation
+abbrev pub expectation_of : code_expectation.Expectation → machine.TermExpectation
 expectation_of expectations.Wants = machine.Wants
 expectation_of expectations.Brace = machine.HasBrace
 expectation_of (expectations.Named n) = machine.HasName n
@@ -53,7 +53,7 @@ is_no_bracket (frames.Left op a) = true
 is_no_bracket (frames.Applied n args) = false
 
 -- the innermost frame takes an operand that binds at least this tightly
-abbrev pub takes_operand : ℕ → List machine.Frame → Bool
+abbrev pub takes_operand : ℕ → List machine.TermFrame → Bool
 takes_operand l [] = false
 takes_operand l (machine.InGroup ∷ fs) = false
 takes_operand l (machine.InSquare ∷ fs) = false

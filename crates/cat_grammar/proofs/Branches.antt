@@ -8,10 +8,10 @@ use Rattle.text_values.specs.declared.model.Infix.{Infix}
 use Rattle.text_values.specs.declared.model.Infix.TheVariants.{Union, Sequence, Difference, Intersection, Product}
 use Rattle.text_values.specs.ModelValue.{Term, Join, gathered, OneMore}
 use Rattle.cat_grammar.specs.Grammar.{Tree, Pair, Prefix, Trees, Last, More, infix_token, spelled, spelled_arguments, meaning, meanings, level, left_level, right_level, tightness, IsGrouped, AreGrouped, depth, depths, operators, operators_of, Limits}
-use Rattle.cat_grammar.specs.Machine.{Frame, InGroup, InSquare, InPrefix, LeftOf, InArguments, open_count, fold_to, is_outermost}
+use Rattle.cat_grammar.specs.Machine.{TermFrame, InGroup, InSquare, InPrefix, LeftOf, InArguments, open_count, fold_to, is_outermost}
 
 -- no bracket is open
-abbrev pub IsOutermost : List Frame → Type 0
+abbrev pub IsOutermost : List TermFrame → Type 0
 IsOutermost [] = Unit {0}
 IsOutermost (InGroup ∷ fs) = ⊥
 IsOutermost (InSquare ∷ fs) = ⊥
@@ -19,7 +19,7 @@ IsOutermost (InArguments n args ∷ fs) = ⊥
 IsOutermost (InPrefix ∷ fs) = IsOutermost fs
 IsOutermost (LeftOf op a ∷ fs) = IsOutermost fs
 
-pub outermost : (fs : List Frame) → is_outermost fs ≡ true → IsOutermost fs
+pub outermost : (fs : List TermFrame) → is_outermost fs ≡ true → IsOutermost fs
 outermost [] e = tt
 outermost (InGroup ∷ fs) e = absurd cc
 outermost (InSquare ∷ fs) e = absurd cc
@@ -27,7 +27,7 @@ outermost (InArguments n args ∷ fs) e = absurd cc
 outermost (InPrefix ∷ fs) e = outermost fs e
 outermost (LeftOf op a ∷ fs) e = outermost fs e
 
-pub is_outermost-true : (fs : List Frame) → IsOutermost fs → is_outermost fs ≡ true
+pub is_outermost-true : (fs : List TermFrame) → IsOutermost fs → is_outermost fs ≡ true
 is_outermost-true [] h = refl
 is_outermost-true (InGroup ∷ fs) h = absurd h
 is_outermost-true (InSquare ∷ fs) h = absurd h
@@ -55,14 +55,14 @@ abbrev pub sum_operators : List Tree → ℕ
 sum_operators [] = 0
 sum_operators (a ∷ args) = operators a + sum_operators args
 
-abbrev pub frame : Branch → Frame
+abbrev pub frame : Branch → TermFrame
 frame BGroup = InGroup
 frame BSquare = InSquare
 frame (BArguments n args) = InArguments n (values args)
 frame BPrefix = InPrefix
 frame (BLeft op a) = LeftOf op (meaning a)
 
-abbrev pub frames : List Branch → List Frame
+abbrev pub frames : List Branch → List TermFrame
 frames [] = []
 frames (b ∷ bs) = frame b ∷ frames bs
 
@@ -193,7 +193,7 @@ meets Product Intersection h = omega arith
 meets Product Product h = omega arith
 
 -- what is still open once everything that binds this tightly is joined
-pub record Folded (most : Limits) (l : ℕ) (whole rest : List Token) (p : List Frame × Term)
+pub record Folded (most : Limits) (l : ℕ) (whole rest : List Token) (p : List TermFrame × Term)
     (used : ℕ) : Type 0 where
   pub bs : List Branch
   pub t : Tree

@@ -16,13 +16,13 @@ use Rattle.text_values.specs.declared.model.Postfix.{Postfix}
 use Rattle.text_values.specs.declared.model.Postfix.TheVariants as postfix
 use Rattle.text_values.specs.ModelValue.{Term, Terms, Clause, Atom, AllEvents, EmptyRelation, EmptySet, Join, Mark, Not, On, Apply, OneMore, NoTerm, gathered}
 use Rattle.cat_grammar.specs.Grammar.{Tree, Word, Underscore, Zero, Braces, Pair, Post, Prefix, Group, Square, Application, Trees, Last, More, infix_token, postfix_token, spelled, spelled_arguments, meaning, meanings, level, left_level, right_level, tightness, IsGrouped, AreGrouped, depth, depths, operators, operators_of, Limits}
-use Rattle.cat_grammar.specs.Machine.{Frame, InGroup, InSquare, InPrefix, LeftOf, InArguments, Expectation, Wants, HasName, Has, HasStar, HasStarTilde, StepResult, Goes, Ends, EndsTilde, Refuses, open_count, fold_to, is_outermost, opened, left_frames, infix_at, ended, closed, square_closed, comma_read, star_tilde}
-use Rattle.cat_grammar.specs.ItemMachine.{Head, Body, AfterTilde, Fault, State, begin_check, excess, unless, unless_before, item_or_end, finished, at, added, goes_on}
+use Rattle.cat_grammar.specs.Machine.{TermFrame, InGroup, InSquare, InPrefix, LeftOf, InArguments, TermExpectation, Wants, HasName, Has, HasStar, HasStarTilde, TermStep, Goes, Ends, EndsTilde, Refuses, open_count, fold_to, is_outermost, opened, left_frames, infix_at, ended, closed, square_closed, comma_read, star_tilde}
+use Rattle.cat_grammar.specs.ItemMachine.{Head, Body, AfterTilde, Fault, ItemState, begin_check, excess, unless, unless_before, item_or_end, finished, at, added, goes_on}
 use Rattle.cat_grammar.proofs.Runs.{◌>>=◌, run_over}
 use Rattle.cat_grammar.proofs.Branches.{right_level-le, IsOutermost, is_outermost-true}
 
 -- what stands open, and the operand, once a tree is read
-abbrev pub pending : Tree → List Frame → List Frame × Term
+abbrev pub pending : Tree → List TermFrame → List TermFrame × Term
 pending (Word n) fs = (fs, Atom n)
 pending Underscore fs = (fs, AllEvents)
 pending Zero fs = (fs, EmptyRelation)
@@ -34,7 +34,7 @@ pending (Group a) fs = (fs, meaning a)
 pending (Square a) fs = (fs, On (meaning a))
 pending (Application n arguments) fs = (fs, Apply n (meanings arguments))
 
-abbrev pub wanted : List Frame → ℕ
+abbrev pub wanted : List TermFrame → ℕ
 wanted [] = 0
 wanted (InGroup ∷ fs) = 0
 wanted (InSquare ∷ fs) = 0
@@ -63,7 +63,7 @@ level-le-left Difference = omega arith
 level-le-left Intersection = omega arith
 level-le-left Product = omega arith
 
-wanted-le : (fs : List Frame) → wanted fs ≤ 6
+wanted-le : (fs : List TermFrame) → wanted fs ≤ 6
 wanted-le [] = omega arith
 wanted-le (InGroup ∷ fs) = omega arith
 wanted-le (InSquare ∷ fs) = omega arith
@@ -99,7 +99,7 @@ stays Product Difference h = omega arith
 stays Product Intersection h = omega arith
 stays Product Product h = omega arith
 
-pub fold_pending : (t : Tree) (fs : List Frame) (l : ℕ) → IsGrouped t → l ≤ tightness t
+pub fold_pending : (t : Tree) (fs : List TermFrame) (l : ℕ) → IsGrouped t → l ≤ tightness t
     → fold_to l (pending t fs).0 (pending t fs).1 ≡ fold_to l fs (meaning t)
 fold_pending (Word n) fs l g h = refl
 fold_pending Underscore fs l g h = refl
@@ -118,7 +118,7 @@ fold_pending (Post op a) fs l g h = refl
 fold_pending (Prefix a) fs l g h = fold_pending a (InPrefix ∷ fs) l g.1 (omega (arith, g.0))
 fold_pending (Group a) fs l g h = refl
 
-tight_pending : (t : Tree) (fs : List Frame) → 7 ≤ tightness t → pending t fs ≡ (fs, meaning t)
+tight_pending : (t : Tree) (fs : List TermFrame) → 7 ≤ tightness t → pending t fs ≡ (fs, meaning t)
 tight_pending (Word n) fs h = refl
 tight_pending Underscore fs h = refl
 tight_pending Zero fs h = refl
@@ -131,7 +131,7 @@ tight_pending (Prefix a) fs h = absurd (omega arith)
 tight_pending (Group a) fs h = refl
 
 -- an infix operator joins nothing where it may stand
-fold_stays : (op : Infix) (fs : List Frame) (v : Term) → wanted fs ≤ level op
+fold_stays : (op : Infix) (fs : List TermFrame) (v : Term) → wanted fs ≤ level op
     → fold_to (left_level op) fs v ≡ (fs, v)
 fold_stays op [] v h = refl
 fold_stays op (InGroup ∷ fs) v h = refl
@@ -142,13 +142,13 @@ fold_stays op (LeftOf o a ∷ fs) v h =
     ap (λ (x : Bool). if x then fold_to (left_level op) fs (Join o a v) else (LeftOf o a ∷ fs, v))
     (lt-leb (left_level op) (level o) (stays op o h))
 
-infix_pending : (op : Infix) (a : Tree) (fs : List Frame) → IsGrouped a
+infix_pending : (op : Infix) (a : Tree) (fs : List TermFrame) → IsGrouped a
     → left_level op ≤ tightness a → wanted fs ≤ level op
     → infix_at op (pending a fs).0 (pending a fs).1 ≡ LeftOf op (meaning a) ∷ fs
 infix_pending op a fs g h w =
     ap (left_frames op) (fold_pending a fs (left_level op) g h ∙ fold_stays op fs (meaning a) w)
 
-outer : (fs : List Frame) (v : Term) → IsOutermost fs → (x : Term) × (fold_to 0 fs v ≡ ([], x))
+outer : (fs : List TermFrame) (v : Term) → IsOutermost fs → (x : Term) × (fold_to 0 fs v ≡ ([], x))
 outer [] v h = (v, refl)
 outer (InGroup ∷ fs) v h = absurd h
 outer (InSquare ∷ fs) v h = absurd h
@@ -209,14 +209,14 @@ appended-push [] v others = refl
 appended-push (d ∷ ds) v others = ap (OneMore d) (appended-push ds v others)
 
 module _ (most : Limits) (form : Form) (cs : List Clause) (h : Head) where
-  abbrev pub body : List Frame → ℕ → Expectation → State
+  abbrev pub body : List TermFrame → ℕ → TermExpectation → ItemState
   body fs used expected = record { items = cs; part = Body h fs used expected }
 
-  abbrev pub from : StepResult → Token → List Token → Result State Fault
+  abbrev pub from : TermStep → Token → List Token → Result ItemState Fault
   from x t ts = goes_on most form cs h t x >>= λ s. run_over most form s ts
 
   -- no bracket is open, and one more item may begin
-  abbrev pub MayEnd : List Frame → Type 0
+  abbrev pub MayEnd : List TermFrame → Type 0
   MayEnd fs = IsOutermost fs × (excess most form (length cs + 1) ≡ None)
 
   -- an item that ends before a tilde, by one token or by two
@@ -236,7 +236,7 @@ module _ (most : Limits) (form : Form) (cs : List Clause) (h : Head) where
       (unless_before o (begin_check false true w)) >>= λ s. run_over most form s ts) e)
 
   -- a star before what can follow is postfix
-  star_drop : (fs : List Frame) (used : ℕ) (v : Term) (ts : List Token) → CanFollow (MayEnd fs) ts
+  star_drop : (fs : List TermFrame) (used : ℕ) (v : Term) (ts : List Token) → CanFollow (MayEnd fs) ts
       → run_over most form (body fs used (HasStar v)) ts
       ≡ run_over most form (body fs used (Has (Mark postfix.Closure v))) ts
   star_drop fs used v (tokens.Tilde ∷ tokens.Check w ∷ ts) c =
@@ -248,9 +248,9 @@ module _ (most : Limits) (form : Form) (cs : List Clause) (h : Head) where
       let right : run_over most form (body fs used (Has (Mark postfix.Closure v))) (tokens.Tilde ∷ tokens.Check w ∷ ts) ≡ from (Ends b.0) tokens.Tilde (tokens.Check w ∷ ts)
       =
       ap
-      (λ (p : List Frame × Term).
+      (λ (p : List TermFrame × Term).
       from (ended tokens.Tilde p) tokens.Tilde (tokens.Check w ∷ ts)) b.1 in
-      left ∙ ap (λ (p : List Frame × Term). from (EndsTilde p.1) (tokens.Check w) ts) b.1
+      left ∙ ap (λ (p : List TermFrame × Term). from (EndsTilde p.1) (tokens.Check w) ts) b.1
       ∙ sym (right ∙ by_tilde (finished h b.0 rules.Syntax) w ts c.0.1)
   star_drop fs used v (tokens.Tilde ∷ ts) c = absurd c.1
   star_drop fs used v [] c = absurd c
@@ -263,14 +263,14 @@ module _ (most : Limits) (form : Form) (cs : List Clause) (h : Head) where
   star_drop fs used v (_ ∷ ts) c = refl
 
   -- a name before what can follow is no function's
-  name_drop : (fs : List Frame) (used : ℕ) (n : List ℕ) (ts : List Token) → CanFollow (MayEnd fs) ts
+  name_drop : (fs : List TermFrame) (used : ℕ) (n : List ℕ) (ts : List Token) → CanFollow (MayEnd fs) ts
       → run_over most form (body fs used (HasName n)) ts
       ≡ run_over most form (body fs used (Has (Atom n))) ts
   name_drop fs used n [] c = absurd c
   name_drop fs used n (tokens.Open ∷ ts) c = absurd c
   name_drop fs used n (_ ∷ ts) c = refl
 
-  opened_run : (f : Frame) (t : Token) (fs : List Frame) (used : ℕ) (ts : List Token)
+  opened_run : (f : TermFrame) (t : Token) (fs : List TermFrame) (used : ℕ) (ts : List Token)
       → open_count fs < most.nesting
       → from (opened most fs used f) t ts ≡ run_over most form (body (f ∷ fs) used Wants) ts
   opened_run f t fs used ts lt =
@@ -278,7 +278,7 @@ module _ (most : Limits) (form : Form) (cs : List Clause) (h : Head) where
       (lt-ltb _ _ lt)
 
   -- a tilde after a star, before an operand
-  tilde_operand : (fs : List Frame) (used : ℕ) (v : Term) (b : Tree) (rest : List Token)
+  tilde_operand : (fs : List TermFrame) (used : ℕ) (v : Term) (b : Tree) (rest : List Token)
       → run_over most form (body fs used (HasStarTilde v)) (spelled b rest)
       ≡ run_over most form (body (InPrefix ∷ infix_at Product fs v) used Wants) (spelled b rest)
   tilde_operand fs used v (Word n) rest = refl
@@ -294,7 +294,7 @@ module _ (most : Limits) (form : Form) (cs : List Clause) (h : Head) where
   tilde_operand fs used v (Application n arguments) rest = refl
 
   -- a star before an operand is infix
-  star_operand : (fs : List Frame) (used : ℕ) (v : Term) (b : Tree) (rest : List Token)
+  star_operand : (fs : List TermFrame) (used : ℕ) (v : Term) (b : Tree) (rest : List Token)
       → open_count (infix_at Product fs v) + depth b ≤ most.nesting
       → run_over most form (body fs used (HasStar v)) (spelled b rest)
       ≡ run_over most form (body (infix_at Product fs v) used Wants) (spelled b rest)
@@ -321,7 +321,7 @@ module _ (most : Limits) (form : Form) (cs : List Clause) (h : Head) where
   star_operand fs used v (Application n arguments) rest d = refl
 
   -- an infix operator after an operand
-  infix_run : (op : Infix) (fs : List Frame) (used : ℕ) (v : Term) (b : Tree) (rest : List Token)
+  infix_run : (op : Infix) (fs : List TermFrame) (used : ℕ) (v : Term) (b : Tree) (rest : List Token)
       → used < most.operators → open_count (infix_at op fs v) + depth b ≤ most.nesting
       → run_over most form (body fs used (Has v)) (infix_token op ∷ spelled b rest)
       ≡ run_over most form (body (infix_at op fs v) (used + 1) Wants) (spelled b rest)
@@ -357,7 +357,7 @@ module _ (most : Limits) (form : Form) (cs : List Clause) (h : Head) where
       (lt-ltb _ _ lt) ∙ star_operand fs (used + 1) v b rest d
 
   -- a postfix operator after an operand
-  postfix_run : (op : Postfix) (fs : List Frame) (used : ℕ) (v : Term) (rest : List Token)
+  postfix_run : (op : Postfix) (fs : List TermFrame) (used : ℕ) (v : Term) (rest : List Token)
       → used < most.operators → CanFollow (MayEnd fs) rest
       → run_over most form (body fs used (Has v)) (postfix_token op ∷ rest)
       ≡ run_over most form (body fs (used + 1) (Has (Mark op v))) rest
@@ -388,7 +388,7 @@ module _ (most : Limits) (form : Form) (cs : List Clause) (h : Head) where
       (lt-ltb _ _ lt) ∙ star_drop fs (used + 1) v rest c
 
   mutual
-    pub tree_run : (t : Tree) (fs : List Frame) (used all : ℕ) (rest : List Token) → IsGrouped t
+    pub tree_run : (t : Tree) (fs : List TermFrame) (used all : ℕ) (rest : List Token) → IsGrouped t
         → wanted fs ≤ tightness t → open_count fs + depth t ≤ most.nesting
         → used + operators t ≡ all → all ≤ most.operators → CanFollow (MayEnd fs) rest
         → run_over most form (body fs used Wants) (spelled t rest)
@@ -415,7 +415,7 @@ module _ (most : Limits) (form : Form) (cs : List Clause) (h : Head) where
         ∙ infix_run op p.0 (used + operators a) p.1 b rest (omega arith)
         (rw (infix_pending op a fs g.2 g.0 w) (omega arith))
         ∙ ap
-        (λ (gs : List Frame).
+        (λ (gs : List TermFrame).
         run_over most form (body gs (used + operators a + 1) Wants) (spelled b rest))
         (infix_pending op a fs g.2 g.0 w)
         ∙ tree_run b (LeftOf op (meaning a) ∷ fs) (used + operators a + 1) all rest g.3 g.1
@@ -426,7 +426,7 @@ module _ (most : Limits) (form : Form) (cs : List Clause) (h : Head) where
         tree_run a fs used (used + operators a) (postfix_token op ∷ rest) g.1 (omega (arith, g.0)) d
         refl (omega arith) (postfix_follows (MayEnd fs) op rest)
         ∙ ap
-        (λ (p : List Frame × Term). run_over most form (body p.0 (used + operators a) (Has p.1))
+        (λ (p : List TermFrame × Term). run_over most form (body p.0 (used + operators a) (Has p.1))
         (postfix_token op ∷ rest))
         (tight_pending a fs g.0)
         ∙ postfix_run op fs (used + operators a) (meaning a) rest (omega arith) c
@@ -438,21 +438,21 @@ module _ (most : Limits) (form : Form) (cs : List Clause) (h : Head) where
         opened_run InGroup tokens.Open fs used (spelled a (tokens.Close ∷ rest)) (omega arith)
         ∙ tree_run a (InGroup ∷ fs) used all (tokens.Close ∷ rest) g (omega arith) (omega arith) u m
         tt
-        ∙ ap (λ (p : List Frame × Term). from (closed all p) tokens.Close rest)
+        ∙ ap (λ (p : List TermFrame × Term). from (closed all p) tokens.Close rest)
         (fold_pending a (InGroup ∷ fs) 0 g (omega arith))
     tree_run (Square a) fs used all rest g w d u m c =
         opened_run InSquare tokens.OpenSquare fs used (spelled a (tokens.CloseSquare ∷ rest))
         (omega arith)
         ∙ tree_run a (InSquare ∷ fs) used all (tokens.CloseSquare ∷ rest) g (omega arith)
         (omega arith) u m tt
-        ∙ ap (λ (p : List Frame × Term). from (square_closed all p) tokens.CloseSquare rest)
+        ∙ ap (λ (p : List TermFrame × Term). from (square_closed all p) tokens.CloseSquare rest)
         (fold_pending a (InSquare ∷ fs) 0 g (omega arith))
     tree_run (Application n arguments) fs used all rest g w d u m c =
         opened_run (InArguments n []) tokens.Open fs used (spelled_arguments arguments rest)
         (omega arith)
         ∙ arguments_run arguments n [] fs used all rest g (omega arith) u m
 
-    arguments_run : (args : Trees) (n : List ℕ) (ds : List Term) (fs : List Frame) (used all : ℕ)
+    arguments_run : (args : Trees) (n : List ℕ) (ds : List Term) (fs : List TermFrame) (used all : ℕ)
         (rest : List Token) → AreGrouped args → open_count fs + 1 + depths args ≤ most.nesting
         → used + operators_of args ≡ all → all ≤ most.operators
         → run_over most form (body (InArguments n ds ∷ fs) used Wants) (spelled_arguments args rest)
@@ -460,7 +460,7 @@ module _ (most : Limits) (form : Form) (cs : List Clause) (h : Head) where
     arguments_run (Last a) n ds fs used all rest g d u m =
         tree_run a (InArguments n ds ∷ fs) used all (tokens.Close ∷ rest) g (omega arith)
         (omega arith) u m tt
-        ∙ ap (λ (p : List Frame × Term). from (closed all p) tokens.Close rest)
+        ∙ ap (λ (p : List TermFrame × Term). from (closed all p) tokens.Close rest)
         (fold_pending a (InArguments n ds ∷ fs) 0 g (omega arith))
         ∙ ap (λ (x : Terms). run_over most form (body fs all (Has (Apply n x))) rest)
         (gathered-push ds (meaning a))
@@ -469,7 +469,7 @@ module _ (most : Limits) (form : Form) (cs : List Clause) (h : Head) where
         (tokens.Comma ∷ spelled_arguments others rest) g.0 (omega arith) (omega arith) refl
         (omega arith) tt
         ∙ ap
-        (λ (p : List Frame × Term). from (comma_read (used + operators a) p) tokens.Comma
+        (λ (p : List TermFrame × Term). from (comma_read (used + operators a) p) tokens.Comma
         (spelled_arguments others rest))
         (fold_pending a (InArguments n ds ∷ fs) 0 g.0 (omega arith))
         ∙ arguments_run others n (ds ++ meaning a ∷ []) fs (used + operators a) all rest g.1

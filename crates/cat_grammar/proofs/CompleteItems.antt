@@ -13,10 +13,10 @@ use Rattle.cat_tokens.specs.declared.token.Token.TheVariants as tokens
 use Rattle.text_values.specs.ModelValue.{Term, Clause, Binding, Function, Checking, Flagging, Showing, Including}
 use Rattle.cat_grammar.specs.Grammar as grammar
 use Rattle.cat_grammar.specs.Grammar.{Tree, spelled, meaning, operators, Limits, IsExpressionTree, BindingTree, CheckTree, ShowTree, ItemTree, spelled_rec, spelled_tilde, show_token, spelled_label, spelled_bound, spelled_group, spelled_parameters, spelled_check, spelled_shown, spelled_item, group_meaning, check_meaning, shown_meaning, item_meaning, items_meaning, AreBindingTrees, AreShowTrees, has_no_effect, IsItemTree, AreItemTrees, Title, NoTitle, NameTitle, StringTitle, spelled_title, spelled_items, IsFormText, Means}
-use Rattle.cat_grammar.specs.Machine.{Frame, Has, Ends, fold_to, ended, comma_read}
+use Rattle.cat_grammar.specs.Machine.{TermFrame, Has, Ends, fold_to, ended, comma_read}
 use Rattle.cat_tokens.specs.Tokens.{rule_of}
 use Rattle.cat_grammar.specs.ItemMachine as items
-use Rattle.cat_grammar.specs.ItemMachine.{Group, Keyword, And, Parameter, AfterParameter, Parameters, Head, BoundHead, FunctionHead, CheckedHead, ShownHead, Part, Start, InLet, AfterFlag, AfterTilde, AfterShowLabel, AfterInclude, Done, Fault, Here, State, begin_body, begin_check, begin_show, excess, unless, end_of, item_or_end, fresh, extended, group_clause, shown_clause, shown_also, finished, at, added, start}
+use Rattle.cat_grammar.specs.ItemMachine.{Group, Keyword, And, Parameter, AfterParameter, Parameters, Head, BoundHead, FunctionHead, CheckedHead, ShownHead, Part, Start, InLet, AfterFlag, AfterTilde, AfterShowLabel, AfterInclude, Done, Fault, Here, ItemState, begin_body, begin_check, begin_show, excess, unless, end_of, item_or_end, fresh, extended, group_clause, shown_clause, shown_also, finished, at, added, start}
 use Rattle.cat_grammar.proofs.Runs.{◌>>=◌, run_over}
 use Rattle.cat_grammar.proofs.Groups.{length-push}
 use Rattle.cat_grammar.proofs.Complete.{pending, BeginsWithCheck, CanFollow, body, from, MayEnd, fold_pending, tree_run}
@@ -34,13 +34,13 @@ EndsItem room (tokens.Tilde ∷ ts) = room × BeginsWithCheck ts
 EndsItem room _ = ⊥
 
 module _ (most : Limits) (form : Form) where
-  abbrev pub ready : List Clause → State
+  abbrev pub ready : List Clause → ItemState
   ready cs = record { items = cs; part = Start }
 
   abbrev pub Room : ℕ → Type 0
   Room n = excess most form n ≡ None
 
-  abbrev run_from : List Token → State → Result State Fault
+  abbrev run_from : List Token → ItemState → Result ItemState Fault
   run_from ts s = run_over most form s ts
 
   can_follow : (n : ℕ) (ts : List Token) → EndsItem (Room (n + 1)) ts
@@ -72,41 +72,41 @@ module _ (most : Limits) (form : Form) where
       ap (λ (r : Result Clause Fault). added cs r (λ n. item_or_end most form n t) >>= run_from ts)
       (f (rule_of t)) ∙ one_more cs c t ts
 
-  item_ended : (cs : List Clause) (h : Head) (fs : List Frame) (used : ℕ) (v x : Term) (c : Clause)
+  item_ended : (cs : List Clause) (h : Head) (fs : List TermFrame) (used : ℕ) (v x : Term) (c : Clause)
       (ts : List Token) → EndsItem (Room (length cs + 1)) ts → fold_to 0 fs v ≡ ([], x)
       → ((r : CatRule) → finished h x r ≡ Ok c)
       → run_over most form (body most form cs h fs used (Has v)) ts
       ≡ run_over most form (ready (cs ++ c ∷ [])) ts
   item_ended cs h fs used v x c (tokens.Let ∷ ts) e q f =
-      ap (λ (p : List Frame × Term). from most form cs h (ended tokens.Let p) tokens.Let ts) q
+      ap (λ (p : List TermFrame × Term). from most form cs h (ended tokens.Let p) tokens.Let ts) q
       ∙ done_at cs h x c tokens.Let ts f
   item_ended cs h fs used v x c (tokens.Flag ∷ ts) e q f =
-      ap (λ (p : List Frame × Term). from most form cs h (ended tokens.Flag p) tokens.Flag ts) q
+      ap (λ (p : List TermFrame × Term). from most form cs h (ended tokens.Flag p) tokens.Flag ts) q
       ∙ done_at cs h x c tokens.Flag ts f
   item_ended cs h fs used v x c (tokens.Check w ∷ ts) e q f =
       ap
-      (λ (p : List Frame × Term).
+      (λ (p : List TermFrame × Term).
       from most form cs h (ended (tokens.Check w) p) (tokens.Check w) ts) q
       ∙ done_at cs h x c (tokens.Check w) ts f
   item_ended cs h fs used v x c (tokens.Show ∷ ts) e q f =
-      ap (λ (p : List Frame × Term). from most form cs h (ended tokens.Show p) tokens.Show ts) q
+      ap (λ (p : List TermFrame × Term). from most form cs h (ended tokens.Show p) tokens.Show ts) q
       ∙ done_at cs h x c tokens.Show ts f
   item_ended cs h fs used v x c (tokens.Unshow ∷ ts) e q f =
-      ap (λ (p : List Frame × Term). from most form cs h (ended tokens.Unshow p) tokens.Unshow ts) q
+      ap (λ (p : List TermFrame × Term). from most form cs h (ended tokens.Unshow p) tokens.Unshow ts) q
       ∙ done_at cs h x c tokens.Unshow ts f
   item_ended cs h fs used v x c (tokens.Include ∷ ts) e q f =
-      ap (λ (p : List Frame × Term). from most form cs h (ended tokens.Include p) tokens.Include ts)
+      ap (λ (p : List TermFrame × Term). from most form cs h (ended tokens.Include p) tokens.Include ts)
       q ∙ done_at cs h x c tokens.Include ts f
   item_ended cs h fs used v x c (tokens.End ∷ ts) e q f =
-      ap (λ (p : List Frame × Term). from most form cs h (ended tokens.End p) tokens.End ts) q
+      ap (λ (p : List TermFrame × Term). from most form cs h (ended tokens.End p) tokens.End ts) q
       ∙ done_at cs h x c tokens.End ts f
   item_ended cs h fs used v x c (tokens.Tilde ∷ ts) e q f =
-      ap (λ (p : List Frame × Term). from most form cs h (ended tokens.Tilde p) tokens.Tilde ts) q
+      ap (λ (p : List TermFrame × Term). from most form cs h (ended tokens.Tilde p) tokens.Tilde ts) q
       ∙ done_at cs h x c tokens.Tilde ts f
   item_ended cs h fs used v x c [] e q f = absurd e
   item_ended cs h fs used v x c (_ ∷ ts) e q f = absurd e
 
-  abbrev body_at : List Clause → Head → State
+  abbrev body_at : List Clause → Head → ItemState
   body_at cs h = record { items = cs; part = begin_body h }
 
   -- an item's expression, up to what follows it
@@ -125,7 +125,7 @@ module _ (most : Limits) (form : Form) where
       ≡ from most form cs h (Ends (meaning t)) tokens.And rest
   up_to_and cs h t rest i =
       body_run cs h t (tokens.And ∷ rest) i tt
-      ∙ ap (λ (p : List Frame × Term). from most form cs h (ended tokens.And p) tokens.And rest)
+      ∙ ap (λ (p : List TermFrame × Term). from most form cs h (ended tokens.And p) tokens.And rest)
       (fold_pending t [] 0 i.grouped (omega arith))
 
   up_to_as : (cs : List Clause) (h : Head) (t : Tree) (rest : List Token) → IsExpressionTree most t
@@ -133,7 +133,7 @@ module _ (most : Limits) (form : Form) where
       ≡ from most form cs h (Ends (meaning t)) tokens.As rest
   up_to_as cs h t rest i =
       body_run cs h t (tokens.As ∷ rest) i tt
-      ∙ ap (λ (p : List Frame × Term). from most form cs h (ended tokens.As p) tokens.As rest)
+      ∙ ap (λ (p : List TermFrame × Term). from most form cs h (ended tokens.As p) tokens.As rest)
       (fold_pending t [] 0 i.grouped (omega arith))
 
   up_to_comma : (cs : List Clause) (h : Head) (t : Tree) (rest : List Token) → IsExpressionTree most t
@@ -142,7 +142,7 @@ module _ (most : Limits) (form : Form) where
   up_to_comma cs h t rest i =
       body_run cs h t (tokens.Comma ∷ rest) i tt
       ∙ ap
-      (λ (p : List Frame × Term).
+      (λ (p : List TermFrame × Term).
       from most form cs h (comma_read (operators t) p) tokens.Comma rest)
       (fold_pending t [] 0 i.grouped (omega arith))
 
@@ -158,7 +158,7 @@ module _ (most : Limits) (form : Form) where
 
   -- ---- let
 
-  abbrev in_group : List Clause → Group → State
+  abbrev in_group : List Clause → Group → ItemState
   in_group cs g = record { items = cs; part = InLet (And g) }
 
   -- what follows the expression of a binding
@@ -354,7 +354,7 @@ module _ (most : Limits) (form : Form) where
   show_start cs true ts e = keyword_read cs (Ok (begin_show true)) ts e
   show_start cs false ts e = keyword_read cs (Ok (begin_show false)) ts e
 
-  abbrev effect : List Clause → List ℕ → Bool → Result State Fault
+  abbrev effect : List Clause → List ℕ → Bool → Result ItemState Fault
   effect cs path b =
       if b then Ok (record { items = cs ++ Including path ∷ []; part = Start })
       else Err (Here rules.Include)
@@ -423,7 +423,7 @@ module _ (most : Limits) (form : Form) where
   items_end n (i ∷ is) r =
       item_begins (Room n) i (spelled_items is (tokens.End ∷ [])) (r n (omega arith) (omega arith))
 
-  abbrev done : List Clause → Result State Fault
+  abbrev done : List Clause → Result ItemState Fault
   done cs = Ok (record { items = cs; part = Done })
 
   items_run : (cs : List Clause) (is : List ItemTree) → AreItemTrees most is → AllRoom (length cs) is

@@ -13,7 +13,7 @@ use Rattle.text_values.specs.ModelValue.{Clause}
 use Rattle.cat_grammar.specs.Grammar.{Limits, BeginsForm, SameCounts, SameDepths, IsSeparator, CanStand, BeginsText, BeforeAName, last_two, last_offset, is_tilde, is_check, BreaksRule, Nowhere, TooMany, TooDeep, Plain, IsFormFault}
 use Rattle.cat_tokens.specs.Tokens.{TokenAt, tokens_of}
 use Rattle.cat_grammar.specs.ItemMachine as items
-use Rattle.cat_grammar.specs.ItemMachine.{And, Parameter, Part, InLet, Fault, Here, Before, State, step, start}
+use Rattle.cat_grammar.specs.ItemMachine.{And, Parameter, Part, InLet, Fault, Here, Before, ItemState, step, start}
 use Rattle.cat_grammar.specs.Running.{ItemsResult, with_offset, and_then, run}
 use Rattle.cat_grammar.proofs.Runs.{◌>>=◌, run_over, run_over-append}
 use Rattle.cat_grammar.proofs.Finishes.{has_offset, begins, takes}
@@ -40,7 +40,7 @@ passes_wider (Names n) a b w e = test_wider n a.names b.names w.names e
 passes_wider (Takes n) a b w e = test_wider n a.parameters b.parameters w.parameters e
 
 -- what a gate makes of a step
-abbrev gated : Bool → State → Fault → Result State Fault
+abbrev gated : Bool → ItemState → Fault → Result ItemState Fault
 gated b s e = if b then Ok s else Err e
 
 -- limits that hold what both hold
@@ -112,7 +112,7 @@ wide_depths most (InLet (Parameter n ps)) = (omega arith, omega arith)
 wide_depths most _ = (omega arith, omega arith)
 
 -- a state without a place for its name takes no token
-offset_before : (most : Limits) (form : Form) (cs : List Clause) (p : Part) (t : Token) (s : State)
+offset_before : (most : Limits) (form : Form) (cs : List Clause) (p : Part) (t : Token) (s : ItemState)
     → items.step_part most form cs p t ≡ Ok s → has_offset most p ≡ true
 offset_before most form cs (InLet (And g)) (tokens.Name n) s e =
     choose (nat_lt (length g.bindings) most.names) e
@@ -163,16 +163,16 @@ pub tokens_of-append : (ps qs : List TokenAt) → tokens_of (ps ++ qs) ≡ token
 tokens_of-append [] qs = refl
 tokens_of-append (p ∷ ps) qs = ap (λ (ts : List Token). p.token ∷ ts) (tokens_of-append ps qs)
 
-abbrev kept : State → Result State Fault
+abbrev kept : ItemState → Result ItemState Fault
 kept s = Ok s
 
-kept_is : (s s' : State) → kept s ≡ kept s' → s ≡ s'
+kept_is : (s s' : ItemState) → kept s ≡ kept s' → s ≡ s'
 kept_is s s' e = cc
 
-abbrev fails : Fault → Result State Fault
+abbrev fails : Fault → Result ItemState Fault
 fails d = Err d
 
-not_both : (d : Fault) (s : State) → Err d ≡ kept s → ⊥
+not_both : (d : Fault) (s : ItemState) → Err d ≡ kept s → ⊥
 not_both d s e = absurd cc
 
 module _ (form : Form) where
@@ -191,13 +191,13 @@ module _ (form : Form) where
       by_form forms.Item = refl
 
   -- a step under wider limits, and what is known after it
-  step_wider : (a b : Limits) (p : Token × Token) (s : State) (t : Token) (s' : State)
+  step_wider : (a b : Limits) (p : Token × Token) (s : ItemState) (t : Token) (s' : ItemState)
       → KnowsPart p s.part → Wider a b → step a form s t ≡ Ok s'
       → (step b form s t ≡ Ok s') × KnowsPart (p.1, t) s'.part
   step_wider a b p s t s' k w e = by_shape (step_shape form p s t k)
     where
-      by_result : (r : Result State Fault) → ((x : Limits) → step x form s t ≡ r)
-          → ((x : State) → r ≡ Ok x → KnowsPart (p.1, t) x.part)
+      by_result : (r : Result ItemState Fault) → ((x : Limits) → step x form s t ≡ r)
+          → ((x : ItemState) → r ≡ Ok x → KnowsPart (p.1, t) x.part)
           → (step b form s t ≡ Ok s') × KnowsPart (p.1, t) s'.part
       by_result r q known = (q b ∙ sym (q a) ∙ e, known s' (sym (q a) ∙ e))
 
@@ -205,7 +205,7 @@ module _ (form : Form) where
           → (step b form s t ≡ Ok s') × KnowsPart (p.1, t) s'.part
       by_shape (Always (Ok x) q known) =
           by_result (Ok x) q (λ y h.
-          subst (λ (z : State). KnowsPart (p.1, t) z.part) (kept_is x y h) known)
+          subst (λ (z : ItemState). KnowsPart (p.1, t) z.part) (kept_is x y h) known)
       by_shape (Always (Err d) q known) = by_result (Err d) q (λ y h. absurd (not_both d y h))
       by_shape (Where g x q own known offset) = by_test (passes g a) refl
         where
@@ -216,35 +216,35 @@ module _ (form : Form) where
                 q b
                     ∙ ap (λ (z : Bool). gated z x (gate_fault g (is_check t && is_tilde p.1)))
                     (passes_wider g a b w h) ∙ same,
-                subst (λ (z : State). KnowsPart (p.1, t) z.part) (kept_is x s' same) known,
+                subst (λ (z : ItemState). KnowsPart (p.1, t) z.part) (kept_is x s' same) known,
               )
           by_test false h =
               absurd (not_both (gate_fault g (is_check t && is_tilde p.1)) s' (sym
               (ap (λ (z : Bool). gated z x (gate_fault g (is_check t && is_tilde p.1)))
               h) ∙ sym (q a) ∙ e))
 
-  taken_wider : (a b : Limits) (p : Token × Token) (s : State) (ts : List Token) (s' : State)
+  taken_wider : (a b : Limits) (p : Token × Token) (s : ItemState) (ts : List Token) (s' : ItemState)
       → KnowsPart p s.part → Wider a b → run_over a form s ts ≡ Ok s'
       → (run_over b form s ts ≡ Ok s') × KnowsPart (last_two p.0 p.1 ts) s'.part
   taken_wider a b p s [] s' k w e =
-      (e, subst (λ (z : State). KnowsPart p z.part) (kept_is s s' e) k)
+      (e, subst (λ (z : ItemState). KnowsPart p z.part) (kept_is s s' e) k)
   taken_wider a b p s (t ∷ ts) s' k w e =
       by_step (step a form s t) refl e (λ x j h. taken_wider a b (p.1, t) x ts s' j w h)
     where
-      by_step : (r : Result State Fault) → step a form s t ≡ r
+      by_step : (r : Result ItemState Fault) → step a form s t ≡ r
           → (r >>= λ x. run_over a form x ts) ≡ Ok s'
-          → ((x : State) → KnowsPart (p.1, t) x.part → run_over a form x ts ≡ Ok s'
+          → ((x : ItemState) → KnowsPart (p.1, t) x.part → run_over a form x ts ≡ Ok s'
           → (run_over b form x ts ≡ Ok s') × KnowsPart (last_two p.1 t ts) s'.part)
           → ((step b form s t >>= λ x. run_over b form x ts) ≡ Ok s')
           × KnowsPart (last_two p.1 t ts) s'.part
       by_step (Ok x) q h f =
           let n = step_wider a b p s t x k w q in
           let r = f x n.1 h in
-          (ap (λ (z : Result State Fault). z >>= λ y. run_over b form y ts) n.0 ∙ r.0, r.1)
+          (ap (λ (z : Result ItemState Fault). z >>= λ y. run_over b form y ts) n.0 ∙ r.0, r.1)
       by_step (Err d) q h f = absurd (not_both d s' h)
 
   -- tokens that were taken
-  module _ (most : Limits) (ts : List Token) (s : State)
+  module _ (most : Limits) (ts : List Token) (s : ItemState)
       (reached : run_over most form (start form) ts ≡ Ok s) where
     abbrev ends : Token × Token
     ends = last_two tokens.End tokens.End ts
@@ -281,13 +281,13 @@ module _ (form : Form) where
     module _ (some : 0 < most.nesting) (one : 0 < most.names) (two : 0 < most.parameters)
         (t : Token) where
       -- a token that is taken can stand
-      stands : (s' : State) → step most form s t ≡ Ok s'
+      stands : (s' : ItemState) → step most form s t ≡ Ok s'
           → (run_over most form (start form) (ts ++ t ∷ []) ≡ Ok s')
           × CanStand most form (ts ++ t ∷ [])
       stands s' e = (all, choose (has_offset most s'.part) refl)
         where
           all : run_over most form (start form) (ts ++ t ∷ []) ≡ Ok s'
-          all = pushed most t same_limits ∙ ap (λ (r : Result State Fault). r >>= λ x. Ok x) e
+          all = pushed most t same_limits ∙ ap (λ (r : Result ItemState Fault). r >>= λ x. Ok x) e
 
           after : KnowsPart (ends.1, t) s'.part
           after = (step_wider most most ends s t s' known same_limits e).1
@@ -297,7 +297,7 @@ module _ (form : Form) where
           choose false offset =
               let wide = joined most (wide_part s'.part) in
               let w = wider_left most (wide_part s'.part) in
-              let now : run_over wide form (start form) (ts ++ t ∷ []) ≡ Ok s' = pushed wide t w ∙ ap (λ (r : Result State Fault). r >>= λ x. Ok x) (step_wider most wide ends s t s' known w e).0 in
+              let now : run_over wide form (start form) (ts ++ t ∷ []) ≡ Ok s' = pushed wide t w ∙ ap (λ (r : Result ItemState Fault). r >>= λ x. Ok x) (step_wider most wide ends s t s' known w e).0 in
               BeforeAName (record {
                 earlier = ts;
                 separator = t;
@@ -321,23 +321,23 @@ module _ (form : Form) where
           let r = takes wider form (ts ++ t ∷ []) b in
           let up = (taken_wider wider c (tokens.End, tokens.End) (start form) (ts ++ t ∷ []) r.0 start_knows (wider_right most wider) r.1).0 in
           let q : (step c form s t >>= λ x. Ok x) ≡ kept r.0 = sym (pushed c t (wider_left most wider)) ∙ up in
-          not_both d r.0 (ap (λ (y : Result State Fault). y >>= λ x. Ok x) (sym (e c)) ∙ q)
+          not_both d r.0 (ap (λ (y : Result ItemState Fault). y >>= λ x. Ok x) (sym (e c)) ∙ q)
 
       no_text : (d : Fault) → step most form s t ≡ Err d → BeginsForm most form (ts ++ t ∷ []) → ⊥
       no_text d e b =
           let r = takes most form (ts ++ t ∷ []) b in
           let q : (step most form s t >>= λ x. Ok x) ≡ kept r.0 = sym (pushed most t same_limits) ∙ r.1 in
-          not_both d r.0 (ap (λ (y : Result State Fault). y >>= λ x. Ok x) (sym e) ∙ q)
+          not_both d r.0 (ap (λ (y : Result ItemState Fault). y >>= λ x. Ok x) (sym e) ∙ q)
 
       -- wider limits help where a limit refused
-      wider_text : (g : Gate) (x : State) (d : Fault)
+      wider_text : (g : Gate) (x : ItemState) (d : Fault)
           → ((b : Limits) → step b form s t ≡ gated (passes g b) x d)
           → ((b : Limits) → has_offset b x.part ≡ true)
           → BeginsForm (joined most (gate_limits g)) form (ts ++ t ∷ [])
       wider_text g x d q offset =
           let c = joined most (gate_limits g) in
           let w = wider_left most (gate_limits g) in
-          let e : run_over c form (start form) (ts ++ t ∷ []) ≡ Ok x = pushed c t w ∙ ap (λ (y : Result State Fault). y >>= λ z. Ok z) (q c ∙ ap (λ (y : Bool). gated y x d) (gate_passes most g)) in
+          let e : run_over c form (start form) (ts ++ t ∷ []) ≡ Ok x = pushed c t w ∙ ap (λ (y : Result ItemState Fault). y >>= λ z. Ok z) (q c ∙ ap (λ (y : Bool). gated y x d) (gate_passes most g)) in
           begins c form (ts ++ t ∷ []) x (let h = w.nesting in omega arith)
           (let h = w.names in omega arith) e (offset c)
 
@@ -369,7 +369,7 @@ RefusedAs most form before here (Before r) =
     BreaksRule most form before here r (last_offset 0 before)
 
 module _ (most : Limits) (form : Form) (some : 0 < most.nesting) (one : 0 < most.names)
-    (two : 0 < most.parameters) (before : List TokenAt) (s : State)
+    (two : 0 < most.parameters) (before : List TokenAt) (s : ItemState)
     (reached : run_over most form (start form) (tokens_of before) ≡ Ok s) (here : TokenAt) where
   abbrev two_before : Token × Token
   two_before = last_two tokens.End tokens.End (tokens_of before)
@@ -459,7 +459,7 @@ outcome most form ps some one two =
     (start_has_offset form most)))
   where
     go : (before : List TokenAt) (n : ℕ) → last_offset 0 before ≡ n
-        → (s : State) (rest : List TokenAt)
+        → (s : ItemState) (rest : List TokenAt)
         → run_over most form (start form) (tokens_of before) ≡ Ok s
         → CanStand most form (tokens_of before)
         → Outcome most form (before ++ rest) (run most form n s rest)
@@ -476,8 +476,8 @@ outcome most form ps some one two =
         fault r offset d e h =
             record { before = before; here = p; after = rest; split = refl; stand = stand; ends = cannot_stand form most (tokens_of before) s reached some one two p.token d e; refusal = h }
 
-        by_step : (r : Result State Fault) → step most form s p.token ≡ r
-            → ((x : State)
+        by_step : (r : Result ItemState Fault) → step most form s p.token ≡ r
+            → ((x : ItemState)
             → (run_over most form (start form) (tokens_of before ++ p.token ∷ []) ≡ Ok x)
             × CanStand most form (tokens_of before ++ p.token ∷ [])
             → Outcome most form (before ++ p ∷ rest) (run most form p.offset x rest))

@@ -14,9 +14,9 @@ use Rattle.cat_tokens.specs.declared.token.Token.{Token}
 use Rattle.cat_tokens.specs.declared.token.Token.TheVariants as tokens
 use Rattle.text_values.specs.ModelValue.{Term, Clause, Atom, EmptySet, Join, Mark, Not, On, Apply, Function, Including, gathered}
 use Rattle.cat_grammar.specs.Grammar.{level, Limits, BeginsForm}
-use Rattle.cat_grammar.specs.Machine.{Frame, InGroup, InSquare, InPrefix, LeftOf, InArguments, Expectation, Wants, HasBrace, HasName, Has, HasStar, HasStarTilde, fold_to, infix_at, ended, closed, square_closed}
+use Rattle.cat_grammar.specs.Machine.{TermFrame, InGroup, InSquare, InPrefix, LeftOf, InArguments, TermExpectation, Wants, HasBrace, HasName, Has, HasStar, HasStarTilde, fold_to, infix_at, ended, closed, square_closed}
 use Rattle.cat_grammar.specs.ItemMachine as items
-use Rattle.cat_grammar.specs.ItemMachine.{Keyword, Named, And, Parameter, AfterParameter, Parameters, Head, BoundHead, FunctionHead, CheckedHead, ShownHead, Part, Start, InLet, AfterFlag, AfterTilde, Body, Label, ShowLabel, AfterShowLabel, AfterInclude, Done, Fault, Here, State, begin_check, excess, unless, end_of, fresh, extended, group_clause, shown_clause, shown_also, labelled, at, start}
+use Rattle.cat_grammar.specs.ItemMachine.{Keyword, Named, And, Parameter, AfterParameter, Parameters, Head, BoundHead, FunctionHead, CheckedHead, ShownHead, Part, Start, InLet, AfterFlag, AfterTilde, Body, Label, ShowLabel, AfterShowLabel, AfterInclude, Done, Fault, Here, ItemState, begin_check, excess, unless, end_of, fresh, extended, group_clause, shown_clause, shown_also, labelled, at, start}
 use Rattle.cat_grammar.proofs.Runs.{◌>>=◌, run_over, run_over-append}
 use Rattle.cat_grammar.proofs.Groups.{length-push}
 use Rattle.cat_grammar.proofs.SoundItems.{sound}
@@ -41,7 +41,7 @@ ending (CheckedHead h) = tokens.As ∷ tokens.Name x ∷ tokens.End ∷ []
 ending (ShownHead s) = tokens.End ∷ []
 
 -- the brackets that are open are closed, and the text ends
-abbrev closers : Head → List Frame → List Token
+abbrev closers : Head → List TermFrame → List Token
 closers h [] = ending h
 closers h (InGroup ∷ fs) = tokens.Close ∷ closers h fs
 closers h (InSquare ∷ fs) = tokens.CloseSquare ∷ closers h fs
@@ -62,7 +62,7 @@ ending_closes (FunctionHead n ps) = tt
 ending_closes (CheckedHead h) = tt
 ending_closes (ShownHead s) = tt
 
-closers_close : (h : Head) (fs : List Frame) → Closes (closers h fs)
+closers_close : (h : Head) (fs : List TermFrame) → Closes (closers h fs)
 closers_close h [] = ending_closes h
 closers_close h (InGroup ∷ fs) = tt
 closers_close h (InSquare ∷ fs) = tt
@@ -86,15 +86,15 @@ end_after forms.Item n = ap ending_of (more_is_some n)
 
 module _ (most : Limits) (form : Form) where
   -- this state leads to the end of a text
-  pub record Finishes (s : State) : Type 0 where
+  pub record Finishes (s : ItemState) : Type 0 where
     pub rest : List Token
     pub items : List Clause
     pub by : run_over most form s rest ≡ Ok (record { items = items; part = Done })
 
-  abbrev done : List Clause → Result State Fault
+  abbrev done : List Clause → Result ItemState Fault
   done cs = Ok (record { items = cs; part = Done })
 
-  abbrev run_from : List Token → State → Result State Fault
+  abbrev run_from : List Token → ItemState → Result ItemState Fault
   run_from ts s = run_over most form s ts
 
   -- a text that ends after one more item
@@ -112,24 +112,24 @@ module _ (most : Limits) (form : Form) where
       ∙ ends_after cs c
 
   module _ (cs : List Clause) (h : Head) where
-    same_end : (fs gs : List Frame) (used : ℕ) (v w : Term) (ts : List Token) → Closes ts
+    same_end : (fs gs : List TermFrame) (used : ℕ) (v w : Term) (ts : List Token) → Closes ts
         → fold_to 0 gs v ≡ fold_to 0 fs w
         → run_over most form (body most form cs h gs used (Has v)) ts
         ≡ run_over most form (body most form cs h fs used (Has w)) ts
     same_end fs gs used v w (tokens.End ∷ ts) c e =
-        ap (λ (p : List Frame × Term). from most form cs h (ended tokens.End p) tokens.End ts) e
+        ap (λ (p : List TermFrame × Term). from most form cs h (ended tokens.End p) tokens.End ts) e
     same_end fs gs used v w (tokens.As ∷ ts) c e =
-        ap (λ (p : List Frame × Term). from most form cs h (ended tokens.As p) tokens.As ts) e
+        ap (λ (p : List TermFrame × Term). from most form cs h (ended tokens.As p) tokens.As ts) e
     same_end fs gs used v w (tokens.Close ∷ ts) c e =
-        ap (λ (p : List Frame × Term). from most form cs h (closed used p) tokens.Close ts) e
+        ap (λ (p : List TermFrame × Term). from most form cs h (closed used p) tokens.Close ts) e
     same_end fs gs used v w (tokens.CloseSquare ∷ ts) c e =
         ap
-        (λ (p : List Frame × Term).
+        (λ (p : List TermFrame × Term).
         from most form cs h (square_closed used p) tokens.CloseSquare ts) e
     same_end fs gs used v w [] c e = absurd c
     same_end fs gs used v w (_ ∷ ts) c e = absurd c
 
-    same_star : (fs : List Frame) (used : ℕ) (v : Term) (ts : List Token) → Closes ts
+    same_star : (fs : List TermFrame) (used : ℕ) (v : Term) (ts : List Token) → Closes ts
         → run_over most form (body most form cs h fs used (HasStar v)) ts
         ≡ run_over most form (body most form cs h fs used (Has (Mark postfix.Closure v))) ts
     same_star fs used v (tokens.End ∷ ts) c = refl
@@ -139,7 +139,7 @@ module _ (most : Limits) (form : Form) where
     same_star fs used v [] c = absurd c
     same_star fs used v (_ ∷ ts) c = absurd c
 
-    same_name : (fs : List Frame) (used : ℕ) (n : List ℕ) (ts : List Token) → Closes ts
+    same_name : (fs : List TermFrame) (used : ℕ) (n : List ℕ) (ts : List Token) → Closes ts
         → run_over most form (body most form cs h fs used (HasName n)) ts
         ≡ run_over most form (body most form cs h fs used (Has (Atom n))) ts
     same_name fs used n (tokens.End ∷ ts) c = refl
@@ -160,7 +160,7 @@ module _ (most : Limits) (form : Form) where
   head_finishes cs (ShownHead s) used v =
       let c = shown_clause (shown_also s v None) in (cs ++ c ∷ [], ends_after cs c)
 
-  has_finishes : (cs : List Clause) (h : Head) (fs : List Frame) (used : ℕ) (v : Term)
+  has_finishes : (cs : List Clause) (h : Head) (fs : List TermFrame) (used : ℕ) (v : Term)
       → (items : List Clause)
       × (run_over most form (body most form cs h fs used (Has v)) (closers h fs) ≡ done items)
   has_finishes cs h [] used v = head_finishes cs h used v
@@ -180,13 +180,13 @@ module _ (most : Limits) (form : Form) where
             (le-leb 0 (level op) (omega arith))) ∙ r.1,
       )
 
-  name_finishes : (cs : List Clause) (h : Head) (fs : List Frame) (used : ℕ) (n : List ℕ)
+  name_finishes : (cs : List Clause) (h : Head) (fs : List TermFrame) (used : ℕ) (n : List ℕ)
       → Finishes (body most form cs h fs used (HasName n))
   name_finishes cs h fs used n =
       let r = has_finishes cs h fs used (Atom n) in record { rest = closers h fs; items = r.0; by = same_name cs h fs used n (closers h fs) (closers_close h fs) ∙ r.1 }
 
-  body_finishes : (cs : List Clause) (h : Head) (fs : List Frame) (used : ℕ)
-      (expected : Expectation) → Finishes (body most form cs h fs used expected)
+  body_finishes : (cs : List Clause) (h : Head) (fs : List TermFrame) (used : ℕ)
+      (expected : TermExpectation) → Finishes (body most form cs h fs used expected)
   body_finishes cs h fs used Wants =
       let r = name_finishes cs h fs used x in
       record { rest = tokens.Name x ∷ r.rest; items = r.items; by = r.by }
@@ -304,7 +304,7 @@ module _ (most : Limits) (form : Form) where
   part_finishes cs Done e = record { rest = []; items = cs; by = refl }
 
   -- what the machine takes begins a text
-  pub begins : (ts : List Token) (s : State) → 0 < most.nesting → 0 < most.names
+  pub begins : (ts : List Token) (s : ItemState) → 0 < most.nesting → 0 < most.names
       → run_over most form (start form) ts ≡ Ok s → has_offset most s.part ≡ true
       → BeginsForm most form ts
   begins ts s some one e offset =
@@ -313,21 +313,21 @@ module _ (most : Limits) (form : Form) where
 
   -- what begins a text, the machine takes
   pub takes : (ts : List Token) → BeginsForm most form ts
-      → (s : State) × (run_over most form (start form) ts ≡ Ok s)
+      → (s : ItemState) × (run_over most form (start form) ts ≡ Ok s)
   takes ts b =
-      by_front (start form) ts b.rest (record { items = b.items; part = Done })
+      by_prefix (start form) ts b.rest (record { items = b.items; part = Done })
       (complete most form (ts ++ b.rest) b.items b.text)
     where
-      by_front : (s : State) (ts us : List Token) (end : State)
+      by_prefix : (s : ItemState) (ts us : List Token) (end : ItemState)
           → run_over most form s (ts ++ us) ≡ Ok end
-          → (s' : State) × (run_over most form s ts ≡ Ok s')
-      by_front s [] us end e = (s, refl)
-      by_front s (t ∷ ts) us end e =
-          by_step (items.step most form s t) e (λ x k. by_front x ts us end k)
+          → (s' : ItemState) × (run_over most form s ts ≡ Ok s')
+      by_prefix s [] us end e = (s, refl)
+      by_prefix s (t ∷ ts) us end e =
+          by_step (items.step most form s t) e (λ x k. by_prefix x ts us end k)
         where
-          by_step : (r : Result State Fault) → (r >>= λ x. run_over most form x (ts ++ us)) ≡ Ok end
-              → ((x : State) → run_over most form x (ts ++ us) ≡ Ok end
-              → (s' : State) × (run_over most form x ts ≡ Ok s'))
-              → (s' : State) × ((r >>= λ x. run_over most form x ts) ≡ Ok s')
+          by_step : (r : Result ItemState Fault) → (r >>= λ x. run_over most form x (ts ++ us)) ≡ Ok end
+              → ((x : ItemState) → run_over most form x (ts ++ us) ≡ Ok end
+              → (s' : ItemState) × (run_over most form x ts ≡ Ok s'))
+              → (s' : ItemState) × ((r >>= λ x. run_over most form x ts) ≡ Ok s')
           by_step (Ok x) k f = f x k
           by_step (Err d) k f = absurd cc

@@ -11,9 +11,9 @@ use Rattle.cat_tokens.specs.declared.token.Token.TheVariants as tokens
 use Rattle.text_values.specs.ModelValue.{Term, Clause, Atom, Mark}
 use Rattle.cat_grammar.specs.Grammar.{Limits, limits, Means, BeginsText, IsFormFault}
 use Rattle.cat_tokens.specs.Tokens.{TokenAt, tokens_of}
-use Rattle.cat_grammar.specs.Machine.{Frame, Expectation, Wants, HasBrace, HasName, Has, HasStar, HasStarTilde, fold_to, ended, expression_step}
+use Rattle.cat_grammar.specs.Machine.{TermFrame, TermExpectation, Wants, HasBrace, HasName, Has, HasStar, HasStarTilde, fold_to, ended, expression_step}
 use Rattle.cat_grammar.specs.ItemMachine as items
-use Rattle.cat_grammar.specs.ItemMachine.{Keyword, Named, And, Parameter, AfterParameter, Parameters, Head, Part, Start, InLet, AfterFlag, AfterTilde, Body, Label, ShowLabel, AfterShowLabel, AfterInclude, Done, Fault, Here, State, end_of, item_or_end, finished, shown_clause, at, added, goes_on, step_part, step, start}
+use Rattle.cat_grammar.specs.ItemMachine.{Keyword, Named, And, Parameter, AfterParameter, Parameters, Head, Part, Start, InLet, AfterFlag, AfterTilde, Body, Label, ShowLabel, AfterShowLabel, AfterInclude, Done, Fault, Here, ItemState, end_of, item_or_end, finished, shown_clause, at, added, goes_on, step_part, step, start}
 use Rattle.cat_grammar.specs.Running.{ItemsResult, run, items_of}
 use Rattle.cat_grammar.proofs.Runs.{◌>>=◌, run_over}
 use Rattle.cat_grammar.proofs.SoundItems.{sound}
@@ -22,7 +22,7 @@ use Rattle.cat_grammar.proofs.Faults.{Outcome, outcome, tokens_of-append}
 
 -- ---- the end of the text is taken last
 
-abbrev IsDone : Result State Fault → Type 0
+abbrev IsDone : Result ItemState Fault → Type 0
 IsDone (Ok s) = s.part ≡ Done
 IsDone (Err e) = Unit {0}
 
@@ -39,17 +39,17 @@ added_done : (most : Limits) (form : Form) (cs : List Clause) (x : Result Clause
 added_done most form cs (Ok c) = end_done form (cs ++ c ∷ []) (length cs + 1)
 added_done most form cs (Err e) = tt
 
-ended_done : (most : Limits) (form : Form) (cs : List Clause) (h : Head) (fs : List Frame)
+ended_done : (most : Limits) (form : Form) (cs : List Clause) (h : Head) (fs : List TermFrame)
     (v : Term) → IsDone (goes_on most form cs h tokens.End (ended tokens.End (fs, v)))
 ended_done most form cs h [] v = added_done most form cs (finished h v rules.Syntax)
 ended_done most form cs h (f ∷ fs) v = tt
 
-folded_done : (most : Limits) (form : Form) (cs : List Clause) (h : Head) (p : List Frame × Term)
+folded_done : (most : Limits) (form : Form) (cs : List Clause) (h : Head) (p : List TermFrame × Term)
     → IsDone (goes_on most form cs h tokens.End (ended tokens.End p))
 folded_done most form cs h (fs, v) = ended_done most form cs h fs v
 
-body_done : (most : Limits) (form : Form) (cs : List Clause) (h : Head) (fs : List Frame) (used : ℕ)
-    (expected : Expectation)
+body_done : (most : Limits) (form : Form) (cs : List Clause) (h : Head) (fs : List TermFrame) (used : ℕ)
+    (expected : TermExpectation)
     → IsDone (goes_on most form cs h tokens.End (expression_step most fs used expected tokens.End))
 body_done most form cs h fs used Wants = tt
 body_done most form cs h fs used HasBrace = tt
@@ -83,24 +83,24 @@ part_done most form cs (AfterShowLabel s) = added_done most form cs (Ok (shown_c
 part_done most form cs AfterInclude = tt
 part_done most form cs Done = tt
 
-abbrev part_in : Result State Fault → Part
+abbrev part_in : Result ItemState Fault → Part
 part_in (Ok y) = y.part
 part_in (Err k) = Done
 
-run_over_done : (most : Limits) (form : Form) (s : State) (ts : List Token) (s' : State)
+run_over_done : (most : Limits) (form : Form) (s : ItemState) (ts : List Token) (s' : ItemState)
     → run_over most form s (ts ++ tokens.End ∷ []) ≡ Ok s' → s'.part ≡ Done
 run_over_done most form s [] s' e =
     by_end (step most form s tokens.End) (part_done most form s.items s.part) e
   where
-    by_end : (r : Result State Fault) → IsDone r → (r >>= λ x. Ok x) ≡ Ok s' → s'.part ≡ Done
+    by_end : (r : Result ItemState Fault) → IsDone r → (r >>= λ x. Ok x) ≡ Ok s' → s'.part ≡ Done
     by_end (Ok x) d h = sym (ap part_in h) ∙ d
     by_end (Err k) d h = absurd cc
 run_over_done most form s (t ∷ ts) s' e =
     by_step (step most form s t) e (λ x k. run_over_done most form x ts s' k)
   where
-    by_step : (r : Result State Fault)
+    by_step : (r : Result ItemState Fault)
         → (r >>= λ x. run_over most form x (ts ++ tokens.End ∷ [])) ≡ Ok s'
-        → ((x : State) → run_over most form x (ts ++ tokens.End ∷ []) ≡ Ok s' → s'.part ≡ Done)
+        → ((x : ItemState) → run_over most form x (ts ++ tokens.End ∷ []) ≡ Ok s' → s'.part ≡ Done)
         → s'.part ≡ Done
     by_step (Ok x) k f = f x k
     by_step (Err d) k f = absurd cc
@@ -164,7 +164,7 @@ module _ (form : Form) (ps : List TokenAt) where
             sound limits form (tokens_of ps) cs (omega arith) (omega arith) whole
         by_run (Err d) q h = absurd (not_both d cs h)
 
-  abbrev items_in : Result State Fault → List Clause
+  abbrev items_in : Result ItemState Fault → List Clause
   items_in (Ok s) = s.items
   items_in (Err e) = []
 

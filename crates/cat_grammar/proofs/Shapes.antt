@@ -14,10 +14,10 @@ use Rattle.cat_tokens.specs.declared.token.Token.{Token}
 use Rattle.cat_tokens.specs.declared.token.Token.TheVariants as tokens
 use Rattle.text_values.specs.ModelValue.{Term, Clause, Atom, AllEvents, EmptyRelation, Mark, Checking, Including}
 use Rattle.cat_grammar.specs.Grammar.{Limits, IsSeparator, broken_rule, is_include, is_name, is_rec_or_and, is_tilde, is_check, plain_rule, has_no_effect}
-use Rattle.cat_grammar.specs.Machine.{Frame, InGroup, InSquare, InPrefix, LeftOf, InArguments, Expectation, Wants, HasBrace, HasName, Has, HasStar, HasStarTilde, StepResult, Goes, Ends, EndsTilde, Refuses, open_count, fold_to, is_outermost, operand, after_brace, infix_at, ended, closed, square_closed, comma_read, after, after_name, star_tilde, star_then, after_star, after_star_tilde, expression_step}
+use Rattle.cat_grammar.specs.Machine.{TermFrame, InGroup, InSquare, InPrefix, LeftOf, InArguments, TermExpectation, Wants, HasBrace, HasName, Has, HasStar, HasStarTilde, TermStep, Goes, Ends, EndsTilde, Refuses, open_count, fold_to, is_outermost, operand, after_brace, infix_at, ended, closed, square_closed, comma_read, after, after_name, star_tilde, star_then, after_star, after_star_tilde, expression_step}
 use Rattle.cat_tokens.specs.Tokens.{rule_of, begins_operand, infix_of, postfix_of}
 use Rattle.cat_grammar.specs.ItemMachine as items
-use Rattle.cat_grammar.specs.ItemMachine.{Group, Keyword, Named, And, Parameter, AfterParameter, Parameters, Head, BoundHead, FunctionHead, CheckedHead, ShownHead, Part, Start, InLet, AfterFlag, AfterTilde, Body, Label, ShowLabel, AfterShowLabel, AfterInclude, Done, Fault, Here, Before, State, begin_body, begin_check, begin_show, begin_item, excess, unless, unless_before, end_of, item_or_end, after_title, after_tilde, after_flag, fresh, extended, after_keyword, bound_name, parameter_read, after_parameter, after_let_name, after_bound, after_parameters, after_let, checked, shown_also, shown_clause, finished, at, added, item_ended, and_read, label_start, shown_on, after_body, labelled, after_as, after_show_as, after_show_label, after_include, goes_on, step_part, step}
+use Rattle.cat_grammar.specs.ItemMachine.{Group, Keyword, Named, And, Parameter, AfterParameter, Parameters, Head, BoundHead, FunctionHead, CheckedHead, ShownHead, Part, Start, InLet, AfterFlag, AfterTilde, Body, Label, ShowLabel, AfterShowLabel, AfterInclude, Done, Fault, Here, Before, ItemState, begin_body, begin_check, begin_show, begin_item, excess, unless, unless_before, end_of, item_or_end, after_title, after_tilde, after_flag, fresh, extended, after_keyword, bound_name, parameter_read, after_parameter, after_let_name, after_bound, after_parameters, after_let, checked, shown_also, shown_clause, finished, at, added, item_ended, and_read, label_start, shown_on, after_body, labelled, after_as, after_show_as, after_show_label, after_include, goes_on, step_part, step}
 use Rattle.cat_grammar.proofs.Finishes.{has_offset}
 
 -- ---- what the last two tokens say of the state
@@ -32,7 +32,7 @@ Settled p = Quiet p × (is_rec_or_and p.1 ≡ false)
 abbrev pub Calm : Token × Token → Type 0
 Calm p = Settled p × (is_tilde p.1 ≡ false)
 
-abbrev KnowsExpectation : Token × Token → Expectation → Type 0
+abbrev KnowsExpectation : Token × Token → TermExpectation → Type 0
 KnowsExpectation p Wants = Settled p
 KnowsExpectation p HasBrace = Calm p
 KnowsExpectation p (HasName n) = Calm p
@@ -120,16 +120,16 @@ pub record IsGated (t : Token) : Type 0 where
   pub own : broken_rule t ≡ None
   pub no_separator : IsSeparator t → ⊥
 
-abbrev IsPlainResult : Token × Token → Token → Result State Fault → Type 0
+abbrev IsPlainResult : Token × Token → Token → Result ItemState Fault → Type 0
 IsPlainResult p t (Ok s) = KnowsPart (p.1, t) s.part
 IsPlainResult p t (Err (Here k)) = RuleIs p t k
 IsPlainResult p t (Err (Before k)) = ⊥
 
 -- what a token does is the same under all limits, or a limit decides whether it goes on
-pub data StepShape (p : Token × Token) (t : Token) (f : Limits → Result State Fault) : Type 0 where
-  Always : (r : Result State Fault) → ((b : Limits) → f b ≡ r) → IsPlainResult p t r
+pub data StepShape (p : Token × Token) (t : Token) (f : Limits → Result ItemState Fault) : Type 0 where
+  Always : (r : Result ItemState Fault) → ((b : Limits) → f b ≡ r) → IsPlainResult p t r
       → StepShape p t f
-  Where : (g : Gate) (s : State)
+  Where : (g : Gate) (s : ItemState)
       → ((b : Limits)
       → f b
       ≡ (if passes g b then Ok s else Err (gate_fault g (is_check t && is_tilde p.1))))
@@ -138,21 +138,21 @@ pub data StepShape (p : Token × Token) (t : Token) (f : Limits → Result State
 
 -- ---- within an expression
 
-abbrev IsPlain : Token × Token → Token → StepResult → Type 0
+abbrev IsPlain : Token × Token → Token → TermStep → Type 0
 IsPlain p t (Goes fs used expected) = KnowsExpectation (p.1, t) expected
 IsPlain p t (Ends v) = Calm p
 IsPlain p t (EndsTilde v) = p.1 ≡ tokens.Tilde
 IsPlain p t (Refuses k) = k ≡ rule_of t
 
-data ResultShape (p : Token × Token) (t : Token) (f : Limits → StepResult) : Type 0 where
-  Plain : (x : StepResult) → ((b : Limits) → f b ≡ x) → IsPlain p t x → ResultShape p t f
-  Gated : (g : Gate) (fs : List Frame) (used : ℕ) (expected : Expectation)
+data ResultShape (p : Token × Token) (t : Token) (f : Limits → TermStep) : Type 0 where
+  Plain : (x : TermStep) → ((b : Limits) → f b ≡ x) → IsPlain p t x → ResultShape p t f
+  Gated : (g : Gate) (fs : List TermFrame) (used : ℕ) (expected : TermExpectation)
       → gate_fault g (is_check t && is_tilde p.1) ≡ Here rules.TooDeep
       → ((b : Limits) → f b ≡ (if passes g b then Goes fs used expected else Refuses rules.TooDeep))
       → IsGated t → KnowsExpectation (p.1, t) expected → ResultShape p t f
 
 module _ (p : Token × Token) where
-  operand_shape : (fs : List Frame) (used : ℕ) (t : Token) → Settled p
+  operand_shape : (fs : List TermFrame) (used : ℕ) (t : Token) → Settled p
       → ResultShape p t (λ b. operand b fs used t)
   operand_shape fs used (tokens.Name n) k =
       Plain (Goes fs used (HasName n)) (λ b. refl) (calm_name p n k.1)
@@ -173,13 +173,13 @@ module _ (p : Token × Token) where
       (record { own = refl; no_separator = λ x. absurd x }) ((refl, refl), refl)
   operand_shape fs used t k = Plain (Refuses (rule_of t)) (λ b. refl) refl
 
-  brace_shape : (fs : List Frame) (used : ℕ) (t : Token)
+  brace_shape : (fs : List TermFrame) (used : ℕ) (t : Token)
       → ResultShape p t (λ b. after_brace fs used t)
   brace_shape fs used tokens.CloseBrace =
       Plain (after_brace fs used tokens.CloseBrace) (λ b. refl) (((refl, refl), refl), refl)
   brace_shape fs used t = Plain (Refuses (rule_of t)) (λ b. refl) refl
 
-  closed_plain : (used : ℕ) (fs : List Frame) (v : Term) → Calm p
+  closed_plain : (used : ℕ) (fs : List TermFrame) (v : Term) → Calm p
       → IsPlain p tokens.Close (closed used (fs, v))
   closed_plain used [] v k = k
   closed_plain used (InGroup ∷ fs) v k = (((refl, refl), refl), refl)
@@ -188,7 +188,7 @@ module _ (p : Token × Token) where
   closed_plain used (InPrefix ∷ fs) v k = refl
   closed_plain used (LeftOf op a ∷ fs) v k = refl
 
-  square_plain : (used : ℕ) (fs : List Frame) (v : Term) → Calm p
+  square_plain : (used : ℕ) (fs : List TermFrame) (v : Term) → Calm p
       → IsPlain p tokens.CloseSquare (square_closed used (fs, v))
   square_plain used [] v k = k
   square_plain used (InSquare ∷ fs) v k = (((refl, refl), refl), refl)
@@ -197,7 +197,7 @@ module _ (p : Token × Token) where
   square_plain used (InPrefix ∷ fs) v k = refl
   square_plain used (LeftOf op a ∷ fs) v k = refl
 
-  comma_plain : (used : ℕ) (fs : List Frame) (v : Term) → Calm p
+  comma_plain : (used : ℕ) (fs : List TermFrame) (v : Term) → Calm p
       → IsPlain p tokens.Comma (comma_read used (fs, v))
   comma_plain used [] v k = k
   comma_plain used (InArguments n args ∷ fs) v k = ((refl, refl), refl)
@@ -206,16 +206,16 @@ module _ (p : Token × Token) where
   comma_plain used (InPrefix ∷ fs) v k = refl
   comma_plain used (LeftOf op a ∷ fs) v k = refl
 
-  ended_plain : (t : Token) (fs : List Frame) (v : Term) → Calm p → IsPlain p t (ended t (fs, v))
+  ended_plain : (t : Token) (fs : List TermFrame) (v : Term) → Calm p → IsPlain p t (ended t (fs, v))
   ended_plain t [] v k = k
   ended_plain t (f ∷ fs) v k = refl
 
-  ended_shape : (fs : List Frame) (v : Term) (t : Token) → Calm p
+  ended_shape : (fs : List TermFrame) (v : Term) (t : Token) → Calm p
       → ResultShape p t (λ b. ended t (fold_to 0 fs v))
   ended_shape fs v t k =
       let q = fold_to 0 fs v in Plain (ended t q) (λ b. refl) (ended_plain t q.0 q.1 k)
 
-  after_shape : (fs : List Frame) (used : ℕ) (v : Term) (t : Token) → Calm p
+  after_shape : (fs : List TermFrame) (used : ℕ) (v : Term) (t : Token) → Calm p
       → ResultShape p t (λ b. after b fs used v t)
   after_shape fs used v (tokens.Sign s) k =
       Gated (Operate used) (infix_at (infix_of s) fs v) (used + 1) Wants refl (λ b. refl)
@@ -235,36 +235,36 @@ module _ (p : Token × Token) where
       let q = fold_to 0 fs v in Plain (comma_read used q) (λ b. refl) (comma_plain used q.0 q.1 k)
   after_shape fs used v t k = ended_shape fs v t k
 
-  name_shape : (fs : List Frame) (used : ℕ) (n : List ℕ) (t : Token) → Calm p
+  name_shape : (fs : List TermFrame) (used : ℕ) (n : List ℕ) (t : Token) → Calm p
       → ResultShape p t (λ b. after_name b fs used n t)
   name_shape fs used n tokens.Open k =
       Gated (Nest (open_count fs)) (InArguments n [] ∷ fs) used Wants refl (λ b. refl)
       (record { own = refl; no_separator = λ x. absurd x }) ((refl, refl), refl)
   name_shape fs used n t k = after_shape fs used (Atom n) t k
 
-  star_tilde_shape : (fs : List Frame) (used : ℕ) (v : Term) (x : Bool) → Calm p
+  star_tilde_shape : (fs : List TermFrame) (used : ℕ) (v : Term) (x : Bool) → Calm p
       → ResultShape p tokens.Tilde (λ b. star_tilde b fs used v x)
   star_tilde_shape fs used v true k = Plain (Goes fs used (HasStarTilde v)) (λ b. refl) refl
   star_tilde_shape fs used v false k = operand_shape (infix_at Product fs v) used tokens.Tilde k.0
 
-  star_then_shape : (fs : List Frame) (used : ℕ) (v : Term) (t : Token) (x : Bool) → Calm p
+  star_then_shape : (fs : List TermFrame) (used : ℕ) (v : Term) (t : Token) (x : Bool) → Calm p
       → ResultShape p t (λ b. star_then b fs used v t x)
   star_then_shape fs used v t true k = operand_shape (infix_at Product fs v) used t k.0
   star_then_shape fs used v t false k = after_shape fs used (Mark postfix.Closure v) t k
 
-  star_shape : (fs : List Frame) (used : ℕ) (v : Term) (t : Token) → Calm p
+  star_shape : (fs : List TermFrame) (used : ℕ) (v : Term) (t : Token) → Calm p
       → ResultShape p t (λ b. after_star b fs used v t)
   star_shape fs used v tokens.Tilde k = star_tilde_shape fs used v (is_outermost fs) k
   star_shape fs used v t k = star_then_shape fs used v t (begins_operand t) k
 
-  tilde_shape : (fs : List Frame) (used : ℕ) (v : Term) (t : Token) → p.1 ≡ tokens.Tilde
+  tilde_shape : (fs : List TermFrame) (used : ℕ) (v : Term) (t : Token) → p.1 ≡ tokens.Tilde
       → ResultShape p t (λ b. after_star_tilde b fs used v t)
   tilde_shape fs used v (tokens.Check w) k =
       Plain (EndsTilde ((fold_to 0 fs (Mark postfix.Closure v)).1)) (λ b. refl) k
   tilde_shape fs used v t k =
       operand_shape (InPrefix ∷ infix_at Product fs v) used t (tilde_settled p k)
 
-  expression_shape : (fs : List Frame) (used : ℕ) (expected : Expectation) (t : Token)
+  expression_shape : (fs : List TermFrame) (used : ℕ) (expected : TermExpectation) (t : Token)
       → KnowsExpectation p expected → ResultShape p t (λ b. expression_step b fs used expected t)
   expression_shape fs used Wants t k = operand_shape fs used t k
   expression_shape fs used HasBrace t k = brace_shape fs used t
@@ -276,7 +276,7 @@ module _ (p : Token × Token) where
 -- ---- items
 
 module _ (form : Form) (p : Token × Token) where
-  abbrev unless_of : List Clause → ℕ → Part → Form → Limits → Result State Fault
+  abbrev unless_of : List Clause → ℕ → Part → Form → Limits → Result ItemState Fault
   unless_of cs n x f b = at cs (unless (excess b f n) (Ok x))
 
   -- the first token of an item
@@ -520,10 +520,10 @@ module _ (form : Form) (p : Token × Token) where
   ended_item_shape cs h v t k =
       added_shape cs t (finished h v (rule_of t)) (is_finished h v (rule_of t)) k
 
-  abbrev next_check : List Clause → Clause → CheckWord → State
+  abbrev next_check : List Clause → Clause → CheckWord → ItemState
   next_check cs c w = record { items = cs ++ c ∷ []; part = begin_check false true w }
 
-  abbrev check_made : List Clause → Clause → CheckWord → Option CatRule → Result State Fault
+  abbrev check_made : List Clause → Clause → CheckWord → Option CatRule → Result ItemState Fault
   check_made cs c w o = at (cs ++ c ∷ []) (unless_before o (begin_check false true w))
 
   -- the tilde of the next item, and this check word
@@ -607,7 +607,7 @@ module _ (form : Form) (p : Token × Token) where
       tilde_added_shape cs w (finished h v rules.Syntax) (is_finished h v rules.Syntax) k
   tilde_ended_shape cs h v t k = err_shape t (plainly p t (tilde_settled p k).0)
 
-  result_shape : (cs : List Clause) (h : Head) (t : Token) (x : StepResult) → Quiet p
+  result_shape : (cs : List Clause) (h : Head) (t : Token) (x : TermStep) → Quiet p
       → IsPlain p t x → StepShape p t (λ b. goes_on b form cs h t x)
   result_shape cs h t (Goes fs used expected) q k = ok_shape cs t (Body h fs used expected) k
   result_shape cs h t (Ends v) q k = after_body_shape cs h v t k
@@ -616,12 +616,12 @@ module _ (form : Form) (p : Token × Token) where
       Always (Err (Here r)) (λ b. refl) (subst (RuleIs p t) (sym k) (plainly p t q))
 
   -- the same step
-  same_shape : (t : Token) (f g : Limits → Result State Fault) → ((b : Limits) → f b ≡ g b)
+  same_shape : (t : Token) (f g : Limits → Result ItemState Fault) → ((b : Limits) → f b ≡ g b)
       → StepShape p t g → StepShape p t f
   same_shape t f g e (Always r q k) = Always r (λ b. e b ∙ q b) k
   same_shape t f g e (Where gate s q own k offset) = Where gate s (λ b. e b ∙ q b) own k offset
 
-  body_shape : (cs : List Clause) (h : Head) (t : Token) (f : Limits → StepResult) → Quiet p
+  body_shape : (cs : List Clause) (h : Head) (t : Token) (f : Limits → TermStep) → Quiet p
       → ResultShape p t f → StepShape p t (λ b. goes_on b form cs h t (f b))
   body_shape cs h t f q (Plain x e k) =
       same_shape t (λ b. goes_on b form cs h t (f b)) (λ b. goes_on b form cs h t x)
@@ -643,7 +643,7 @@ module _ (form : Form) (p : Token × Token) where
       choose b true = refl
       choose b false = refl
 
-  expectation_quiet : (expected : Expectation) → KnowsExpectation p expected → Quiet p
+  expectation_quiet : (expected : TermExpectation) → KnowsExpectation p expected → Quiet p
   expectation_quiet Wants k = k.0
   expectation_quiet HasBrace k = k.0.0
   expectation_quiet (HasName n) k = k.0.0
@@ -708,6 +708,6 @@ module _ (form : Form) (p : Token × Token) where
   part_shape cs AfterInclude t k = include_shape cs t k
   part_shape cs Done t k = err_shape t (plainly p t k.0.0)
 
-  pub step_shape : (s : State) (t : Token) → KnowsPart p s.part
+  pub step_shape : (s : ItemState) (t : Token) → KnowsPart p s.part
       → StepShape p t (λ b. step b form s t)
   step_shape s t k = part_shape s.items s.part t k

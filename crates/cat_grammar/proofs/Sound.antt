@@ -16,13 +16,13 @@ use Rattle.text_values.specs.declared.model.Postfix.{Postfix}
 use Rattle.text_values.specs.declared.model.Postfix.TheVariants as postfix
 use Rattle.text_values.specs.ModelValue.{Term, Atom, EmptySet, Join, Mark, Not, Apply}
 use Rattle.cat_grammar.specs.Grammar.{Tree, Word, Underscore, Zero, Braces, Post, Group, Square, Application, infix_token, postfix_token, spelled, meaning, level, left_level, tightness, IsGrouped, depth, operators, Limits, IsExpressionTree}
-use Rattle.cat_grammar.specs.Machine.{Frame, InGroup, InSquare, InPrefix, LeftOf, InArguments, Expectation, Wants, HasBrace, HasName, Has, HasStar, HasStarTilde, StepResult, Goes, Ends, EndsTilde, Refuses, open_count, fold_to, is_outermost, opened, operand, after_brace, left_frames, infix_at, counted, ended, closed, square_closed, comma_read, after, after_name, star_tilde, star_then, after_star, after_star_tilde, expression_step}
+use Rattle.cat_grammar.specs.Machine.{TermFrame, InGroup, InSquare, InPrefix, LeftOf, InArguments, TermExpectation, Wants, HasBrace, HasName, Has, HasStar, HasStarTilde, TermStep, Goes, Ends, EndsTilde, Refuses, open_count, fold_to, is_outermost, opened, operand, after_brace, left_frames, infix_at, counted, ended, closed, square_closed, comma_read, after, after_name, star_tilde, star_then, after_star, after_star_tilde, expression_step}
 use Rattle.cat_tokens.specs.Tokens.{begins_operand, infix_of, postfix_of}
 use Rattle.cat_grammar.proofs.Branches.{Branch, BGroup, BSquare, BPrefix, BLeft, BArguments, frame, frames, before, need, opens, count, Fine, Stops, open_count-frames, right_level-le, left_level-le, need-le, opens-le, meets, Folded, folded, IsOutermost, outermost, arguments_of, spelled-arguments_of, meanings-arguments_of, grouped-arguments_of, depths-arguments_of, operators-arguments_of, before_arguments-push, values-push, sum_operators-push, arguments_fine-push}
 use Rattle.cat_grammar.proofs.Complete.{level-le}
 
 -- an operand is wanted here
-pub record Open (most : Limits) (whole rest : List Token) (fs : List Frame) (used : ℕ)
+pub record Open (most : Limits) (whole rest : List Token) (fs : List TermFrame) (used : ℕ)
     : Type 0 where
   pub bs : List Branch
   pub is : frames bs ≡ fs
@@ -32,7 +32,7 @@ pub record Open (most : Limits) (whole rest : List Token) (fs : List Frame) (use
   pub whole_is : whole ≡ before bs rest
 
 -- an operand was read
-pub record Full (most : Limits) (whole rest : List Token) (fs : List Frame) (used : ℕ) (v : Term)
+pub record Full (most : Limits) (whole rest : List Token) (fs : List TermFrame) (used : ℕ) (v : Term)
     : Type 0 where
   pub bs : List Branch
   pub t : Tree
@@ -47,14 +47,14 @@ pub record Full (most : Limits) (whole rest : List Token) (fs : List Frame) (use
   pub whole_is : whole ≡ before bs (spelled t rest)
 
 -- an operand and a star were read
-pub record Starred (most : Limits) (whole rest : List Token) (fs : List Frame) (used : ℕ) (v : Term)
+pub record Starred (most : Limits) (whole rest : List Token) (fs : List TermFrame) (used : ℕ) (v : Term)
     : Type 0 where
   pub less : ℕ
   pub one_more : less + 1 ≡ used
   pub short : used ≤ most.operators
   pub full : Full most whole (tokens.Star ∷ rest) fs less v
 
-abbrev pub Stands : Limits → List Token → List Token → List Frame → ℕ → Expectation → Type 0
+abbrev pub Stands : Limits → List Token → List Token → List TermFrame → ℕ → TermExpectation → Type 0
 Stands most whole rest fs used Wants = Open most whole rest fs used
 Stands most whole rest fs used HasBrace = Open most whole (tokens.OpenBrace ∷ rest) fs used
 Stands most whole rest fs used (HasName n) = Open most whole (tokens.Name n ∷ rest) fs used
@@ -70,7 +70,7 @@ pub record Ended (most : Limits) (whole rest : List Token) (v : Term) : Type 0 w
   pub means : meaning t ≡ v
   pub whole_is : whole ≡ spelled t rest
 
-abbrev pub ExpressionStands : Limits → List Token → Token → List Token → StepResult → Type 0
+abbrev pub ExpressionStands : Limits → List Token → Token → List Token → TermStep → Type 0
 ExpressionStands most whole t rest (Goes fs used expected) = Stands most whole rest fs used expected
 ExpressionStands most whole t rest (Ends v) = Ended most whole (t ∷ rest) v
 ExpressionStands most whole t rest (EndsTilde v) = Ended most whole (tokens.Tilde ∷ t ∷ rest) v
@@ -99,7 +99,7 @@ new_need op (BLeft o a ∷ bs) h = meets op o h
 le_zero : (n : ℕ) → nat_le 0 n ≡ true
 le_zero n = grind (arith, nat_tests)
 
-all_folded : (fs : List Frame) (v : Term) → IsOutermost fs → (fold_to 0 fs v).0 ≡ []
+all_folded : (fs : List TermFrame) (v : Term) → IsOutermost fs → (fold_to 0 fs v).0 ≡ []
 all_folded [] v h = refl
 all_folded (InGroup ∷ fs) v h = absurd h
 all_folded (InSquare ∷ fs) v h = absurd h
@@ -109,7 +109,7 @@ all_folded (LeftOf op a ∷ fs) v h =
     subst (λ (x : Bool). (if x then fold_to 0 fs (Join op a v) else (LeftOf op a ∷ fs, v)).0 ≡ [])
     (sym (le_zero (level op))) (all_folded fs (Join op a v) h)
 
-fold_outermost : (l : ℕ) (fs : List Frame) (v : Term) → IsOutermost fs
+fold_outermost : (l : ℕ) (fs : List TermFrame) (v : Term) → IsOutermost fs
     → IsOutermost (fold_to l fs v).0
 fold_outermost l [] v h = tt
 fold_outermost l (InGroup ∷ fs) v h = h
@@ -124,7 +124,7 @@ fold_outermost l (LeftOf op a ∷ fs) v h =
     choose true k = k
     choose false k = h
 
-infix_outermost : (op : Infix) (fs : List Frame) (v : Term) → IsOutermost fs
+infix_outermost : (op : Infix) (fs : List TermFrame) (v : Term) → IsOutermost fs
     → IsOutermost (infix_at op fs v)
 infix_outermost op fs v h = fold_outermost (left_level op) fs v h
 
@@ -140,7 +140,7 @@ none_open most (BLeft op a ∷ bs) f o n =
     let l = level-le op in none_open most bs f.4 o (omega (arith, f.2))
 
 module _ (most : Limits) (whole : List Token) (some : 0 < most.nesting) where
-  opened_stands : (t : Token) (rest : List Token) (used : ℕ) (bs : List Branch) (f : Frame)
+  opened_stands : (t : Token) (rest : List Token) (used : ℕ) (bs : List Branch) (f : TermFrame)
       (b : Branch) → frame b ≡ f → Fine most bs → count (b ∷ bs) ≡ used → used ≤ most.operators
       → (opens bs < most.nesting → Fine most (b ∷ bs)) → whole ≡ before (b ∷ bs) rest
       → ExpressionStands most whole t rest (opened most (frames bs) used f)
@@ -153,7 +153,7 @@ module _ (most : Limits) (whole : List Token) (some : 0 < most.nesting) where
       choose true h =
           let lt = ltb-true _ _ h in
           let few : opens bs < most.nesting = rw (open_count-frames bs) at lt in
-          record { bs = b ∷ bs; is = ap (λ (g : Frame). g ∷ frames bs) e; fine = grown few; counted = counted; short = short; whole_is = is }
+          record { bs = b ∷ bs; is = ap (λ (g : TermFrame). g ∷ frames bs) e; fine = grown few; counted = counted; short = short; whole_is = is }
       choose false h = tt
 
   -- an operand of one piece
@@ -187,39 +187,39 @@ module _ (most : Limits) (whole : List Token) (some : 0 < most.nesting) where
       (λ h. (h, fine)) is
   operand_at _ rest used bs fine counted short is = tt
 
-  after_brace_stands : (t : Token) (rest : List Token) (fs : List Frame) (used : ℕ)
+  after_brace_stands : (t : Token) (rest : List Token) (fs : List TermFrame) (used : ℕ)
       → Open most whole (tokens.OpenBrace ∷ t ∷ rest) fs used
       → ExpressionStands most whole t rest (after_brace fs used t)
   after_brace_stands tokens.CloseBrace rest fs used o =
-      subst (λ (g : List Frame). Full most whole rest g used EmptySet) o.is (atom_full Braces rest
+      subst (λ (g : List TermFrame). Full most whole rest g used EmptySet) o.is (atom_full Braces rest
       used o.bs tt (omega arith) refl refl o.fine o.counted o.short o.whole_is)
   after_brace_stands _ rest fs used o = tt
 
   -- a name that is no function's
-  named_full : (n : List ℕ) (rest : List Token) (fs : List Frame) (used : ℕ)
+  named_full : (n : List ℕ) (rest : List Token) (fs : List TermFrame) (used : ℕ)
       → Open most whole (tokens.Name n ∷ rest) fs used → Full most whole rest fs used (Atom n)
   named_full n rest fs used o =
-      subst (λ (g : List Frame). Full most whole rest g used (Atom n)) o.is (atom_full (Word n) rest
+      subst (λ (g : List TermFrame). Full most whole rest g used (Atom n)) o.is (atom_full (Word n) rest
       used o.bs tt (omega arith) refl refl o.fine o.counted o.short o.whole_is)
 
-  pub operand_stands : (t : Token) (rest : List Token) (fs : List Frame) (used : ℕ)
+  pub operand_stands : (t : Token) (rest : List Token) (fs : List TermFrame) (used : ℕ)
       → Open most whole (t ∷ rest) fs used
       → ExpressionStands most whole t rest (operand most fs used t)
   operand_stands t rest fs used o =
-      subst (λ (g : List Frame). ExpressionStands most whole t rest (operand most g used t)) o.is
+      subst (λ (g : List TermFrame). ExpressionStands most whole t rest (operand most g used t)) o.is
       (operand_at t rest used o.bs o.fine o.counted o.short o.whole_is)
 
   -- what is open once everything that binds this tightly is joined
-  folded_full : (l : ℕ) (rest : List Token) (fs : List Frame) (used : ℕ) (v : Term) → l ≤ 6
+  folded_full : (l : ℕ) (rest : List Token) (fs : List TermFrame) (used : ℕ) (v : Term) → l ≤ 6
       → Full most whole rest fs used v → Folded most l whole rest (fold_to l fs v) used
   folded_full l rest fs used v low f =
       let at_tree = folded most l whole rest used f.bs f.t low (let h = f.tight in omega arith) f.fine f.grouped (let h = f.tight in let n = need-le f.bs in omega arith) f.shallow f.counted f.whole_is in
-      subst (λ (g : List Frame). Folded most l whole rest (fold_to l g v) used) f.is
+      subst (λ (g : List TermFrame). Folded most l whole rest (fold_to l g v) used) f.is
       (subst (λ (w : Term). Folded most l whole rest (fold_to l (frames f.bs) w) used) f.means
       at_tree)
 
   -- an infix operator was read
-  infix_open : (op : Infix) (rest : List Token) (fs : List Frame) (used : ℕ) (v : Term)
+  infix_open : (op : Infix) (rest : List Token) (fs : List TermFrame) (used : ℕ) (v : Term)
       → used + 1 ≤ most.operators → Full most whole (infix_token op ∷ rest) fs used v
       → Open most whole rest (infix_at op fs v) (used + 1)
   infix_open op rest fs used v short f =
@@ -233,11 +233,11 @@ module _ (most : Limits) (whole : List Token) (some : 0 < most.nesting) where
   ended_is rest used v t grouped shallow counted short means is =
       record { t = t; is = record { grouped = grouped; shallow = shallow; short = omega arith }; means = means; whole_is = is }
 
-  ended_at : (t : Token) (rest : List Token) (used : ℕ) (p : List Frame × Term)
+  ended_at : (t : Token) (rest : List Token) (used : ℕ) (p : List TermFrame × Term)
       → used ≤ most.operators → Folded most 0 whole (t ∷ rest) p used
       → ExpressionStands most whole t rest (ended t p)
   ended_at t rest used p short d =
-      subst (λ (q : List Frame × Term). ExpressionStands most whole t rest (ended t q)) (sym d.is)
+      subst (λ (q : List TermFrame × Term). ExpressionStands most whole t rest (ended t q)) (sym d.is)
       (by_branches d.bs d.shallow d.counted d.whole_is)
     where
       by_branches : (bs : List Branch) → opens bs + depth d.t ≤ most.nesting
@@ -248,12 +248,12 @@ module _ (most : Limits) (whole : List Token) (some : 0 < most.nesting) where
           refl is
       by_branches (b ∷ bs) shallow counted is = tt
 
-  closed_at : (rest : List Token) (used : ℕ) (p : List Frame × Term) → used ≤ most.operators
+  closed_at : (rest : List Token) (used : ℕ) (p : List TermFrame × Term) → used ≤ most.operators
       → Folded most 0 whole (tokens.Close ∷ rest) p used
       → ExpressionStands most whole tokens.Close rest (closed used p)
   closed_at rest used p short d =
       subst
-      (λ (q : List Frame × Term). ExpressionStands most whole tokens.Close rest (closed used q))
+      (λ (q : List TermFrame × Term). ExpressionStands most whole tokens.Close rest (closed used q))
       (sym d.is) (by_branches d.bs d.fine d.shallow d.counted d.whole_is)
     where
       by_branches : (bs : List Branch) → Fine most bs → opens bs + depth d.t ≤ most.nesting
@@ -287,12 +287,12 @@ module _ (most : Limits) (whole : List Token) (some : 0 < most.nesting) where
       by_branches (BPrefix ∷ bs) fine shallow counted is = tt
       by_branches (BLeft op a ∷ bs) fine shallow counted is = tt
 
-  square_closed_at : (rest : List Token) (used : ℕ) (p : List Frame × Term) → used ≤ most.operators
+  square_closed_at : (rest : List Token) (used : ℕ) (p : List TermFrame × Term) → used ≤ most.operators
       → Folded most 0 whole (tokens.CloseSquare ∷ rest) p used
       → ExpressionStands most whole tokens.CloseSquare rest (square_closed used p)
   square_closed_at rest used p short d =
       subst
-      (λ (q : List Frame × Term).
+      (λ (q : List TermFrame × Term).
       ExpressionStands most whole tokens.CloseSquare rest (square_closed used q))
       (sym d.is)
       (by_branches d.bs d.fine d.shallow d.counted d.whole_is)
@@ -312,12 +312,12 @@ module _ (most : Limits) (whole : List Token) (some : 0 < most.nesting) where
       by_branches (BPrefix ∷ bs) fine shallow counted is = tt
       by_branches (BLeft op a ∷ bs) fine shallow counted is = tt
 
-  comma_at : (rest : List Token) (used : ℕ) (p : List Frame × Term) → used ≤ most.operators
+  comma_at : (rest : List Token) (used : ℕ) (p : List TermFrame × Term) → used ≤ most.operators
       → Folded most 0 whole (tokens.Comma ∷ rest) p used
       → ExpressionStands most whole tokens.Comma rest (comma_read used p)
   comma_at rest used p short d =
       subst
-      (λ (q : List Frame × Term).
+      (λ (q : List TermFrame × Term).
       ExpressionStands most whole tokens.Comma rest (comma_read used q))
       (sym d.is)
       (by_branches d.bs d.fine d.shallow d.counted d.whole_is)
@@ -351,7 +351,7 @@ module _ (most : Limits) (whole : List Token) (some : 0 < most.nesting) where
       by_branches (BLeft op a ∷ bs) fine shallow counted is = tt
 
   -- a counted operator
-  counted_at : (t : Token) (rest : List Token) (used : ℕ) (next : StepResult)
+  counted_at : (t : Token) (rest : List Token) (used : ℕ) (next : TermStep)
       → (used < most.operators → ExpressionStands most whole t rest next)
       → ExpressionStands most whole t rest (counted most used next)
   counted_at t rest used next h = choose (nat_lt used most.operators) refl
@@ -362,13 +362,13 @@ module _ (most : Limits) (whole : List Token) (some : 0 < most.nesting) where
       choose false e = tt
 
   -- a postfix operator was read
-  marked : (op : Postfix) (rest : List Token) (fs : List Frame) (used : ℕ) (v : Term)
+  marked : (op : Postfix) (rest : List Token) (fs : List TermFrame) (used : ℕ) (v : Term)
       → used + 1 ≤ most.operators → Full most whole (postfix_token op ∷ rest) fs used v
       → Full most whole rest fs (used + 1) (Mark op v)
   marked op rest fs used v short f =
       record { bs = f.bs; t = Post op f.t; is = f.is; means = ap (Mark op) f.means; fine = f.fine; grouped = (f.tight, f.grouped); tight = omega arith; shallow = f.shallow; counted = (let h = f.counted in omega arith); short = short; whole_is = f.whole_is }
 
-  after_stands : (t : Token) (rest : List Token) (fs : List Frame) (used : ℕ) (v : Term)
+  after_stands : (t : Token) (rest : List Token) (fs : List TermFrame) (used : ℕ) (v : Term)
       → Full most whole (t ∷ rest) fs used v
       → ExpressionStands most whole t rest (after most fs used v t)
   after_stands (tokens.Sign s) rest fs used v f =
@@ -395,12 +395,12 @@ module _ (most : Limits) (whole : List Token) (some : 0 < most.nesting) where
       ended_at t rest used (fold_to 0 fs v) f.short
       (folded_full 0 (t ∷ rest) fs used v (omega arith) f)
 
-  after_name_stands : (n : List ℕ) (t : Token) (rest : List Token) (fs : List Frame) (used : ℕ)
+  after_name_stands : (n : List ℕ) (t : Token) (rest : List Token) (fs : List TermFrame) (used : ℕ)
       → Open most whole (tokens.Name n ∷ t ∷ rest) fs used
       → ExpressionStands most whole t rest (after_name most fs used n t)
   after_name_stands n tokens.Open rest fs used o =
       subst
-      (λ (g : List Frame).
+      (λ (g : List TermFrame).
       ExpressionStands most whole tokens.Open rest (opened most g used (InArguments n [])))
       o.is
       (opened_stands tokens.Open rest used o.bs (InArguments n []) (BArguments n []) refl o.fine
@@ -409,21 +409,21 @@ module _ (most : Limits) (whole : List Token) (some : 0 < most.nesting) where
       after_stands t rest fs used (Atom n) (named_full n (t ∷ rest) fs used o)
 
   -- an operand after a star
-  product_open : (rest : List Token) (fs : List Frame) (used : ℕ) (v : Term)
+  product_open : (rest : List Token) (fs : List TermFrame) (used : ℕ) (v : Term)
       → Starred most whole rest fs used v → Open most whole rest (infix_at Product fs v) used
   product_open rest fs used v f =
       let e = f.one_more in
       subst (λ (n : ℕ). Open most whole rest (infix_at Product fs v) n) e
       (infix_open Product rest fs f.less v (let h = f.short in omega arith) f.full)
 
-  closure_full : (rest : List Token) (fs : List Frame) (used : ℕ) (v : Term)
+  closure_full : (rest : List Token) (fs : List TermFrame) (used : ℕ) (v : Term)
       → Starred most whole rest fs used v → Full most whole rest fs used (Mark postfix.Closure v)
   closure_full rest fs used v f =
       let e = f.one_more in
       subst (λ (n : ℕ). Full most whole rest fs n (Mark postfix.Closure v)) e
       (marked postfix.Closure rest fs f.less v (let h = f.short in omega arith) f.full)
 
-  star_tilde_at : (rest : List Token) (fs : List Frame) (used : ℕ) (v : Term)
+  star_tilde_at : (rest : List Token) (fs : List TermFrame) (used : ℕ) (v : Term)
       → Starred most whole (tokens.Tilde ∷ rest) fs used v → (x : Bool) → is_outermost fs ≡ x
       → ExpressionStands most whole tokens.Tilde rest (star_tilde most fs used v x)
   star_tilde_at rest fs used v f true e = (f, outermost fs e)
@@ -431,7 +431,7 @@ module _ (most : Limits) (whole : List Token) (some : 0 < most.nesting) where
       operand_stands tokens.Tilde rest (infix_at Product fs v) used
       (product_open (tokens.Tilde ∷ rest) fs used v f)
 
-  star_then_at : (t : Token) (rest : List Token) (fs : List Frame) (used : ℕ) (v : Term)
+  star_then_at : (t : Token) (rest : List Token) (fs : List TermFrame) (used : ℕ) (v : Term)
       → Starred most whole (t ∷ rest) fs used v → (x : Bool)
       → ExpressionStands most whole t rest (star_then most fs used v t x)
   star_then_at t rest fs used v f true =
@@ -439,7 +439,7 @@ module _ (most : Limits) (whole : List Token) (some : 0 < most.nesting) where
   star_then_at t rest fs used v f false =
       after_stands t rest fs used (Mark postfix.Closure v) (closure_full (t ∷ rest) fs used v f)
 
-  after_star_stands : (t : Token) (rest : List Token) (fs : List Frame) (used : ℕ) (v : Term)
+  after_star_stands : (t : Token) (rest : List Token) (fs : List TermFrame) (used : ℕ) (v : Term)
       → Starred most whole (t ∷ rest) fs used v
       → ExpressionStands most whole t rest (after_star most fs used v t)
   after_star_stands tokens.Tilde rest fs used v f =
@@ -451,17 +451,17 @@ module _ (most : Limits) (whole : List Token) (some : 0 < most.nesting) where
   no_frames [] e = refl
   no_frames (b ∷ bs) e = absurd cc
 
-  ended_tilde : (rest : List Token) (used : ℕ) (p : List Frame × Term) → used ≤ most.operators
+  ended_tilde : (rest : List Token) (used : ℕ) (p : List TermFrame × Term) → used ≤ most.operators
       → p.0 ≡ [] → Folded most 0 whole rest p used → Ended most whole rest p.1
   ended_tilde rest used p short none d =
-      let e : d.bs ≡ [] = no_frames d.bs (sym (ap (λ (q : List Frame × Term). q.0) d.is) ∙ none) in
+      let e : d.bs ≡ [] = no_frames d.bs (sym (ap (λ (q : List TermFrame × Term). q.0) d.is) ∙ none) in
       let counted : count [] + operators d.t ≡ used = subst (λ (bs : List Branch). count bs + operators d.t ≡ used) e d.counted in
       let shallow : opens [] + depth d.t ≤ most.nesting = subst (λ (bs : List Branch). opens bs + depth d.t ≤ most.nesting) e d.shallow in
       ended_is rest used p.1 d.t d.grouped (omega arith) (omega arith) short
-      (sym (ap (λ (q : List Frame × Term). q.1) d.is)) (subst
+      (sym (ap (λ (q : List TermFrame × Term). q.1) d.is)) (subst
       (λ (bs : List Branch). whole ≡ before bs (spelled d.t rest)) e d.whole_is)
 
-  after_star_tilde_stands : (t : Token) (rest : List Token) (fs : List Frame) (used : ℕ) (v : Term)
+  after_star_tilde_stands : (t : Token) (rest : List Token) (fs : List TermFrame) (used : ℕ) (v : Term)
       → Starred most whole (tokens.Tilde ∷ t ∷ rest) fs used v → IsOutermost fs
       → ExpressionStands most whole t rest (after_star_tilde most fs used v t)
   after_star_tilde_stands (tokens.Check w) rest fs used v f out =
@@ -476,7 +476,7 @@ module _ (most : Limits) (whole : List Token) (some : 0 < most.nesting) where
       let none : opens o.bs ≡ 0 = none_open most o.bs o.fine (subst IsOutermost (sym o.is) (infix_outermost Product fs v out)) (right_need o.bs o.is) in
       operand_stands t rest (InPrefix ∷ infix_at Product fs v) used (record {
         bs = BPrefix ∷ o.bs;
-        is = ap (λ (g : List Frame). InPrefix ∷ g) o.is;
+        is = ap (λ (g : List TermFrame). InPrefix ∷ g) o.is;
         fine = (omega arith, o.fine);
         counted = o.counted;
         short = o.short;
@@ -491,8 +491,8 @@ module _ (most : Limits) (whole : List Token) (some : 0 < most.nesting) where
       right_need (BPrefix ∷ bs) e = absurd cc
       right_need (BLeft op a ∷ bs) e = right_level-le op
 
-  pub step_stands : (t : Token) (rest : List Token) (fs : List Frame) (used : ℕ)
-      (expected : Expectation) → Stands most whole (t ∷ rest) fs used expected
+  pub step_stands : (t : Token) (rest : List Token) (fs : List TermFrame) (used : ℕ)
+      (expected : TermExpectation) → Stands most whole (t ∷ rest) fs used expected
       → ExpressionStands most whole t rest (expression_step most fs used expected t)
   step_stands t rest fs used Wants h = operand_stands t rest fs used h
   step_stands t rest fs used HasBrace h = after_brace_stands t rest fs used h

@@ -14,10 +14,10 @@ use Rattle.cat_tokens.specs.declared.token.Token.TheVariants as tokens
 use Rattle.text_values.specs.ModelValue.{Term, Clause, Binding, Function, Checking, Flagging, Showing, Including}
 use Rattle.cat_grammar.specs.Grammar as grammar
 use Rattle.cat_grammar.specs.Grammar.{Tree, spelled, meaning, Limits, BindingTree, CheckTree, ShowTree, ItemTree, spelled_rec, spelled_tilde, show_token, spelled_parameters, spelled_shown, spelled_item, group_meaning, shown_meaning, item_meaning, items_meaning, AreBindingTrees, AreShowTrees, has_no_effect, IsItemTree, AreItemTrees, Title, NoTitle, NameTitle, StringTitle, spelled_title, spelled_items, IsFormText, Means}
-use Rattle.cat_grammar.specs.Machine.{Frame, Expectation, StepResult, Goes, Ends, EndsTilde, Refuses, expression_step}
+use Rattle.cat_grammar.specs.Machine.{TermFrame, TermExpectation, TermStep, Goes, Ends, EndsTilde, Refuses, expression_step}
 use Rattle.cat_tokens.specs.Tokens.{rule_of}
 use Rattle.cat_grammar.specs.ItemMachine as items
-use Rattle.cat_grammar.specs.ItemMachine.{LetPart, Keyword, Named, And, Parameter, AfterParameter, Parameters, Head, BoundHead, FunctionHead, CheckedHead, ShownHead, Part, InLet, AfterFlag, AfterTilde, Body, Label, ShowLabel, AfterShowLabel, AfterInclude, Done, Fault, Here, State, begin_body, begin_check, begin_item, excess, unless, end_of, item_or_end, after_title, after_tilde, after_flag, fresh, extended, after_keyword, bound_name, parameter_read, after_parameter, after_let_name, after_bound, after_parameters, after_let, checked, shown_also, shown_clause, finished, at, added, unless_before, item_ended_by_tilde, and_read, label_start, shown_on, after_body, after_as, after_show_as, after_show_label, after_include, goes_on, step_part, step, start}
+use Rattle.cat_grammar.specs.ItemMachine.{LetPart, Keyword, Named, And, Parameter, AfterParameter, Parameters, Head, BoundHead, FunctionHead, CheckedHead, ShownHead, Part, InLet, AfterFlag, AfterTilde, Body, Label, ShowLabel, AfterShowLabel, AfterInclude, Done, Fault, Here, ItemState, begin_body, begin_check, begin_item, excess, unless, end_of, item_or_end, after_title, after_tilde, after_flag, fresh, extended, after_keyword, bound_name, parameter_read, after_parameter, after_let_name, after_bound, after_parameters, after_let, checked, shown_also, shown_clause, finished, at, added, unless_before, item_ended_by_tilde, and_read, label_start, shown_on, after_body, after_as, after_show_as, after_show_label, after_include, goes_on, step_part, step, start}
 use Rattle.cat_grammar.proofs.Runs.{◌>>=◌, run_over}
 use Rattle.cat_grammar.proofs.Groups.{before_group, before_parameters, before_shown, spelled_group-push, before_group-push, group_meaning-push, length-group_meaning, AreBound-push, spelled_parameters-push, spelled_parameters-comma, spelled_shown-push, spelled_shown-comma, shown_meaning-push, AreShown-push, length-push, spelled_items-push, items_meaning-push, length-items_meaning, AreItems-push}
 use Rattle.cat_grammar.proofs.Sound.{Stands, Ended, ExpressionStands, step_stands}
@@ -80,7 +80,7 @@ pub record InGroup (most : Limits) (whole rest : List Token) (title : Title) (is
 
 -- an item whose expression is read
 pub record InBody (most : Limits) (whole rest : List Token) (title : Title) (is : List ItemTree)
-    (h : Head) (fs : List Frame) (used : ℕ) (expected : Expectation) : Type 0 where
+    (h : Head) (fs : List TermFrame) (used : ℕ) (expected : TermExpectation) : Type 0 where
   pub tree : HeadTree
   pub head_is : head_of tree ≡ h
   pub fine : HeadFine most tree
@@ -161,7 +161,7 @@ PartStands most form whole rest title is n AfterInclude =
 PartStands most form whole rest title is n Done =
     IsFormText form most title is × (whole ≡ text title is (tokens.End ∷ rest))
 
-pub record StateStands (most : Limits) (form : Form) (whole rest : List Token) (s : State)
+pub record StateStands (most : Limits) (form : Form) (whole rest : List Token) (s : ItemState)
     : Type 0 where
   pub title : Title
   pub is : List ItemTree
@@ -170,7 +170,7 @@ pub record StateStands (most : Limits) (form : Form) (whole rest : List Token) (
   pub meant : items_meaning is ≡ s.items
   pub part : PartStands most form whole rest title is (length s.items) s.part
 
-abbrev pub ResultStands : Limits → Form → List Token → List Token → Result State Fault → Type 0
+abbrev pub ResultStands : Limits → Form → List Token → List Token → Result ItemState Fault → Type 0
 ResultStands most form whole rest (Ok s) = StateStands most form whole rest s
 ResultStands most form whole rest (Err e) = Unit {0}
 
@@ -187,7 +187,7 @@ module _ (most : Limits) (form : Form) (whole : List Token) (some : 0 < most.nes
     meant : items_meaning is ≡ cs
     whole_is : whole ≡ text title is rest
 
-  abbrev Result' : List Token → Result State Fault → Type 0
+  abbrev Result' : List Token → Result ItemState Fault → Type 0
   Result' rest r = ResultStands most form whole rest r
 
   pushed : (cs : List Clause) (title : Title) (is : List ItemTree) (i : ItemTree) (c : Clause)
@@ -723,7 +723,7 @@ module _ (most : Limits) (form : Form) (whole : List Token) (some : 0 < most.nes
         added_stands tree v (rule_of t) (t ∷ rest) rest own (λ n. item_or_end most form n t) fine e
         x (λ c r. item_or_end_at cs c t rest r fits)
 
-    abbrev before_made : Clause → CheckWord → Option CatRule → Result State Fault
+    abbrev before_made : Clause → CheckWord → Option CatRule → Result ItemState Fault
     before_made c w o = at (cs ++ c ∷ []) (unless_before o (begin_check false true w))
 
     before_refused : (c : Clause) (w : CheckWord) (rest : List Token) (k : CatRule)
@@ -752,7 +752,7 @@ module _ (most : Limits) (form : Form) (whole : List Token) (some : 0 < most.nes
         (λ n. unless_before (excess most form n) (begin_check false true w)) fine e x
         (λ c r. unless_before_stands c rest w r)
 
-    goes_on_stands : (tree : HeadTree) (t : Token) (x : StepResult) (rest own : List Token)
+    goes_on_stands : (tree : HeadTree) (t : Token) (x : TermStep) (rest own : List Token)
         → HeadFine most tree → whole ≡ text title is (spelled_head tree own)
         → ExpressionStands most own t rest x
         → Result' rest (goes_on most form cs (head_of tree) t x)
@@ -774,7 +774,7 @@ module _ (most : Limits) (form : Form) (whole : List Token) (some : 0 < most.nes
     goes_on_stands tree _ (EndsTilde v) rest own fine e s = tt
     goes_on_stands tree t (Refuses k) rest own fine e s = tt
 
-    body_stands : (h : Head) (fs : List Frame) (used : ℕ) (expected : Expectation) (t : Token)
+    body_stands : (h : Head) (fs : List TermFrame) (used : ℕ) (expected : TermExpectation) (t : Token)
         (rest : List Token) → InBody most whole (t ∷ rest) title is h fs used expected
         → Result' rest (goes_on most form cs h t (expression_step most fs used expected t))
     body_stands h fs used expected t rest b =
@@ -930,7 +930,7 @@ module _ (most : Limits) (form : Form) (whole : List Token) (some : 0 < most.nes
       after_include_stands cs title is title_is each meant h.0 t rest h.1
   step_part_stands one cs Done t rest title is title_is each meant h = tt
 
-  pub run_stands : 0 < most.names → (s : State) (ts : List Token) → StateStands most form whole ts s
+  pub run_stands : 0 < most.names → (s : ItemState) (ts : List Token) → StateStands most form whole ts s
       → Result' [] (run_over most form s ts)
   run_stands one s [] h = h
   run_stands one s (t ∷ ts) h =
@@ -938,8 +938,8 @@ module _ (most : Limits) (form : Form) (whole : List Token) (some : 0 < most.nes
       (step_part_stands one s.items s.part t ts h.title h.is h.title_is h.each h.meant h.part)
       (λ s'. run_stands one s' ts)
     where
-      then_run : (r : Result State Fault) → Result' ts r
-          → ((s' : State) → StateStands most form whole ts s'
+      then_run : (r : Result ItemState Fault) → Result' ts r
+          → ((s' : ItemState) → StateStands most form whole ts s'
           → Result' [] (run_over most form s' ts))
           → Result' [] (r >>= λ s'. run_over most form s' ts)
       then_run (Ok s') x k = k s' x
@@ -973,5 +973,5 @@ pub sound : (most : Limits) (form : Form) (ts : List Token) (cs : List Clause) �
     → 0 < most.names → run_over most form (start form) ts ≡ Ok (record { items = cs; part = Done })
     → Means most form ts cs
 sound most form ts cs some one e =
-    let h : StateStands most form ts [] (record { items = cs; part = Done }) = subst (λ (r : Result State Fault). ResultStands most form ts [] r) e (run_stands most form ts some one (start form) ts (start_stands most form ts some)) in
+    let h : StateStands most form ts [] (record { items = cs; part = Done }) = subst (λ (r : Result ItemState Fault). ResultStands most form ts [] r) e (run_stands most form ts some one (start form) ts (start_stands most form ts some)) in
     record { title = h.title; items = h.is; form_is = h.part.0; each = h.each; whole = h.part.1; meant = h.meant }

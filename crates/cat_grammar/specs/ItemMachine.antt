@@ -45,7 +45,7 @@ pub data Part : Type 0 where
   InLet : (part : LetPart) → Part
   AfterFlag : Part
   AfterTilde : (flagged : Bool) → Part
-  Body : (head : Head) (frames : List machine.Frame) (used : ℕ) (expected : machine.Expectation)
+  Body : (head : Head) (frames : List machine.TermFrame) (used : ℕ) (expected : machine.TermExpectation)
       → Part
   Label : (check : CheckHead) (body : Term) → Part
   ShowLabel : (shown : ShownPart) (body : Term) → Part
@@ -58,7 +58,7 @@ pub data Fault : Type 0 where
   Here : (rule : CatRule) → Fault
   Before : (rule : CatRule) → Fault
 
-pub record State : Type 0 where
+pub record ItemState : Type 0 where
   pub items : List Clause
   pub part : Part
 
@@ -195,16 +195,16 @@ finished (FunctionHead n ps) v r = Ok (Function n ps v)
 finished (CheckedHead h) v r = if h.flagged then Err (Here r) else Ok (Checking (checked h v) None)
 finished (ShownHead s) v r = Ok (shown_clause (shown_also s v None))
 
-abbrev pub at : List Clause → Result Part Fault → Result State Fault
+abbrev pub at : List Clause → Result Part Fault → Result ItemState Fault
 at is (Ok p) = Ok (record { items = is; part = p })
 at is (Err e) = Err e
 
-abbrev pub added : List Clause → Result Clause Fault → (ℕ → Result Part Fault) → Result State Fault
+abbrev pub added : List Clause → Result Clause Fault → (ℕ → Result Part Fault) → Result ItemState Fault
 added is (Err e) next = Err e
 added is (Ok c) next = at (is ++ c ∷ []) (next (length is + 1))
 
 -- a token that ends an item
-abbrev pub item_ended : Limits → Form → List Clause → Head → Term → Token → Result State Fault
+abbrev pub item_ended : Limits → Form → List Clause → Head → Term → Token → Result ItemState Fault
 item_ended most form is h v t = added is (finished h v (rule_of t)) (λ n. item_or_end most form n t)
 
 abbrev pub unless_before : Option CatRule → Part → Result Part Fault
@@ -214,7 +214,7 @@ unless_before (Some r) p = Err (Here r)
 
 -- the tilde of the next item, which this check word shows, ends an item
 abbrev pub item_ended_by_tilde : Limits → Form → List Clause → Head → Term → CheckWord
-    → Result State Fault
+    → Result ItemState Fault
 item_ended_by_tilde most form is h v w =
     added is (finished h v rules.Syntax) (λ n.
     unless_before (excess most form n) (begin_check false true w))
@@ -232,7 +232,7 @@ abbrev pub shown_on : Head → Term → Result Part Fault
 shown_on (ShownHead s) v = Ok (begin_body (ShownHead (shown_also s v None)))
 shown_on h v = Err (Here rules.Syntax)
 
-abbrev pub after_body : Limits → Form → List Clause → Head → Term → Token → Result State Fault
+abbrev pub after_body : Limits → Form → List Clause → Head → Term → Token → Result ItemState Fault
 after_body most form is h v tokens.And = at is (and_read h v)
 after_body most form is h v tokens.As = at is (label_start h v)
 after_body most form is h v tokens.Comma = at is (shown_on h v)
@@ -241,7 +241,7 @@ after_body most form is h v t = item_ended most form is h v t
 abbrev pub labelled : CheckHead → Term → List ℕ → Clause
 labelled h v n = if h.flagged then Flagging (checked h v) n else Checking (checked h v) (Some n)
 
-abbrev pub after_as : List Clause → CheckHead → Term → Token → Result State Fault
+abbrev pub after_as : List Clause → CheckHead → Term → Token → Result ItemState Fault
 after_as is h v (tokens.Name n) = Ok (record { items = is ++ labelled h v n ∷ []; part = Start })
 after_as is h v t = refuses t
 
@@ -249,11 +249,11 @@ abbrev pub after_show_as : ShownPart → Term → Token → Result Part Fault
 after_show_as s v (tokens.Name n) = Ok (AfterShowLabel (shown_also s v (Some n)))
 after_show_as s v t = refuses t
 
-abbrev pub after_show_label : Limits → Form → List Clause → ShownPart → Token → Result State Fault
+abbrev pub after_show_label : Limits → Form → List Clause → ShownPart → Token → Result ItemState Fault
 after_show_label most form is s tokens.Comma = at is (Ok (begin_body (ShownHead s)))
 after_show_label most form is s t = added is (Ok (shown_clause s)) (λ n. item_or_end most form n t)
 
-abbrev pub after_include : List Clause → Token → Result State Fault
+abbrev pub after_include : List Clause → Token → Result ItemState Fault
 after_include is (tokens.Quoted path) =
     if has_no_effect path then Ok (record { items = is ++ Including path ∷ []; part = Start })
     else Err (Here rules.Include)
@@ -262,8 +262,8 @@ after_include is t = refuses t
 -- ---- the whole step
 
 -- what a token did to the expression of an item
-abbrev pub goes_on : Limits → Form → List Clause → Head → Token → machine.StepResult
-    → Result State Fault
+abbrev pub goes_on : Limits → Form → List Clause → Head → Token → machine.TermStep
+    → Result ItemState Fault
 goes_on most form is h t (machine.Goes fs used expected) = at is (Ok (Body h fs used expected))
 goes_on most form is h t (machine.Ends v) = after_body most form is h v t
 goes_on most form is h (tokens.Check w) (machine.EndsTilde v) =
@@ -271,7 +271,7 @@ goes_on most form is h (tokens.Check w) (machine.EndsTilde v) =
 goes_on most form is h t (machine.EndsTilde v) = refuses t
 goes_on most form is h t (machine.Refuses k) = Err (Here k)
 
-abbrev pub step_part : Limits → Form → List Clause → Part → Token → Result State Fault
+abbrev pub step_part : Limits → Form → List Clause → Part → Token → Result ItemState Fault
 step_part most form is Title t = at is (after_title most form (length is) t)
 step_part most form is Start t = at is (item_or_end most form (length is) t)
 step_part most form is (InLet p) t = at is (after_let most p t)
@@ -285,12 +285,12 @@ step_part most form is (AfterShowLabel s) t = after_show_label most form is s t
 step_part most form is AfterInclude t = after_include is t
 step_part most form is Done t = refuses t
 
-abbrev pub step : Limits → Form → State → Token → Result State Fault
+abbrev pub step : Limits → Form → ItemState → Token → Result ItemState Fault
 step most form s t = step_part most form s.items s.part t
 
 abbrev pub start_part : Form → Part
 start_part forms.Model = Title
 start_part forms.Item = Start
 
-abbrev pub start : Form → State
+abbrev pub start : Form → ItemState
 start form = record { items = []; part = start_part form }

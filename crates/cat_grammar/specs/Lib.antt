@@ -1,4 +1,5 @@
 pub mod Grammar
 pub mod ItemMachine
 pub mod Machine
+pub mod Reads
 pub mod Running

@@ -12,31 +12,31 @@ use Rattle.cat_grammar.specs.Grammar.{Limits, level, left_level}
 use Rattle.text_values.specs.ModelValue.{Term, Atom, AllEvents, EmptyRelation, EmptySet, Join, Mark, Not, On, Apply, gathered}
 
 -- what stands open to the left, the innermost first
-pub data Frame : Type 0 where
-  InGroup : Frame
-  InSquare : Frame
-  InPrefix : Frame
-  LeftOf : (op : Infix) (a : Term) → Frame
-  InArguments : (name : List ℕ) (arguments : List Term) → Frame
+pub data TermFrame : Type 0 where
+  InGroup : TermFrame
+  InSquare : TermFrame
+  InPrefix : TermFrame
+  LeftOf : (op : Infix) (a : Term) → TermFrame
+  InArguments : (name : List ℕ) (arguments : List Term) → TermFrame
 
 -- what was read last: nothing, a brace, a name, an operand, an operand and a star, or that and a
 -- tilde
-pub data Expectation : Type 0 where
-  Wants : Expectation
-  HasBrace : Expectation
-  HasName : (name : List ℕ) → Expectation
-  Has : (a : Term) → Expectation
-  HasStar : (a : Term) → Expectation
-  HasStarTilde : (a : Term) → Expectation
+pub data TermExpectation : Type 0 where
+  Wants : TermExpectation
+  HasBrace : TermExpectation
+  HasName : (name : List ℕ) → TermExpectation
+  Has : (a : Term) → TermExpectation
+  HasStar : (a : Term) → TermExpectation
+  HasStarTilde : (a : Term) → TermExpectation
 
 -- what a token does to an expression
-pub data StepResult : Type 0 where
-  Goes : (frames : List Frame) (used : ℕ) (expected : Expectation) → StepResult
-  Ends : (a : Term) → StepResult
-  EndsTilde : (a : Term) → StepResult
-  Refuses : (kind : CatRule) → StepResult
+pub data TermStep : Type 0 where
+  Goes : (frames : List TermFrame) (used : ℕ) (expected : TermExpectation) → TermStep
+  Ends : (a : Term) → TermStep
+  EndsTilde : (a : Term) → TermStep
+  Refuses : (kind : CatRule) → TermStep
 
-abbrev pub open_count : List Frame → ℕ
+abbrev pub open_count : List TermFrame → ℕ
 open_count [] = 0
 open_count (InGroup ∷ fs) = open_count fs + 1
 open_count (InSquare ∷ fs) = open_count fs + 1
@@ -45,7 +45,7 @@ open_count (LeftOf op a ∷ fs) = open_count fs
 open_count (InArguments n args ∷ fs) = open_count fs + 1
 
 -- joins what binds at least this tightly
-abbrev pub fold_to : ℕ → List Frame → Term → List Frame × Term
+abbrev pub fold_to : ℕ → List TermFrame → Term → List TermFrame × Term
 fold_to l [] v = ([], v)
 fold_to l (InGroup ∷ fs) v = (InGroup ∷ fs, v)
 fold_to l (InSquare ∷ fs) v = (InSquare ∷ fs, v)
@@ -55,7 +55,7 @@ fold_to l (LeftOf op a ∷ fs) v =
 fold_to l (InArguments n args ∷ fs) v = (InArguments n args ∷ fs, v)
 
 -- no bracket is open
-abbrev pub is_outermost : List Frame → Bool
+abbrev pub is_outermost : List TermFrame → Bool
 is_outermost [] = true
 is_outermost (InGroup ∷ fs) = false
 is_outermost (InSquare ∷ fs) = false
@@ -63,12 +63,12 @@ is_outermost (InPrefix ∷ fs) = is_outermost fs
 is_outermost (LeftOf op a ∷ fs) = is_outermost fs
 is_outermost (InArguments n args ∷ fs) = false
 
-abbrev pub opened : Limits → List Frame → ℕ → Frame → StepResult
+abbrev pub opened : Limits → List TermFrame → ℕ → TermFrame → TermStep
 opened most fs used f =
     if nat_lt (open_count fs) most.nesting then Goes (f ∷ fs) used Wants else Refuses TooDeep
 
 -- a token where an operand is wanted
-abbrev pub operand : Limits → List Frame → ℕ → Token → StepResult
+abbrev pub operand : Limits → List TermFrame → ℕ → Token → TermStep
 operand most fs used (tokens.Name n) = Goes fs used (HasName n)
 operand most fs used tokens.Underscore = Goes fs used (Has AllEvents)
 operand most fs used tokens.Zero = Goes fs used (Has EmptyRelation)
@@ -79,42 +79,42 @@ operand most fs used tokens.OpenSquare = opened most fs used InSquare
 operand most fs used t = Refuses (rule_of t)
 
 -- a token after an opening brace
-abbrev pub after_brace : List Frame → ℕ → Token → StepResult
+abbrev pub after_brace : List TermFrame → ℕ → Token → TermStep
 after_brace fs used tokens.CloseBrace = Goes fs used (Has EmptySet)
 after_brace fs used t = Refuses (rule_of t)
 
-abbrev pub left_frames : Infix → List Frame × Term → List Frame
+abbrev pub left_frames : Infix → List TermFrame × Term → List TermFrame
 left_frames op p = LeftOf op p.1 ∷ p.0
 
-abbrev pub infix_at : Infix → List Frame → Term → List Frame
+abbrev pub infix_at : Infix → List TermFrame → Term → List TermFrame
 infix_at op fs v = left_frames op (fold_to (left_level op) fs v)
 
-abbrev pub counted : Limits → ℕ → StepResult → StepResult
+abbrev pub counted : Limits → ℕ → TermStep → TermStep
 counted most used next = if nat_lt used most.operators then next else Refuses TooDeep
 
 -- an expression that ends before a token, or the fault that it does not
-abbrev pub ended : Token → List Frame × Term → StepResult
+abbrev pub ended : Token → List TermFrame × Term → TermStep
 ended t ([], v) = Ends v
 ended t (f ∷ fs, v) = Refuses (rule_of t)
 
-abbrev pub closed : ℕ → List Frame × Term → StepResult
+abbrev pub closed : ℕ → List TermFrame × Term → TermStep
 closed used ([], v) = Ends v
 closed used (InGroup ∷ fs, v) = Goes fs used (Has v)
 closed used (InArguments n args ∷ fs, v) = Goes fs used (Has (Apply n (gathered (args ++ v ∷ []))))
 closed used (f ∷ fs, v) = Refuses Syntax
 
-abbrev pub square_closed : ℕ → List Frame × Term → StepResult
+abbrev pub square_closed : ℕ → List TermFrame × Term → TermStep
 square_closed used ([], v) = Ends v
 square_closed used (InSquare ∷ fs, v) = Goes fs used (Has (On v))
 square_closed used (f ∷ fs, v) = Refuses Syntax
 
-abbrev pub comma_read : ℕ → List Frame × Term → StepResult
+abbrev pub comma_read : ℕ → List TermFrame × Term → TermStep
 comma_read used ([], v) = Ends v
 comma_read used (InArguments n args ∷ fs, v) = Goes (InArguments n (args ++ v ∷ []) ∷ fs) used Wants
 comma_read used (f ∷ fs, v) = Refuses Syntax
 
 -- a token after an operand
-abbrev pub after : Limits → List Frame → ℕ → Term → Token → StepResult
+abbrev pub after : Limits → List TermFrame → ℕ → Term → Token → TermStep
 after most fs used v (tokens.Sign s) =
     counted most used (Goes (infix_at (infix_of s) fs v) (used + 1) Wants)
 after most fs used v (tokens.Mark m) =
@@ -126,32 +126,32 @@ after most fs used v tokens.Comma = comma_read used (fold_to 0 fs v)
 after most fs used v t = ended t (fold_to 0 fs v)
 
 -- a token after a name, which is a function where a parenthesis follows
-abbrev pub after_name : Limits → List Frame → ℕ → List ℕ → Token → StepResult
+abbrev pub after_name : Limits → List TermFrame → ℕ → List ℕ → Token → TermStep
 after_name most fs used n tokens.Open = opened most fs used (InArguments n [])
 after_name most fs used n t = after most fs used (Atom n) t
 
 -- a tilde after a star: at the outermost level it may begin the next item
-abbrev pub star_tilde : Limits → List Frame → ℕ → Term → Bool → StepResult
+abbrev pub star_tilde : Limits → List TermFrame → ℕ → Term → Bool → TermStep
 star_tilde most fs used v true = Goes fs used (HasStarTilde v)
 star_tilde most fs used v false = operand most (infix_at Product fs v) used tokens.Tilde
 
 -- another token after a star: the star is infix where an operand follows
-abbrev pub star_then : Limits → List Frame → ℕ → Term → Token → Bool → StepResult
+abbrev pub star_then : Limits → List TermFrame → ℕ → Term → Token → Bool → TermStep
 star_then most fs used v t true = operand most (infix_at Product fs v) used t
 star_then most fs used v t false = after most fs used (Mark postfix.Closure v) t
 
 -- a token after an operand and a star
-abbrev pub after_star : Limits → List Frame → ℕ → Term → Token → StepResult
+abbrev pub after_star : Limits → List TermFrame → ℕ → Term → Token → TermStep
 after_star most fs used v tokens.Tilde = star_tilde most fs used v (is_outermost fs)
 after_star most fs used v t = star_then most fs used v t (begins_operand t)
 
 -- a token after an operand, a star and a tilde, at the outermost level
-abbrev pub after_star_tilde : Limits → List Frame → ℕ → Term → Token → StepResult
+abbrev pub after_star_tilde : Limits → List TermFrame → ℕ → Term → Token → TermStep
 after_star_tilde most fs used v (tokens.Check w) =
     EndsTilde ((fold_to 0 fs (Mark postfix.Closure v)).1)
 after_star_tilde most fs used v t = operand most (InPrefix ∷ infix_at Product fs v) used t
 
-abbrev pub expression_step : Limits → List Frame → ℕ → Expectation → Token → StepResult
+abbrev pub expression_step : Limits → List TermFrame → ℕ → TermExpectation → Token → TermStep
 expression_step most fs used Wants t = operand most fs used t
 expression_step most fs used HasBrace t = after_brace fs used t
 expression_step most fs used (HasName n) t = after_name most fs used n t

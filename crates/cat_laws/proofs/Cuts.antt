@@ -13,11 +13,11 @@ use Rattle.cat_tokens.specs.declared.rule.CatRule.TheVariants as rules
 use Rattle.cat_tokens.specs.declared.token.Mark.TheVariants.{Inverse}
 use Rattle.cat_tokens.specs.declared.token.Token.{Token}
 use Rattle.cat_tokens.specs.declared.token.Token.TheVariants as tokens
-use Rattle.cat_tokens.specs.declared.lexer.Front.{Front}
-use Rattle.cat_tokens.specs.declared.lexer.Front.TheVariants as fronts
+use Rattle.cat_tokens.specs.declared.lexer.NextLexeme.{NextLexeme}
+use Rattle.cat_tokens.specs.declared.lexer.NextLexeme.TheVariants as lexemes
 use Rattle.cat_tokens.specs.Tokens.{TokenAt}
 use Rattle.cat_tokens.specs.Words.{word_token}
-use Rattle.cat_tokens.specs.Lexer.{is_layout, is_name_byte, ends_name, comment_front, quoted_front, word_front, sign_token, sign_front, front, after_front, tokens_from, lexing}
+use Rattle.cat_tokens.specs.Lexer.{is_layout, is_name_byte, ends_name, comment_lexeme, quoted_lexeme, word_lexeme, sign_token, sign_lexeme, first_lexeme, after_lexeme, tokens_from, lexing}
 use Rattle.cat_tokens.proofs.Lexed.{tokens_skip}
 use Rattle.cat_laws.specs.Tokens.{IsWord, is_sign, Spells, Word, String, Sign, Inversion, Plusses, begins_line_comment, begins_gap, IsModelGap, Blank, Comment, Line, IsLongest, SpellsNone, IsModelLexeme, Spelled, NoToken, OpenComment, OpenString, ModelPiece, Gap, Lexeme, text_of, ArePieces, tokens_at, IsModelCut, AreModelRising}
 use Rattle.text_laws.proofs.Runs.{other, clash, opposite, equals, less, cons_of, next_of, pos_some, pos_le, two_kept, inside_fits, lacks_before, string_text, tested}
@@ -102,9 +102,9 @@ some_byte (b ∷ bs) t h = omega arith
 
 -- ---- what a text begins with
 
-abbrev IsPiece : List ℕ → Front → Type 0
-IsPiece text (fronts.Layout n) = (0 < n) × (n ≤ length text) × IsModelGap (take n text) (drop n text)
-IsPiece text (fronts.Lexeme t n) =
+abbrev IsPiece : List ℕ → NextLexeme → Type 0
+IsPiece text (lexemes.Layout n) = (0 < n) × (n ≤ length text) × IsModelGap (take n text) (drop n text)
+IsPiece text (lexemes.Lexeme t n) =
     (0 < n) × (n ≤ length text) × IsModelLexeme t (take n text) (drop n text)
 
 longest : (n b : ℕ) (bs : List ℕ) → n ≤ length (b ∷ bs) → Bounds n b bs
@@ -122,7 +122,7 @@ none_spelled b bs h longer others t e s =
 
 spelled : (n b : ℕ) (bs : List ℕ) (t : Token) → 0 < n → n ≤ length (b ∷ bs)
     → begins_gap (b ∷ bs) ≡ false → Spells (take n (b ∷ bs)) t → Bounds n b bs
-    → IsPiece (b ∷ bs) (fronts.Lexeme t n)
+    → IsPiece (b ∷ bs) (lexemes.Lexeme t n)
 spelled n b bs t some le gap s h =
     (some, le, Spelled (ap begins_gap (take-append-drop n (b ∷ bs)) ∙ gap) s (longest n b bs le h))
 
@@ -182,7 +182,7 @@ word_fits text longer others w e =
         absurd (clash (is_name_byte (get_or text n 0)) goes_on ends)
 
 word_piece : (b : ℕ) (bs : List ℕ) → is_layout b ≡ false → is_letter b ≡ true
-    → IsPiece (b ∷ bs) (word_front (b ∷ bs) (position_or_len ends_name (b ∷ bs)))
+    → IsPiece (b ∷ bs) (word_lexeme (b ∷ bs) (position_or_len ends_name (b ∷ bs)))
 word_piece b bs layout letter =
     let n = position_or_len ends_name (b ∷ bs) in
     let some : 0 < n = pos_some ends_name b bs (ap not (letter_in_name b letter)) in
@@ -201,14 +201,14 @@ word_piece b bs layout letter =
 
 -- gaps
 
-blank_piece : (b : ℕ) (bs : List ℕ) → is_layout b ≡ true → IsPiece (b ∷ bs) (fronts.Layout 1)
+blank_piece : (b : ℕ) (bs : List ℕ) → is_layout b ≡ true → IsPiece (b ∷ bs) (lexemes.Layout 1)
 blank_piece b bs layout = (omega arith, omega arith, Blank b layout refl)
 
 no_line_end : (k : ℕ) → k ≡ 47 → is_line_end k ≡ false
 no_line_end k e = ap is_line_end e
 
 line_piece : (b : ℕ) (bs : List ℕ) → (b == 47 && slice_index bs 0 == 47) ≡ true
-    → IsPiece (b ∷ bs) (fronts.Layout (position_or_len is_line_end (b ∷ bs)))
+    → IsPiece (b ∷ bs) (lexemes.Layout (position_or_len is_line_end (b ∷ bs)))
 line_piece b bs line = (
   some,
   pos_le is_line_end (b ∷ bs),
@@ -254,7 +254,7 @@ line_piece b bs line = (
         ∙ passes_at_first is_line_end (b ∷ bs) 0 (omega arith)
 
 comment_piece : (b : ℕ) (bs : List ℕ) → (b == 40 && slice_index bs 0 == 42) ≡ true → (o : Option ℕ)
-    → comment_of (b ∷ bs) ≡ o → IsPiece (b ∷ bs) (comment_front (length (b ∷ bs)) o)
+    → comment_of (b ∷ bs) ≡ o → IsPiece (b ∷ bs) (comment_lexeme (length (b ∷ bs)) o)
 comment_piece b bs begins (Some n) e =
     let c = nesting.found (b ∷ bs) n begins e in
     let l = length-take n (b ∷ bs) in
@@ -278,11 +278,11 @@ comment_piece b bs begins None e =
 
 -- strings
 
-string_piece : (bs : List ℕ) → IsPiece (34 ∷ bs) (quoted_front (34 ∷ bs) (quoted_from (34 ∷ bs)))
+string_piece : (bs : List ℕ) → IsPiece (34 ∷ bs) (quoted_lexeme (34 ∷ bs) (quoted_from (34 ∷ bs)))
 string_piece bs = by_end (position_or_len is_quote bs == length bs) refl
   where
     some_piece : position_or_len is_quote bs < length bs
-        → IsPiece (34 ∷ bs) (quoted_front (34 ∷ bs) (Some (position_or_len is_quote bs + 2)))
+        → IsPiece (34 ∷ bs) (quoted_lexeme (34 ∷ bs) (Some (position_or_len is_quote bs + 2)))
     some_piece lt =
         let two : position_or_len is_quote bs + 2 - 2 ≡ position_or_len is_quote bs = omega arith in
         spelled (position_or_len is_quote bs + 2) 34 bs
@@ -301,7 +301,7 @@ string_piece bs = by_end (position_or_len is_quote bs == length bs) refl
         })
 
     by_end : (x : Bool) → (position_or_len is_quote bs == length bs) ≡ x
-        → IsPiece (34 ∷ bs) (quoted_front (34 ∷ bs)
+        → IsPiece (34 ∷ bs) (quoted_lexeme (34 ∷ bs)
         (if x then None else Some (position_or_len is_quote bs + 2)))
     by_end true e =
         let same = nesting.equal (position_or_len is_quote bs) (length bs) e in (
@@ -348,7 +348,7 @@ module _ (b : ℕ) (bs : List ℕ) (layout : is_layout b ≡ false) (letter : is
   is_no_quote e = opposite (b == 34) (equals b 34 e) quote
 
   plus_piece : (b == 43 && slice_index bs 0 == 43) ≡ true
-      → IsPiece (b ∷ bs) (fronts.Lexeme (tokens.Broken rules.Unsupported) 2)
+      → IsPiece (b ∷ bs) (lexemes.Lexeme (tokens.Broken rules.Unsupported) 2)
   plus_piece plus =
       let are = nesting.two_bytes 43 42 b bs plus in
       let l = ap length are.1 in
@@ -364,7 +364,7 @@ module _ (b : ℕ) (bs : List ℕ) (layout : is_layout b ≡ false) (letter : is
       })
 
   inverse_piece : (b == 94 && slice_index bs 0 == 45 && slice_index bs 1 == 49) ≡ true
-      → IsPiece (b ∷ bs) (fronts.Lexeme (tokens.Mark Inverse) 3)
+      → IsPiece (b ∷ bs) (lexemes.Lexeme (tokens.Mark Inverse) 3)
   inverse_piece inverse =
       let are = three_bytes b bs inverse in
       let l = ap length are in
@@ -391,7 +391,7 @@ module _ (b : ℕ) (bs : List ℕ) (layout : is_layout b ≡ false) (letter : is
       plusses = λ x y. absurd (opposite _ (two_equal b (slice_index bs 0) x y) plus);
     }
 
-    byte_piece : (x : Bool) → is_sign b ≡ x → IsPiece (b ∷ bs) (fronts.Lexeme (sign_token b) 1)
+    byte_piece : (x : Bool) → is_sign b ≡ x → IsPiece (b ∷ bs) (lexemes.Lexeme (sign_token b) 1)
     byte_piece true sign =
         spelled 1 b bs (sign_token b) (omega arith) (omega arith) gap (Sign b sign refl refl)
         (bounds 1 (λ _. omega arith))
@@ -403,21 +403,21 @@ module _ (b : ℕ) (bs : List ℕ) (layout : is_layout b ≡ false) (letter : is
           (not_sign b sign),
     )
 
-  sign_piece : IsPiece (b ∷ bs) (sign_front (b ∷ bs))
+  sign_piece : IsPiece (b ∷ bs) (sign_lexeme (b ∷ bs))
   sign_piece =
       tested (IsPiece (b ∷ bs)) (b == 43 && slice_index bs 0 == 43) _ _ plus_piece (λ plus.
       tested (IsPiece (b ∷ bs)) (b == 94 && slice_index bs 0 == 45 && slice_index bs 1 == 49) _ _
       inverse_piece (λ inverse. byte_piece plus inverse (is_sign b) refl))
 
 quote_piece : (b : ℕ) (bs : List ℕ) → (b == 34) ≡ true
-    → IsPiece (b ∷ bs) (quoted_front (b ∷ bs) (quoted_from (b ∷ bs)))
+    → IsPiece (b ∷ bs) (quoted_lexeme (b ∷ bs) (quoted_from (b ∷ bs)))
 quote_piece b bs e =
-    subst (λ (x : ℕ). IsPiece (x ∷ bs) (quoted_front (x ∷ bs) (quoted_from (x ∷ bs))))
+    subst (λ (x : ℕ). IsPiece (x ∷ bs) (quoted_lexeme (x ∷ bs) (quoted_from (x ∷ bs))))
     (sym (nesting.equal b 34 e)) (string_piece bs)
 
-front_piece : (b : ℕ) (bs : List ℕ) → IsPiece (b ∷ bs) (front (b ∷ bs))
-unfolding front
-front_piece b bs =
+first_piece : (b : ℕ) (bs : List ℕ) → IsPiece (b ∷ bs) (first_lexeme (b ∷ bs))
+unfolding first_lexeme
+first_piece b bs =
     tested (IsPiece (b ∷ bs)) (is_layout b) _ _ (blank_piece b bs) (λ layout.
     tested (IsPiece (b ∷ bs)) (is_letter b) _ _ (word_piece b bs layout) (λ letter.
     tested (IsPiece (b ∷ bs)) (b == 47 && slice_index bs 0 == 47) _ _ (line_piece b bs) (λ line.
@@ -442,12 +442,12 @@ skipped j n bs le =
     ∙ ap (λ (k : ℕ). tokens_from 0 k (drop j bs))
     (let e : n + 1 + j ≡ n + suc j = omega arith in e)
 
-after_piece : (n b : ℕ) (bs : List ℕ) (f : Front) → IsPiece (b ∷ bs) f
+after_piece : (n b : ℕ) (bs : List ℕ) (f : NextLexeme) → IsPiece (b ∷ bs) f
     → ((k : ℕ) (xs : List ℕ) → length xs ≤ length bs → CutAt k xs (tokens_from 0 k xs))
-    → CutAt n (b ∷ bs) (after_front n f (λ skip. tokens_from skip (n + 1) bs))
-after_piece n b bs (fronts.Layout zero) h ih = let bad = h.0 in absurd (omega arith)
-after_piece n b bs (fronts.Lexeme t zero) h ih = let bad = h.0 in absurd (omega arith)
-after_piece n b bs (fronts.Layout (suc j)) h ih =
+    → CutAt n (b ∷ bs) (after_lexeme n f (λ skip. tokens_from skip (n + 1) bs))
+after_piece n b bs (lexemes.Layout zero) h ih = let bad = h.0 in absurd (omega arith)
+after_piece n b bs (lexemes.Lexeme t zero) h ih = let bad = h.0 in absurd (omega arith)
+after_piece n b bs (lexemes.Layout (suc j)) h ih =
     let le = h.1 in
     let l = length-drop j bs in
     let m = length-take (suc j) (b ∷ bs) in
@@ -462,7 +462,7 @@ after_piece n b bs (fronts.Layout (suc j)) h ih =
       tokens =
           ap (λ (k : ℕ). tokens_at k c.pieces) size ∙ c.tokens ∙ sym (skipped j n bs (omega arith));
     }
-after_piece n b bs (fronts.Lexeme t (suc j)) h ih =
+after_piece n b bs (lexemes.Lexeme t (suc j)) h ih =
     let le = h.1 in
     let l = length-drop j bs in
     let m = length-take (suc j) (b ∷ bs) in
@@ -485,7 +485,7 @@ unfolding tokens_from
 cut_at most n [] le = record { pieces = []; fine = tt; whole = refl; tokens = refl }
 cut_at zero n (b ∷ bs) le = absurd (omega arith)
 cut_at (suc most) n (b ∷ bs) le =
-    after_piece n b bs (front (b ∷ bs)) (front_piece b bs)
+    after_piece n b bs (first_lexeme (b ∷ bs)) (first_piece b bs)
     (λ k xs short. cut_at most k xs (omega arith))
 
 pub is_cut : (bytes : List ℕ) → IsModelCut bytes (lexing bytes)

@@ -10,13 +10,13 @@ use Rattle.std.proofs.lemmas.Bool.{not-false}
 use Rattle.text_values.specs.Layout.{quoted_from, comment_of}
 use Rattle.cat_tokens.specs.declared.token.Token.{Token}
 use Rattle.cat_tokens.specs.declared.token.Token.TheVariants as tokens
-use Rattle.cat_tokens.specs.declared.lexer.Front.{Front}
-use Rattle.cat_tokens.specs.declared.lexer.Front.TheVariants.{Layout, Lexeme}
+use Rattle.cat_tokens.specs.declared.lexer.NextLexeme.{NextLexeme}
+use Rattle.cat_tokens.specs.declared.lexer.NextLexeme.TheVariants.{Layout, Lexeme}
 use Rattle.cat_grammar.specs.declared.form.Form.{Form}
 use Rattle.cat_grammar.specs.declared.form.Form.TheVariants as forms
 use Rattle.text_values.specs.ModelValue.{Terms, NoTerm, OneMore, Clause}
 use Rattle.cat_tokens.specs.Words.{item_word, part_word, is_definition_word, is_other_word, name_or_broken, word_or, word_token}
-use Rattle.cat_tokens.specs.Lexer.{is_layout, is_name_byte, ends_name, comment_front, quoted_front, word_front, sign_token, front, after_front, tokens_from, lexing}
+use Rattle.cat_tokens.specs.Lexer.{is_layout, is_name_byte, ends_name, comment_lexeme, quoted_lexeme, word_lexeme, sign_token, first_lexeme, after_lexeme, tokens_from, lexing}
 use Rattle.text_values.specs.Letters.{is_letter}
 use Rattle.text_laws.proofs.Runs.{tested}
 use Rattle.cat_grammar.specs.Grammar as grammar
@@ -36,9 +36,9 @@ abbrev AreNamed : List Token → Type 0
 AreNamed [] = Unit {0}
 AreNamed (t ∷ ts) = IsNamed t × AreNamed ts
 
-abbrev IsNamedFront : Front → Type 0
-IsNamedFront (Layout n) = Unit {0}
-IsNamedFront (Lexeme t n) = IsNamed t
+abbrev IsNamedLexeme : NextLexeme → Type 0
+IsNamedLexeme (Layout n) = Unit {0}
+IsNamedLexeme (Lexeme t n) = IsNamed t
 
 abbrev IsNamedOption : Option Token → Type 0
 IsNamedOption None = Unit {0}
@@ -130,35 +130,35 @@ each_of bs k lt =
     ∙ not-false (is_name_byte (get_or bs k 0))
     (fails_before_first ends_name bs k 0 (omega arith))
 
-word_front_named : (b : ℕ) (bs : List ℕ) → is_letter b ≡ true
-    → IsNamedFront (word_front (b ∷ bs) (position_or_len ends_name (b ∷ bs)))
-word_front_named b bs h =
+word_lexeme_named : (b : ℕ) (bs : List ℕ) → is_letter b ≡ true
+    → IsNamedLexeme (word_lexeme (b ∷ bs) (position_or_len ends_name (b ∷ bs)))
+word_lexeme_named b bs h =
     word_named (take (position_or_len ends_name (b ∷ bs)) (b ∷ bs))
     (ap is_letter (first_of b bs h) ∙ h) (each_of (b ∷ bs))
 
-comment_named : (n : ℕ) (o : Option ℕ) → IsNamedFront (comment_front n o)
+comment_named : (n : ℕ) (o : Option ℕ) → IsNamedLexeme (comment_lexeme n o)
 comment_named n None = tt
 comment_named n (Some k) = tt
 
-quoted_named : (bs : List ℕ) (o : Option ℕ) → IsNamedFront (quoted_front bs o)
+quoted_named : (bs : List ℕ) (o : Option ℕ) → IsNamedLexeme (quoted_lexeme bs o)
 quoted_named bs None = tt
 quoted_named bs (Some k) = tt
 
-front_named : (b : ℕ) (bs : List ℕ) → IsNamedFront (front (b ∷ bs))
-unfolding front
-front_named b bs =
+first_named : (b : ℕ) (bs : List ℕ) → IsNamedLexeme (first_lexeme (b ∷ bs))
+unfolding first_lexeme
+first_named b bs =
     let x = slice_index (b ∷ bs) 1 in
     let y = slice_index (b ∷ bs) 2 in
-    either IsNamedFront (is_layout b) _ _ tt (tested IsNamedFront (is_letter b) _ _
-    (word_front_named b bs) (λ _.
-    either IsNamedFront (b == 47 && x == 47) _ _ tt (either IsNamedFront (b == 40 && x == 42) _ _
+    either IsNamedLexeme (is_layout b) _ _ tt (tested IsNamedLexeme (is_letter b) _ _
+    (word_lexeme_named b bs) (λ _.
+    either IsNamedLexeme (b == 47 && x == 47) _ _ tt (either IsNamedLexeme (b == 40 && x == 42) _ _
     (comment_named (length (b ∷ bs)) (comment_of (b ∷ bs))) (
-    either IsNamedFront (b == 34) _ _ (quoted_named (b ∷ bs) (quoted_from (b ∷ bs))) (
-    either IsNamedFront (b == 43 && x == 43) _ _ tt (either IsNamedFront
+    either IsNamedLexeme (b == 34) _ _ (quoted_named (b ∷ bs) (quoted_from (b ∷ bs))) (
+    either IsNamedLexeme (b == 43 && x == 43) _ _ tt (either IsNamedLexeme
     (b == 94 && x == 45 && y == 49) _ _ tt (sign_named b)))))))
 
-after_named : (offset : ℕ) (f : Front) (later : ℕ → List TokenAt) → IsNamedFront f
-    → ((k : ℕ) → AreNamed (tokens_of (later k))) → AreNamed (tokens_of (after_front offset f later))
+after_named : (offset : ℕ) (f : NextLexeme) (later : ℕ → List TokenAt) → IsNamedLexeme f
+    → ((k : ℕ) → AreNamed (tokens_of (later k))) → AreNamed (tokens_of (after_lexeme offset f later))
 after_named offset (Layout n) later h more = more (n - 1)
 after_named offset (Lexeme t n) later h more = (h, more (n - 1))
 
@@ -168,7 +168,7 @@ tokens_named zero offset [] = (tt, tt)
 tokens_named (suc k) offset [] = (tt, tt)
 tokens_named (suc k) offset (b ∷ bs) = tokens_named k (offset + 1) bs
 tokens_named zero offset (b ∷ bs) =
-    after_named offset (front (b ∷ bs)) (λ k. tokens_from k (offset + 1) bs) (front_named b bs)
+    after_named offset (first_lexeme (b ∷ bs)) (λ k. tokens_from k (offset + 1) bs) (first_named b bs)
     (λ k. tokens_named k (offset + 1) bs)
 
 -- ---- trees

@@ -10,7 +10,8 @@ use Rattle.cat_grammar.specs.Grammar as grammar
 use Rattle.cat_grammar.specs.Grammar.{Tree, Trees, Word, Underscore, Zero, Braces, Pair, Post, Prefix, Group, Square, Application, Last, More, meaning, meanings, right_level, tightness, IsGrouped, AreGrouped, depth, depths, operators, operators_of, Limits, IsExpressionTree, BindingTree, CheckTree, ItemTree, Let, Check, Flag, Show, Include, group_meaning, shown_meaning, item_meaning, items_meaning, AreBindingTrees, IsItemTree, AreItemTrees}
 use Rattle.cat_printing.specs.Printing.{is_binary, is_compound}
 use Rattle.cat_laws.specs.Written as written
-use Rattle.cat_laws.specs.Written.{IsTerm, AreTerms, AreBindings, IsWritable, AreWritable, one_where, nesting, nestings, joins, joins_of, deepest, most_joins, bodies, name_count, parameter_count, KeepsLimits, KeepLimits}
+use Rattle.cat_laws.specs.Written.{IsTerm, AreTerms, AreBindings, IsWritable, AreWritable, nesting, nestings, joins, joins_of, deepest, most_joins, bodies, name_count, parameter_count, KeepsLimits, KeepLimits}
+use Rattle.text_laws.specs.Counts.{one_where}
 use Rattle.cat_grammar.proofs.Branches.{left_level-le}
 
 abbrev pub grouped : Bool → Tree → Tree

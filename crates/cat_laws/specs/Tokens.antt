@@ -63,7 +63,7 @@ IsLongest s rest =
 
 -- no beginning of the text spells a token
 abbrev pub SpellsNone : List ℕ → Type 0
-SpellsNone text = (front others : List ℕ) (t : Token) → front ++ others ≡ text → Spells front t → ⊥
+SpellsNone text = (prefix others : List ℕ) (t : Token) → prefix ++ others ≡ text → Spells prefix t → ⊥
 
 -- the token of a piece where no gap begins
 pub data IsModelLexeme (t : Token) (s rest : List ℕ) : Type 0 where

@@ -1,5 +1,5 @@
 -- The items and models that a text can have, and the limits that a printed one has to keep.
-use Rattle.std.specs.Prelude.{◌≡◌, ℕ, ◌+◌, ◌<◌, ◌≤◌, max, List, [], ◌∷◌, map, Bool, true, false, Option, Some, None, length, slice_index}
+use Rattle.std.specs.Prelude.{◌≡◌, ℕ, ◌+◌, ◌<◌, ◌≤◌, max, List, [], ◌∷◌, map, true, Option, Some, None, length, slice_index}
 use Rattle.cat_tokens.specs.declared.token.Token.TheVariants as tokens
 use Rattle.text_values.specs.ModelValue.{Term, Terms, Atom, AllEvents, EmptyRelation, EmptySet, Join, Mark, Not, On, Apply, NoTerm, OneMore, Clause, Binding, Function, Checking, Flagging, Showing, Including}
 use Rattle.cat_tokens.specs.Lexer.{is_name_byte, lexing}
@@ -9,7 +9,9 @@ use Rattle.cat_grammar.specs.declared.form.Form.TheVariants as forms
 use Rattle.cat_grammar.specs.Grammar.{Limits, limits, Means, has_no_effect}
 use Rattle.cat_tokens.specs.Tokens.{tokens_of}
 use Rattle.cat_printing.specs.Printing.{is_binary, is_compound, printed_item, printed_model}
-use Rattle.cat_syntax.specs.Reads.{Reads}
+use Rattle.cat_grammar.specs.Reads.{Reads}
+use Rattle.text_values.specs.Layout.{most_bytes}
+use Rattle.text_laws.specs.Counts.{one_where}
 
 -- a letter and then letters, digits, `_`, `.` and `-`, and no word of the language
 pub record IsName (n : List ℕ) : Type 0 where
@@ -77,10 +79,6 @@ abbrev pub IsTextOfModel : List ℕ → List Clause → Type 0
 IsTextOfModel bytes cs = (most : Limits) × Means most forms.Model (tokens_of (lexing bytes)) cs
 
 -- ---- the limits of the format
-
-abbrev pub one_where : Bool → ℕ
-one_where true = 1
-one_where false = 0
 
 abbrev mutual
   -- how many brackets and prefixes are open at once in what is printed
@@ -154,10 +152,6 @@ pub record KeepsLimits (most : Limits) (c : Clause) : Type 0 where
 abbrev pub KeepLimits : Limits → List Clause → Type 0
 KeepLimits most [] = Unit {0}
 KeepLimits most (c ∷ cs) = KeepsLimits most c × KeepLimits most cs
-
--- no text is longer
-abbrev pub most_bytes : ℕ
-most_bytes = 65536
 
 -- the printed item is no longer than a text may be, and keeps the limits
 pub record IsItemWithinLimits (c : Clause) : Type 0 where

@@ -8,8 +8,8 @@ use Rattle.cat_tokens.specs.declared.rule.CatRule.{CatRule}
 use Rattle.cat_tokens.specs.declared.rule.CatRule.TheVariants.{TooLong}
 use Rattle.cat_syntax.specs.declared.fault.CatFault.{CatFault}
 use Rattle.cat_syntax.specs.declared.fault.CatFault.TheVariants as faults
-use Rattle.cat_tokens.specs.declared.lexer.Front.{Front}
-use Rattle.cat_tokens.specs.declared.lexer.Front.TheVariants.{Layout, Lexeme}
+use Rattle.cat_tokens.specs.declared.lexer.NextLexeme.{NextLexeme}
+use Rattle.cat_tokens.specs.declared.lexer.NextLexeme.TheVariants.{Layout, Lexeme}
 use Rattle.text_values.specs.declared.model.Item.{Item}
 use Rattle.cat_grammar.specs.declared.form.Form.{Form}
 use Rattle.cat_grammar.specs.declared.form.Form.TheVariants as forms
@@ -17,11 +17,11 @@ use Rattle.cat_tokens.specs.declared.token.Token.{Token}
 use Rattle.cat_tokens.specs.declared.token.Token.TheVariants.{End}
 use Rattle.text_values.specs.ModelValue.{Clause}
 use Rattle.cat_tokens.specs.Tokens.{tokens_of}
-use Rattle.cat_tokens.specs.Lexer.{front, after_front, tokens_from, lexing}
-use Rattle.cat_syntax.specs.Faults.{IsCatMemory}
+use Rattle.cat_tokens.specs.Lexer.{first_lexeme, after_lexeme, tokens_from, lexing}
+use Rattle.cat_syntax.specs.Faults.{IsCatMemory, IsCatFaultOf}
 use Rattle.text_values.specs.ModelValues.{clause_of, clauses_of}
 use Rattle.cat_syntax.specs.ReadingTexts.{reading, ReadsTo}
-use Rattle.cat_syntax.specs.Reads.{Reads, FaultAt, IsLong, InText, IsCatFaultOf}
+use Rattle.cat_grammar.specs.Reads.{Reads, FaultAt, IsLong, InText}
 use Rattle.cat_syntax.proofs.Texts.{too_long, fits}
 use Rattle.cat_grammar.proofs.Groups.{length-items_meaning}
 use Rattle.cat_grammar.proofs.Outcomes.{no_fault, fault_found, items_found, items_only, refused_is, not_both}
@@ -32,17 +32,17 @@ ends_last : (skip offset : ℕ) (bytes : List ℕ)
 unfolding tokens_from
 ends_last skip offset [] = ([], refl)
 ends_last (suc skip) offset (b ∷ bs) = ends_last skip (offset + 1) bs
-ends_last zero offset (b ∷ bs) = by_front (front (b ∷ bs)) (λ skip. ends_last skip (offset + 1) bs)
+ends_last zero offset (b ∷ bs) = by_lexeme (first_lexeme (b ∷ bs)) (λ skip. ends_last skip (offset + 1) bs)
   where
-    by_front : (f : Front)
+    by_lexeme : (f : NextLexeme)
         → ((skip : ℕ)
         → (ts : List Token)
         × (tokens_of (tokens_from skip (offset + 1) bs) ≡ ts ++ End ∷ []))
         → (ts : List Token)
-        × (tokens_of (after_front offset f (λ skip. tokens_from skip (offset + 1) bs))
+        × (tokens_of (after_lexeme offset f (λ skip. tokens_from skip (offset + 1) bs))
         ≡ ts ++ End ∷ [])
-    by_front (Layout n) k = k (n - 1)
-    by_front (Lexeme t n) k = let r = k (n - 1) in (t ∷ r.0, ap (λ (us : List Token). t ∷ us) r.1)
+    by_lexeme (Layout n) k = k (n - 1)
+    by_lexeme (Lexeme t n) k = let r = k (n - 1) in (t ∷ r.0, ap (λ (us : List Token). t ∷ us) r.1)
 
 module _ (form : Form) (bytes : List ℕ) where
   pub found : (r : Result (Vec Item Global) CatFault) → ReadsTo r (reading form bytes)

@@ -13,11 +13,11 @@ use Rattle.cat_expressions.specs.declared.frames.StepError.TheVariants as errors
 use Rattle.cat_grammar.specs.declared.form.Form.{Form}
 use Rattle.cat_tokens.specs.declared.token.Token.{Token}
 use Rattle.cat_tokens.specs.declared.token.Token.TheVariants as tokens
-use Rattle.cat_tokens.specs.declared.lexer.Front.{Front}
-use Rattle.cat_tokens.specs.declared.lexer.Front.TheVariants.{Layout, Lexeme}
-use Rattle.cat_tokens.specs.Lexer.{front, tokens_from, lexing}
+use Rattle.cat_tokens.specs.declared.lexer.NextLexeme.{NextLexeme}
+use Rattle.cat_tokens.specs.declared.lexer.NextLexeme.TheVariants.{Layout, Lexeme}
+use Rattle.cat_tokens.specs.Lexer.{first_lexeme, tokens_from, lexing}
 use Rattle.cat_grammar.specs.Grammar.{Limits, limits}
-use Rattle.cat_grammar.specs.ItemMachine.{State, Fault, step, start}
+use Rattle.cat_grammar.specs.ItemMachine.{ItemState, Fault, step, start}
 use Rattle.cat_syntax.specs.ReadingItems.{Fails}
 use Rattle.cat_syntax.specs.declared.items.Parser.{Parser}
 use Rattle.cat_syntax.specs.ParserState.{state_of}
@@ -26,8 +26,8 @@ use Rattle.cat_tokens.proofs.Lexed.{layout_turn, lexeme_turn, at_end}
 use Rattle.cat_grammar.specs.Running.{ItemsResult, with_offset, and_then, run, items_of}
 
 -- one token, at its offset or at the offset before
-module _ (before offset : ℕ) (made : Result State Fault) where
-  pub step_goes : (s : State) → made ≡ Ok s → with_offset before offset made ≡ Ok s
+module _ (before offset : ℕ) (made : Result ItemState Fault) where
+  pub step_goes : (s : ItemState) → made ≡ Ok s → with_offset before offset made ≡ Ok s
   step_goes s e = ap (with_offset before offset) e
 
   pub step_fails : (e : StepError) (rule : CatRule) → e ≡ errors.Refused rule → Fails e made
@@ -41,22 +41,22 @@ module _ (before offset : ℕ) (made : Result State Fault) where
       ap (with_offset before offset) (subst (λ (x : StepError). Fails x made) is h)
 
 -- the reader's turns
-module _ (most : Limits) (form : Form) (bytes : List ℕ) (before : ℕ) (s : State) (p n q : ℕ)
+module _ (most : Limits) (form : Form) (bytes : List ℕ) (before : ℕ) (s : ItemState) (p n q : ℕ)
     (all : ItemsResult) (so_far : all ≡ run most form before s (tokens_from 0 p (drop p bytes))) where
-  whole_rest : front (take (length bytes - p) (drop p bytes)) ≡ front (drop p bytes)
+  whole_rest : first_lexeme (take (length bytes - p) (drop p bytes)) ≡ first_lexeme (drop p bytes)
   whole_rest =
-      ap front (take_all (length bytes - p) (drop p bytes)
+      ap first_lexeme (take_all (length bytes - p) (drop p bytes)
       (let l = length-drop p bytes in omega arith))
 
-  pub layout_run : (f : Front) → p < length bytes → q ≡ p + min (max n 1) (length bytes - p)
-      → f ≡ front (take (length bytes - p) (drop p bytes)) → f ≡ Layout n
+  pub layout_run : (f : NextLexeme) → p < length bytes → q ≡ p + min (max n 1) (length bytes - p)
+      → f ≡ first_lexeme (take (length bytes - p) (drop p bytes)) → f ≡ Layout n
       → all ≡ run most form before s (tokens_from 0 q (drop q bytes))
   layout_run f lt is e k =
       so_far ∙ ap (run most form before s) (layout_turn bytes p n q lt is f (e ∙ whole_rest) k)
 
-  pub lexeme_run : (f : Front) (t : Token) (s' : State) → p < length bytes
+  pub lexeme_run : (f : NextLexeme) (t : Token) (s' : ItemState) → p < length bytes
       → q ≡ p + min (max n 1) (length bytes - p)
-      → f ≡ front (take (length bytes - p) (drop p bytes)) → f ≡ Lexeme t n
+      → f ≡ first_lexeme (take (length bytes - p) (drop p bytes)) → f ≡ Lexeme t n
       → with_offset before p (step most form s t) ≡ Ok s'
       → all ≡ run most form p s' (tokens_from 0 q (drop q bytes))
   lexeme_run f t s' lt is e k goes =
@@ -64,8 +64,8 @@ module _ (most : Limits) (form : Form) (bytes : List ℕ) (before : ℕ) (s : St
       ∙ ap (λ (r : ItemsResult). and_then r (λ x. run most form p x (tokens_from 0 q (drop q bytes))))
       goes
 
-  pub lexeme_fails : (f : Front) (t : Token) (d : CatFault) → p < length bytes
-      → f ≡ front (take (length bytes - p) (drop p bytes)) → f ≡ Lexeme t n
+  pub lexeme_fails : (f : NextLexeme) (t : Token) (d : CatFault) → p < length bytes
+      → f ≡ first_lexeme (take (length bytes - p) (drop p bytes)) → f ≡ Lexeme t n
       → FailsAt d (with_offset before p (step most form s t)) → FailsAt d all
   lexeme_fails f t (faults.OutOfMemory x) lt e k fails = tt
   lexeme_fails f t (faults.Refused rule offset) lt e k fails =
@@ -74,7 +74,7 @@ module _ (most : Limits) (form : Form) (bytes : List ℕ) (before : ℕ) (s : St
       ∙ ap (λ (y : ItemsResult). and_then y (λ z. run most form p z (tokens_from 0 r (drop r bytes))))
       fails
 
-  pub end_run : (s' : State) → p ≤ length bytes → length bytes ≤ p
+  pub end_run : (s' : ItemState) → p ≤ length bytes → length bytes ≤ p
       → with_offset before p (step most form s tokens.End) ≡ Ok s' → all ≡ Ok s'
   end_run s' low high goes =
       so_far ∙ ap (run most form before s) (at_end bytes p low high)
@@ -94,7 +94,7 @@ module _ (most : Limits) (form : Form) (bytes : List ℕ) (before : ℕ) (s : St
   end_steps (Err d) parser low high fails = end_fails d low high fails
 
 -- the parser before a text stands at the start
-pub at_start : (form f : Form) (s : State) (bytes : List ℕ) → f ≡ form → s ≡ start form
+pub at_start : (form f : Form) (s : ItemState) (bytes : List ℕ) → f ≡ form → s ≡ start form
     → run limits f 0 s (lexing bytes) ≡ run limits form 0 (start form) (lexing bytes)
 at_start form f s bytes forms states = λ i. run limits (forms i) 0 (states i) (lexing bytes)
 

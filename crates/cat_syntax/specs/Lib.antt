@@ -2,4 +2,3 @@ pub mod Faults
 pub mod ParserState
 pub mod ReadingItems
 pub mod ReadingTexts
-pub mod Reads

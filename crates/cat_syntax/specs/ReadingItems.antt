@@ -60,7 +60,7 @@ Gives view (Ok x) made = made ≡ Ok (view x)
 Gives view (Err e) made = Fails e made
 
 -- the part that a step leads to, beside the items
-abbrev pub Steps : Result code_part.Part StepError → List Item → Result machine.State machine.Fault
+abbrev pub Steps : Result code_part.Part StepError → List Item → Result machine.ItemState machine.Fault
     → Type 0
 Steps (Ok p) is made = made ≡ Ok (record { items = clauses_of is; part = part_of p })
 Steps (Err e) is made = Fails e made

@@ -1,5 +1,5 @@
 //! Models in the cat language: their reader and their printer. Read cat_grammar/specs/Grammar.antt
-//! first (the texts and their meanings), then specs/Reads.antt (what the reader answers).
+//! first (the texts and their meanings), then Reads.antt there (what the reader answers).
 #![tactic(auto)]
 
 mod fault;
@@ -8,6 +8,7 @@ mod lets;
 mod parts;
 mod read;
 
+pub use cat_laws::laws;
 pub use cat_printing::{print_item, print_model};
 pub use cat_tokens::CatRule;
 pub use fault::CatFault;

@@ -1,14 +1,14 @@
 //! Reads a text.
 
 ghost use Rattle.std.specs.Prelude.{◌≡◌, ℕ, ◌<◌, ◌≤◌, List, [], ◌∷◌, length, IfOk, IfErr, MatchResult};
-ghost use Rattle.cat_syntax.specs.Faults.{HasCatOffset, IsCatTooLong, IsCatMemory};
+ghost use Rattle.cat_syntax.specs.Faults.{HasCatOffset, IsCatTooLong, IsCatMemory, IsCatFaultOf};
 ghost use Rattle.cat_tokens.specs.Lexer.{lexing};
 ghost use Rattle.cat_grammar.specs.Grammar.{limits};
 ghost use Rattle.cat_grammar.specs.ItemMachine.{step};
 ghost use Rattle.cat_syntax.specs.ParserState.{state_of};
 ghost use Rattle.text_values.specs.ModelValues.{clause_of, clauses_of};
 ghost use Rattle.cat_syntax.specs.ReadingTexts.{reading, StepsAt, ReadsTo};
-ghost use Rattle.cat_syntax.specs.Reads.{Reads, IsCatFaultOf};
+ghost use Rattle.cat_grammar.specs.Reads.{Reads};
 ghost use Rattle.cat_grammar.specs.Running.{run, with_offset};
 ghost use Rattle.text_values.specs.ModelValue.{Clause};
 
@@ -16,7 +16,7 @@ use crate::fault::CatFault;
 use crate::items::Parser;
 use cat_expressions::StepError;
 use cat_grammar::Form;
-use cat_tokens::{CatRule, Front, Token, front_of};
+use cat_tokens::{CatRule, NextLexeme, Token, first_lexeme};
 use std::alloc::{AllocError, Global};
 use text_values::{Item, MAX_BYTES, ModelText};
 
@@ -48,9 +48,9 @@ fn read_tokens(alloc: Global, bytes: &[u8], parser: &mut Parser) -> Result<(), C
     let mut offset = 0;
     while offset < bytes.len() {
         let left = bytes.len() - offset;
-        match front_of(alloc, &bytes[offset..]) {
-            Ok(Front::Layout(n)) => offset += n.max(1).min(left),
-            Ok(Front::Lexeme(token, n)) => match step_at(parser, token, before, offset) {
+        match first_lexeme(alloc, &bytes[offset..]) {
+            Ok(NextLexeme::Layout(n)) => offset += n.max(1).min(left),
+            Ok(NextLexeme::Lexeme(token, n)) => match step_at(parser, token, before, offset) {
                 Ok(()) => {
                     before = offset;
                     offset += n.max(1).min(left);

@@ -10,8 +10,8 @@ use Rattle.cat_tokens.specs.declared.token.Sign.TheVariants.{Bar, Semicolon, Bac
 use Rattle.cat_tokens.specs.declared.token.Mark.TheVariants.{Plus, Question, Inverse}
 use Rattle.cat_tokens.specs.declared.token.Token.{Token}
 use Rattle.cat_tokens.specs.declared.token.Token.TheVariants as tokens
-use Rattle.cat_tokens.specs.declared.lexer.Front.{Front}
-use Rattle.cat_tokens.specs.declared.lexer.Front.TheVariants.{Layout, Lexeme}
+use Rattle.cat_tokens.specs.declared.lexer.NextLexeme.{NextLexeme}
+use Rattle.cat_tokens.specs.declared.lexer.NextLexeme.TheVariants.{Layout, Lexeme}
 
 abbrev pub is_layout : ℕ → Bool
 is_layout b = is_blank b || b == 10
@@ -23,17 +23,17 @@ abbrev pub ends_name : ℕ → Bool
 ends_name b = not (is_name_byte b)
 
 -- a comment that does not end is no token
-abbrev pub comment_front : ℕ → Option ℕ → Front
-comment_front all (Some n) = Layout n
-comment_front all None = Lexeme (tokens.Broken rules.Syntax) all
+abbrev pub comment_lexeme : ℕ → Option ℕ → NextLexeme
+comment_lexeme all (Some n) = Layout n
+comment_lexeme all None = Lexeme (tokens.Broken rules.Syntax) all
 
 -- a string, without its quotes
-abbrev pub quoted_front : List ℕ → Option ℕ → Front
-quoted_front bs (Some n) = Lexeme (tokens.Quoted (take (n - 2) (drop 1 bs))) n
-quoted_front bs None = Lexeme (tokens.Broken rules.Syntax) (length bs)
+abbrev pub quoted_lexeme : List ℕ → Option ℕ → NextLexeme
+quoted_lexeme bs (Some n) = Lexeme (tokens.Quoted (take (n - 2) (drop 1 bs))) n
+quoted_lexeme bs None = Lexeme (tokens.Broken rules.Syntax) (length bs)
 
-abbrev pub word_front : List ℕ → ℕ → Front
-word_front bs n = Lexeme (word_token (take n bs)) n
+abbrev pub word_lexeme : List ℕ → ℕ → NextLexeme
+word_lexeme bs n = Lexeme (word_token (take n bs)) n
 
 -- a token of one byte, or none
 unfoldable pub sign_token : ℕ → Token
@@ -58,8 +58,8 @@ sign_token b =
     if b == 61 then tokens.Equals else tokens.Broken rules.Token)))))))))))))))))
 
 -- a mark of two or three bytes, or one of one byte
-abbrev pub sign_front : List ℕ → Front
-sign_front bs =
+abbrev pub sign_lexeme : List ℕ → NextLexeme
+sign_lexeme bs =
     if slice_index bs 0 == 43 && slice_index bs 1 == 43 then Lexeme
     (tokens.Broken rules.Unsupported) 2
     else (
@@ -68,29 +68,29 @@ sign_front bs =
     else Lexeme (sign_token (slice_index bs 0)) 1)
 
 -- what a text begins with, and how many bytes it takes
-unfoldable pub front : List ℕ → Front
-front bs =
+unfoldable pub first_lexeme : List ℕ → NextLexeme
+first_lexeme bs =
     if is_layout (slice_index bs 0) then Layout 1 else (
-    if is_letter (slice_index bs 0) then word_front bs (position_or_len ends_name bs) else (
+    if is_letter (slice_index bs 0) then word_lexeme bs (position_or_len ends_name bs) else (
     if slice_index bs 0 == 47 && slice_index bs 1 == 47 then Layout (position_or_len is_line_end bs)
     else (
-    if slice_index bs 0 == 40 && slice_index bs 1 == 42 then comment_front (length bs)
+    if slice_index bs 0 == 40 && slice_index bs 1 == 42 then comment_lexeme (length bs)
     (comment_of bs)
     else (
-    if slice_index bs 0 == 34 then quoted_front bs (quoted_from bs) else sign_front bs))))
+    if slice_index bs 0 == 34 then quoted_lexeme bs (quoted_from bs) else sign_lexeme bs))))
 
 -- ---- all tokens of a text
 
-abbrev pub after_front : ℕ → Front → (ℕ → List TokenAt) → List TokenAt
-after_front offset (Layout n) later = later (n - 1)
-after_front offset (Lexeme t n) later = record { token = t; offset = offset } ∷ later (n - 1)
+abbrev pub after_lexeme : ℕ → NextLexeme → (ℕ → List TokenAt) → List TokenAt
+after_lexeme offset (Layout n) later = later (n - 1)
+after_lexeme offset (Lexeme t n) later = record { token = t; offset = offset } ∷ later (n - 1)
 
 -- the tokens of a text that begins at an offset, once skip bytes are passed over, and its end
 unfoldable pub tokens_from : ℕ → ℕ → List ℕ → List TokenAt
 tokens_from skip offset [] = record { token = tokens.End; offset = offset } ∷ []
 tokens_from (suc skip) offset (b ∷ bs) = tokens_from skip (offset + 1) bs
 tokens_from zero offset (b ∷ bs) =
-    after_front offset (front (b ∷ bs)) (λ skip. tokens_from skip (offset + 1) bs)
+    after_lexeme offset (first_lexeme (b ∷ bs)) (λ skip. tokens_from skip (offset + 1) bs)
 
 abbrev pub lexing : List ℕ → List TokenAt
 lexing bytes = tokens_from 0 0 bytes

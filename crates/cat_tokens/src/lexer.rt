@@ -3,7 +3,7 @@
 ghost use Rattle.std.specs.Prelude.{◌≡◌, ◌<◌, ◌≤◌, length, IfOk};
 ghost use Rattle.std.specs.List.{position_or_len};
 ghost use Rattle.text_values.specs.Layout.{quoted_from, comment_of};
-ghost use Rattle.cat_tokens.specs.Lexer.{is_name_byte, ends_name, is_layout, comment_front, quoted_front, sign_token, sign_front, front};
+ghost use Rattle.cat_tokens.specs.Lexer.{is_name_byte, ends_name, is_layout, comment_lexeme, quoted_lexeme, sign_token, sign_lexeme, first_lexeme};
 
 use crate::rule::CatRule;
 use crate::token::{Mark, Sign, Token};
@@ -13,9 +13,9 @@ use text_values::{
     Name, byte_at, comment_length, is_blank, is_digit, is_letter, line_length, quoted_length,
 };
 
-/// The front of a text: layout or a token, with its length in bytes.
+/// What a text begins with: layout or a token, with its length in bytes.
 #[derive(Drop)]
-pub enum Front {
+pub enum NextLexeme {
     /// Blanks, line ends or a comment: the length.
     Layout(usize),
     /// A token and its length.
@@ -46,21 +46,21 @@ fn name_length(text: &[u8]) -> usize
     text.len()
 }
 
-fn comment(text: &[u8]) -> Front
-    ensures { result ≡ comment_front (length text.now) (comment_of text.now) }
+fn comment(text: &[u8]) -> NextLexeme
+    ensures { result ≡ comment_lexeme (length text.now) (comment_of text.now) }
 {
     match comment_length(text) {
-        Some(n) => Front::Layout(n),
-        None => Front::Lexeme(Token::Broken(CatRule::Syntax), text.len()),
+        Some(n) => NextLexeme::Layout(n),
+        None => NextLexeme::Lexeme(Token::Broken(CatRule::Syntax), text.len()),
     }
 }
 
-fn quoted(alloc: Global, text: &[u8]) -> Result<Front, AllocError>
-    ensures { IfOk result (λ f. f ≡ quoted_front text.now (quoted_from text.now)) }
+fn quoted(alloc: Global, text: &[u8]) -> Result<NextLexeme, AllocError>
+    ensures { IfOk result (λ f. f ≡ quoted_lexeme text.now (quoted_from text.now)) }
 {
     match quoted_length(text) {
-        Some(n) => Ok(Front::Lexeme(Token::Quoted(Name::new(alloc, &text[1..n - 1])?), n)),
-        None => Ok(Front::Lexeme(Token::Broken(CatRule::Syntax), text.len())),
+        Some(n) => Ok(NextLexeme::Lexeme(Token::Quoted(Name::new(alloc, &text[1..n - 1])?), n)),
+        None => Ok(NextLexeme::Lexeme(Token::Broken(CatRule::Syntax), text.len())),
     }
 }
 
@@ -93,38 +93,38 @@ fn sign_token(byte: u8) -> Token
 }
 
 // What a text begins with that is neither a blank nor a word.
-fn mark_or_sign(text: &[u8]) -> Front
+fn mark_or_sign(text: &[u8]) -> NextLexeme
     requires { 0 < length text.now }
-    ensures { result ≡ sign_front text.now }
+    ensures { result ≡ sign_lexeme text.now }
 {
     let byte = text[0];
     let next = byte_at(text, 1);
     if byte == b'+' && next == b'+' {
-        return Front::Lexeme(Token::Broken(CatRule::Unsupported), 2);
+        return NextLexeme::Lexeme(Token::Broken(CatRule::Unsupported), 2);
     }
     if byte == b'^' && next == b'-' && byte_at(text, 2) == b'1' {
-        return Front::Lexeme(Token::Mark(Mark::Inverse), 3);
+        return NextLexeme::Lexeme(Token::Mark(Mark::Inverse), 3);
     }
-    Front::Lexeme(sign_token(byte), 1)
+    NextLexeme::Lexeme(sign_token(byte), 1)
 }
 
-/// The front of the text. Errors: out of memory.
-#[tactic(auto, unfolding(crate::specs::Lexer::front))]
-pub fn front_of(alloc: Global, text: &[u8]) -> Result<Front, AllocError>
+/// What the text begins with. Errors: out of memory.
+#[tactic(auto, unfolding(crate::specs::Lexer::first_lexeme))]
+pub fn first_lexeme(alloc: Global, text: &[u8]) -> Result<NextLexeme, AllocError>
     requires { 0 < length text.now }
-    ensures { IfOk result (λ f. f ≡ front text.now) }
+    ensures { IfOk result (λ f. f ≡ first_lexeme text.now) }
 {
     let byte = text[0];
     let next = byte_at(text, 1);
     if is_layout(byte) {
-        return Ok(Front::Layout(1));
+        return Ok(NextLexeme::Layout(1));
     }
     if is_letter(byte) {
         let n = name_length(text);
-        return Ok(Front::Lexeme(word_token(alloc, &text[..n])?, n));
+        return Ok(NextLexeme::Lexeme(word_token(alloc, &text[..n])?, n));
     }
     if byte == b'/' && next == b'/' {
-        return Ok(Front::Layout(line_length(text)));
+        return Ok(NextLexeme::Layout(line_length(text)));
     }
     if byte == b'(' && next == b'*' {
         return Ok(comment(text));

@@ -7,6 +7,6 @@ mod rule;
 mod token;
 mod words;
 
-pub use lexer::{Front, front_of};
+pub use lexer::{NextLexeme, first_lexeme};
 pub use rule::CatRule;
 pub use token::{Mark, Sign, Token};

@@ -6,7 +6,7 @@ use Rattle.std.proofs.lemmas.List.{length-set, get_or_past}
 use Rattle.thread_runs.specs.declared.value.Value.{Value}
 use Rattle.thread_runs.specs.declared.value.Value.TheVariants.{Number}
 use Rattle.thread_runs.specs.declared.instruction.Instruction.{Instruction}
-use Rattle.thread_runs.specs.declared.instruction.Instruction.TheVariants.{Immediate, Move, AddImmediate, Operate, Load, LoadIndexed, Store, StoreIndexed, Compare, CompareImmediate, Branch, Jump, Barrier}
+use Rattle.thread_runs.specs.declared.instruction.Instruction.TheVariants.{Immediate, Move, AddImmediate, Operate, Load, LoadIndexed, Store, StoreIndexed, Compare, CompareImmediate, Branch, Jump, Fence}
 use Rattle.thread_runs.specs.declared.state.State.{State}
 use Rattle.thread_runs.specs.Machine.{state_after, register, with_register, is_load, cancels, outcome_of, sum_of}
 use Rattle.dataflow.specs.Chains.{Executed, Resource, Register, Chain, FeedsOnward, WriteReaches, IsLastWriter, WritesTo, IsOperand, is_narrow}
@@ -77,7 +77,7 @@ one_step (Compare a b) v w t u r long other operands own = other (λ e. absurd c
 one_step (CompareImmediate a n) v w t u r long other operands own = other (λ e. absurd cc)
 one_step (Branch c l) v w t u r long other operands own = other (λ e. e)
 one_step (Jump l) v w t u r long other operands own = other (λ e. e)
-one_step (Barrier f) v w t u r long other operands own = other (λ e. e)
+one_step (Fence f) v w t u r long other operands own = other (λ e. e)
 
 -- no instruction changes how many registers there are
 after-long : (i : Instruction) (v : Value) (t : State)
@@ -94,7 +94,7 @@ after-long (Compare a b) v t = refl
 after-long (CompareImmediate a n) v t = refl
 after-long (Branch c l) v t = refl
 after-long (Jump l) v t = refl
-after-long (Barrier f) v t = refl
+after-long (Fence f) v t = refl
 
 -- a chain grows at its end
 Chain-push : (F : ℕ → ℕ → Type 0) (i : ℕ) (ks : List ℕ) (j k : ℕ) → Chain F i ks j → F j k

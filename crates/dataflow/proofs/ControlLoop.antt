@@ -4,7 +4,7 @@ use Rattle.std.specs.Int.RustNames.{bit_or}
 use Rattle.std.proofs.lemmas.List.{length-set}
 use Rattle.std.proofs.lemmas.Bool.{false≢true, cases_eq}
 use Rattle.thread_runs.specs.declared.instruction.Instruction.{Instruction}
-use Rattle.thread_runs.specs.declared.instruction.Instruction.TheVariants.{Immediate, Move, AddImmediate, Operate, Load, LoadIndexed, Store, StoreIndexed, Compare, CompareImmediate, Branch, Jump, Barrier}
+use Rattle.thread_runs.specs.declared.instruction.Instruction.TheVariants.{Immediate, Move, AddImmediate, Operate, Load, LoadIndexed, Store, StoreIndexed, Compare, CompareImmediate, Branch, Jump, Fence}
 use Rattle.dataflow.specs.declared.taints.Taints.{Taints}
 use Rattle.dataflow.specs.declared.pass.Control.{Control}
 use Rattle.thread_runs.specs.Machine.{is_load, is_branch}
@@ -80,7 +80,7 @@ branched_next f n t word inside taints old e = go (is_branch (f n)) refl
     )
 
 isync_is_event : (i : Instruction) → is_isync i ≡ true → is_event i ≡ true
-isync_is_event (Barrier f) is = refl
+isync_is_event (Fence f) is = refl
 isync_is_event (Immediate d m) is = absurd (false≢true is)
 isync_is_event (Move d a) is = absurd (false≢true is)
 isync_is_event (AddImmediate d a m) is = absurd (false≢true is)

@@ -8,10 +8,10 @@ use Rattle.std.proofs.lemmas.List.{get_or_past}
 use Rattle.std.proofs.lemmas.List.Elements.{Contains-push, Contains-append_left, Contains-append_right}
 use Rattle.thread_runs.specs.declared.value.Value.{Value}
 use Rattle.thread_runs.specs.declared.instruction.Instruction.{Instruction}
-use Rattle.thread_runs.specs.declared.instruction.Instruction.TheVariants.{Immediate, Move, AddImmediate, Operate, Load, LoadIndexed, Store, StoreIndexed, Compare, CompareImmediate, Branch, Jump, Barrier}
+use Rattle.thread_runs.specs.declared.instruction.Instruction.TheVariants.{Immediate, Move, AddImmediate, Operate, Load, LoadIndexed, Store, StoreIndexed, Compare, CompareImmediate, Branch, Jump, Fence}
 use Rattle.thread_runs.specs.declared.instruction.RunStep.{RunStep}
 use Rattle.thread_runs.specs.declared.instruction.Event.{Event}
-use Rattle.thread_runs.specs.declared.instruction.Event.TheVariants.{Writes}
+use Rattle.thread_runs.specs.declared.instruction.Event.TheVariants as run_event
 use Rattle.thread_runs.specs.declared.state.State.{State}
 use Rattle.thread_runs.specs.Machine.{register, event_of, is_load, sum_of}
 use Rattle.thread_runs.specs.Runs.{Walk, Outcome, Thread, walk_at, run_of, executed, loaded_at, no_step, StoresFreely, InDomain}
@@ -88,7 +88,7 @@ load_no_jump i load e = false≢true (subst (λ (y : Instruction). IsTrue (is_lo
 
 -- a store writes what is in its register
 stores_event : (i : Instruction) (v : Value) (s : State) (q : ℕ) → IsStoredRegister i (Register q)
-    → (a : Value) × (event_of i v s ≡ Writes a (register s q) ∷ [])
+    → (a : Value) × (event_of i v s ≡ run_event.Store a (register s q) ∷ [])
 stores_event (Immediate d n) v s q e = absurd e
 stores_event (Move d a) v s q e = absurd e
 stores_event (AddImmediate d a n) v s q e = absurd e
@@ -96,13 +96,13 @@ stores_event (Operate o d a b) v s q e = absurd e
 stores_event (Load d a) v s q e = absurd e
 stores_event (LoadIndexed d a b) v s q e = absurd e
 stores_event (Store d a) v s q e =
-    (register s a, ap (λ (r : ℕ). Writes (register s a) (register s r) ∷ []) (inside d q (sym e)))
+    (register s a, ap (λ (r : ℕ). run_event.Store (register s a) (register s r) ∷ []) (inside d q (sym e)))
   where
     inside : (d q : ℕ) → Register d ≡ Register q → d ≡ q
     inside d q e = cc
 stores_event (StoreIndexed d a b) v s q e = (
   sum_of (register s a) (register s b),
-  ap (λ (r : ℕ). Writes (sum_of (register s a) (register s b)) (register s r) ∷ [])
+  ap (λ (r : ℕ). run_event.Store (sum_of (register s a) (register s b)) (register s r) ∷ [])
       (inside d q (sym e)),
 )
   where
@@ -112,7 +112,7 @@ stores_event (Compare a b) v s q e = absurd e
 stores_event (CompareImmediate a n) v s q e = absurd e
 stores_event (Branch c l) v s q e = absurd e
 stores_event (Jump l) v s q e = absurd e
-stores_event (Barrier f) v s q e = absurd e
+stores_event (Fence f) v s q e = absurd e
 
 -- the event of a index is among the events
 has_event : (f : Executed) (l : ℕ → Value) (s : State) (n j : ℕ) (e : Event) → j < n
@@ -166,15 +166,15 @@ stored_in : (s : State) (r : Outcome) (d : Value) (j q : ℕ) (f : Walk) → IsW
     → IsPicked (picked_value r j d) r.walk f
     → IsStoredRegister (executed r.walk.steps j) (Register q)
     → (a : Value)
-    × Contains f.events (Writes a (register
+    × Contains f.events (run_event.Store a (register
     (state_at (executed r.walk.steps) (loaded_at r.walk.steps) s j) q))
 stored_in s r d j q f x p stored =
     let lt : j < length r.walk.steps = in_run r.walk.steps j (not_jump (executed r.walk.steps j) q stored) in
     let stored' : IsStoredRegister (executed f.steps j) (Register q) = subst (λ (i : Instruction). IsStoredRegister i (Register q)) (sym (p.same j lt)) stored in
     let (a, e) = stores_event (executed f.steps j) (loaded_at f.steps j) (state_at (executed f.steps) (loaded_at f.steps) s j) q stored' in
-    let e' : event_of (executed f.steps j) (loaded_at f.steps j) (state_at (executed f.steps) (loaded_at f.steps) s j) ≡ Writes a (register (state_at (executed r.walk.steps) (loaded_at r.walk.steps) s j) q) ∷ []
-    = e ∙ ap (λ (v : Value). Writes a v ∷ []) (same_store s r d j q f p stored) in
-    let w : Event = Writes a (register (state_at (executed r.walk.steps) (loaded_at r.walk.steps) s j) q) in (
+    let e' : event_of (executed f.steps j) (loaded_at f.steps j) (state_at (executed f.steps) (loaded_at f.steps) s j) ≡ run_event.Store a (register (state_at (executed r.walk.steps) (loaded_at r.walk.steps) s j) q) ∷ []
+    = e ∙ ap (λ (v : Value). run_event.Store a v ∷ []) (same_store s r d j q f p stored) in
+    let w : Event = run_event.Store a (register (state_at (executed r.walk.steps) (loaded_at r.walk.steps) s j) q) in (
       a,
       subst (λ (es : List Event). Contains es w) (sym x.events)
           (has_event (executed f.steps) (loaded_at f.steps) s (length f.steps) j w

@@ -3,7 +3,7 @@
 use Rattle.std.proofs.Common.{ℕ, zero, suc, ◌≡◌, ◌⊎◌, inl, inr, Bool, true, false, List, [], ◌∷◌, refl, sym, ap, subst, arith, IsTrue}
 use Rattle.std.proofs.lemmas.Bool.{cases_eq, false≢true}
 use Rattle.thread_runs.specs.declared.instruction.Instruction.{Instruction}
-use Rattle.thread_runs.specs.declared.instruction.Instruction.TheVariants.{Immediate, Move, AddImmediate, Operate, Load, LoadIndexed, Store, StoreIndexed, Compare, CompareImmediate, Branch, Jump, Barrier}
+use Rattle.thread_runs.specs.declared.instruction.Instruction.TheVariants.{Immediate, Move, AddImmediate, Operate, Load, LoadIndexed, Store, StoreIndexed, Compare, CompareImmediate, Branch, Jump, Fence}
 use Rattle.thread_runs.specs.Machine.{is_load}
 use Rattle.dataflow.specs.Chains.{Executed, Resource, Register, Cr0, Chain, FeedsOnward, WriteReaches, WritesTo, IsOperand, IsNeed, IsStoredRegister, is_narrow}
 use Rattle.dataflow.proofs.Agreement.{reaches_more, reaches_through, reaches_own}
@@ -104,7 +104,7 @@ is_written (Compare a b) p = place_is p Cr0
 is_written (CompareImmediate a n) p = place_is p Cr0
 is_written (Branch c l) p = none
 is_written (Jump l) p = none
-is_written (Barrier f) p = none
+is_written (Fence f) p = none
 
 -- some place of those has a fact that can be decided
 at_one : (P : Resource → Type 0) (a : Resource) → Decision (P a) → Decision ((p : Resource) × (p ≡ a) × P p)
@@ -137,7 +137,7 @@ some_operand P dec (Compare a b) =
 some_operand P dec (CompareImmediate a n) = at_one P (Register a) (dec (Register a))
 some_operand P dec (Branch c l) = at_one P Cr0 (dec Cr0)
 some_operand P dec (Jump l) = at_none P
-some_operand P dec (Barrier f) = at_none P
+some_operand P dec (Fence f) = at_none P
 
 is_true : (b : Bool) → Decision (IsTrue b)
 is_true true = inl refl
@@ -185,7 +185,7 @@ some_stored P dec (Compare a b) = at_none P
 some_stored P dec (CompareImmediate a n) = at_none P
 some_stored P dec (Branch c l) = at_none P
 some_stored P dec (Jump l) = at_none P
-some_stored P dec (Barrier f) = at_none P
+some_stored P dec (Fence f) = at_none P
 
 -- whether a store needs a load
 pub decide_need : (at : Executed) (i j : ℕ) → Decision (IsNeed at i j)

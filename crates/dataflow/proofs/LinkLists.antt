@@ -4,7 +4,7 @@ use Rattle.std.specs.List.{Contains}
 use Rattle.std.proofs.lemmas.Bool.{false≢true, cases_lt}
 use Rattle.std.proofs.lemmas.List.{get_or_past}
 use Rattle.thread_runs.specs.declared.instruction.Instruction.{Instruction}
-use Rattle.thread_runs.specs.declared.instruction.Instruction.TheVariants.{Immediate, Move, AddImmediate, Operate, Load, LoadIndexed, Store, StoreIndexed, Compare, CompareImmediate, Branch, Jump, Barrier}
+use Rattle.thread_runs.specs.declared.instruction.Instruction.TheVariants.{Immediate, Move, AddImmediate, Operate, Load, LoadIndexed, Store, StoreIndexed, Compare, CompareImmediate, Branch, Jump, Fence}
 use Rattle.thread_runs.specs.declared.instruction.RunStep.{RunStep}
 use Rattle.thread_runs.specs.Machine.{is_load}
 use Rattle.thread_runs.specs.Runs.{executed, no_step}
@@ -107,7 +107,7 @@ load_event (Compare a b) l = absurd (false≢true l)
 load_event (CompareImmediate a m) l = absurd (false≢true l)
 load_event (Branch c m) l = absurd (false≢true l)
 load_event (Jump m) l = absurd (false≢true l)
-load_event (Barrier f) l = refl
+load_event (Fence f) l = refl
 
 access_event : (stored : Bool) (i : Instruction) (p : Resource) → reads_of stored i p
     → is_event i ≡ true
@@ -115,7 +115,7 @@ access_event stored (Load d a) p r = refl
 access_event stored (LoadIndexed d a b) p r = refl
 access_event stored (Store d a) p r = refl
 access_event stored (StoreIndexed d a b) p r = refl
-access_event stored (Barrier f) p r = refl
+access_event stored (Fence f) p r = refl
 access_event true (Immediate d m) p r = absurd r
 access_event true (Move d a) p r = absurd r
 access_event true (AddImmediate d a m) p r = absurd r

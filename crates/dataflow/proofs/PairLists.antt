@@ -8,7 +8,7 @@ use Rattle.std.proofs.lemmas.Bool.{cases_eq}
 use Rattle.dataflow.specs.Chains.{IsPairBefore, ArePairsRising}
 use Rattle.bit_relations.specs.Relation.{Bit}
 use Rattle.dataflow.specs.Dependencies.{ArePairsOfWords}
-use Rattle.dataflow.specs.Within.{IsPairBelow}
+use Rattle.dataflow.specs.Bounds.{IsPairBelow}
 
 -- before the pair of these places
 abbrev pub IsEarlier : ℕ → ℕ → ℕ × ℕ → Type 0

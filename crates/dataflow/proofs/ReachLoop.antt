@@ -3,7 +3,7 @@ use Rattle.std.proofs.Common.{ℕ, zero, suc, ◌≡◌, ◌<◌, ◌≤◌, ◌
 use Rattle.std.proofs.lemmas.List.{length-set}
 use Rattle.std.proofs.lemmas.Bool.{false≢true, cases_eq}
 use Rattle.thread_runs.specs.declared.instruction.Instruction.{Instruction}
-use Rattle.thread_runs.specs.declared.instruction.Instruction.TheVariants.{Immediate, Move, AddImmediate, Operate, Load, LoadIndexed, Store, StoreIndexed, Compare, CompareImmediate, Branch, Jump, Barrier}
+use Rattle.thread_runs.specs.declared.instruction.Instruction.TheVariants.{Immediate, Move, AddImmediate, Operate, Load, LoadIndexed, Store, StoreIndexed, Compare, CompareImmediate, Branch, Jump, Fence}
 use Rattle.thread_runs.specs.declared.instruction.RunStep.{RunStep}
 use Rattle.dataflow.specs.declared.taints.Taints.{Taints}
 use Rattle.thread_runs.specs.Machine.{is_load}
@@ -119,7 +119,7 @@ load_is_event (Compare a b) l e = absurd (false≢true l)
 load_is_event (CompareImmediate a m) l e = absurd (false≢true l)
 load_is_event (Branch c m) l e = absurd (false≢true l)
 load_is_event (Jump m) l e = absurd (false≢true l)
-load_is_event (Barrier f) l e = absurd (false≢true l)
+load_is_event (Fence f) l e = absurd (false≢true l)
 
 pub load_place : (i : Instruction) (index : ℕ) → is_event i ≡ false → is_load i ≡ true → index < 128
 load_place i index e l = absurd (load_is_event i l e)

@@ -5,7 +5,7 @@ use Rattle.std.specs.Int.RustNames.{bit_or}
 use Rattle.std.proofs.lemmas.List.{length-set}
 use Rattle.std.proofs.lemmas.Nat.Bits.{bit_at-zero, bit_at_set_same, bit_at_set_other}
 use Rattle.thread_runs.specs.declared.instruction.Instruction.{Instruction}
-use Rattle.thread_runs.specs.declared.instruction.Instruction.TheVariants.{Immediate, Move, AddImmediate, Operate, Load, LoadIndexed, Store, StoreIndexed, Compare, CompareImmediate, Branch, Jump, Barrier}
+use Rattle.thread_runs.specs.declared.instruction.Instruction.TheVariants.{Immediate, Move, AddImmediate, Operate, Load, LoadIndexed, Store, StoreIndexed, Compare, CompareImmediate, Branch, Jump, Fence}
 use Rattle.std.proofs.lemmas.Bool.{false≢true, cases_eq}
 use Rattle.dataflow.specs.declared.taints.Taints.{Taints}
 use Rattle.thread_runs.specs.Machine.{is_load}
@@ -177,7 +177,7 @@ load_blocks n (Compare a b) l p = absurd (false≢true l)
 load_blocks n (CompareImmediate a m) l p = absurd (false≢true l)
 load_blocks n (Branch c m) l p = absurd (false≢true l)
 load_blocks n (Jump m) l p = absurd (false≢true l)
-load_blocks n (Barrier f) l p = absurd (false≢true l)
+load_blocks n (Fence f) l p = absurd (false≢true l)
 
 pub operand_word-union : (i : Instruction) (t : Taints) → IsUnion IsOperand i t (operand_word i t)
 operand_word-union (Immediate d n) t e = no_places t e
@@ -192,7 +192,7 @@ operand_word-union (Compare a b) t e = two_places t (Register a) (Register b) e
 operand_word-union (CompareImmediate a n) t e = one_place t (Register a) e
 operand_word-union (Branch c l) t e = one_place t Cr0 e
 operand_word-union (Jump l) t e = no_places t e
-operand_word-union (Barrier f) t e = no_places t e
+operand_word-union (Fence f) t e = no_places t e
 
 pub bit_word-bit : (k : ℕ) → k < 128 → (e : ℕ) → Bit (bit_word k) e ↔ (k ≡ e)
 unfolding Bit
@@ -264,7 +264,7 @@ with_word-written (Compare a b) w t p long within e = compared_word t w p e
 with_word-written (CompareImmediate a n) w t p long within e = compared_word t w p e
 with_word-written (Branch c l) w t p long within e = absurd e
 with_word-written (Jump l) w t p long within e = absurd e
-with_word-written (Barrier f) w t p long within e = absurd e
+with_word-written (Fence f) w t p long within e = absurd e
 
 pub with_word-kept : (i : Instruction) (w : ℕ) (t : Taints) (p : Resource) → (WritesTo i p → ⊥)
     → word_of (with_word i w t) p ≡ word_of t p
@@ -280,7 +280,7 @@ with_word-kept (Compare a b) w t p ne = compared_kept t w p ne
 with_word-kept (CompareImmediate a n) w t p ne = compared_kept t w p ne
 with_word-kept (Branch c l) w t p ne = refl
 with_word-kept (Jump l) w t p ne = refl
-with_word-kept (Barrier f) w t p ne = refl
+with_word-kept (Fence f) w t p ne = refl
 
 pub noted-step : (narrow : Bool) (i : Instruction) (k : ℕ) (t : Taints)
     → (is_load i ≡ true → k < 128) → length t.registers ≡ 256
@@ -307,7 +307,7 @@ read_word-union false (Compare a b) t e = no_places t e
 read_word-union false (CompareImmediate a n) t e = no_places t e
 read_word-union false (Branch c l) t e = no_places t e
 read_word-union false (Jump l) t e = no_places t e
-read_word-union false (Barrier f) t e = no_places t e
+read_word-union false (Fence f) t e = no_places t e
 read_word-union true (Store d a) t e = one_place t (Register d) e
 read_word-union true (StoreIndexed d a b) t e = one_place t (Register d) e
 read_word-union true (Load d a) t e = no_places t e
@@ -320,7 +320,7 @@ read_word-union true (Compare a b) t e = no_places t e
 read_word-union true (CompareImmediate a n) t e = no_places t e
 read_word-union true (Branch c l) t e = no_places t e
 read_word-union true (Jump l) t e = no_places t e
-read_word-union true (Barrier f) t e = no_places t e
+read_word-union true (Fence f) t e = no_places t e
 
 pub with_word_long : (i : Instruction) (w : ℕ) (t : Taints)
     → length (with_word i w t).registers ≡ length t.registers
@@ -336,4 +336,4 @@ with_word_long (Compare a b) w t = refl
 with_word_long (CompareImmediate a n) w t = refl
 with_word_long (Branch c l) w t = refl
 with_word_long (Jump l) w t = refl
-with_word_long (Barrier f) w t = refl
+with_word_long (Fence f) w t = refl

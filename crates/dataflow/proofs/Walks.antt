@@ -8,7 +8,7 @@ use Rattle.std.proofs.Math.Seq.{get_or-append_seam}
 use Rattle.thread_runs.specs.declared.value.Value.{Value}
 use Rattle.thread_runs.specs.declared.value.Value.TheVariants.{NoValue}
 use Rattle.thread_runs.specs.declared.instruction.Instruction.{Instruction}
-use Rattle.thread_runs.specs.declared.instruction.Instruction.TheVariants.{Immediate, Move, AddImmediate, Operate, Load, LoadIndexed, Store, StoreIndexed, Compare, CompareImmediate, Branch, Jump, Barrier}
+use Rattle.thread_runs.specs.declared.instruction.Instruction.TheVariants.{Immediate, Move, AddImmediate, Operate, Load, LoadIndexed, Store, StoreIndexed, Compare, CompareImmediate, Branch, Jump, Fence}
 use Rattle.thread_runs.specs.declared.instruction.Line.{Line}
 use Rattle.thread_runs.specs.declared.instruction.Line.TheVariants.{Label, Does}
 use Rattle.thread_runs.specs.declared.instruction.RunStep.{RunStep}
@@ -171,7 +171,7 @@ not_gone (Compare x y) s e = refl
 not_gone (CompareImmediate a n) s e = refl
 not_gone (Branch k l) s e = absurd cc
 not_gone (Jump l) s e = refl
-not_gone (Barrier f) s e = refl
+not_gone (Fence f) s e = refl
 
 abbrev pub Free : Type 0
 Free = List Bool → List Value → Option Outcome

@@ -2,7 +2,7 @@
 use Rattle.std.specs.Prelude.{ℕ, zero, suc, ◌≡◌, ◌⊎◌, ◌<◌, ◌+◌, ◌↔◌, Bool, true, false, not, List, [], ◌∷◌, length, IsTrue, slice_index_or, Contains, if◌then◌else◌}
 use Rattle.text_values.specs.declared.instruction.Fence.TheVariants.{Isync}
 use Rattle.thread_runs.specs.declared.instruction.Instruction.{Instruction}
-use Rattle.thread_runs.specs.declared.instruction.Instruction.TheVariants.{Immediate, Move, AddImmediate, Operate, Load, LoadIndexed, Store, StoreIndexed, Compare, CompareImmediate, Branch, Barrier}
+use Rattle.thread_runs.specs.declared.instruction.Instruction.TheVariants.{Immediate, Move, AddImmediate, Operate, Load, LoadIndexed, Store, StoreIndexed, Compare, CompareImmediate, Branch, Fence}
 use Rattle.thread_runs.specs.Machine.{is_load, is_branch, cancels}
 
 -- what an instruction reads and writes beside memory: a register, or CR0
@@ -60,11 +60,11 @@ is_narrow (Operate o d a b) = not (cancels o a b)
 is_narrow i = is_no_access i
 
 abbrev pub is_isync : Instruction → Bool
-is_isync (Barrier Isync) = true
+is_isync (Fence Isync) = true
 is_isync _ = false
 
 abbrev pub is_event : Instruction → Bool
-is_event (Barrier f) = true
+is_event (Fence f) = true
 is_event i = not (is_no_access i)
 
 -- the instructions that a run executes, by their indexes; past its end nothing is read or written

@@ -1,21 +1,21 @@
 -- The dependencies of a run, as lists of pairs.
 use Rattle.std.specs.Prelude.{◌≡◌, ℕ, ◌<◌, ◌↔◌, List, [], Contains, slice_index}
 use Rattle.dataflow.specs.declared.lists.Links.{Links}
-use Rattle.dataflow.specs.DependencyLists.{dependency_lists, no_dependencies}
+use Rattle.dataflow.specs.DependencyLists.{link_lists, no_dependencies}
 use Rattle.dataflow.specs.Chains.{Executed, IsAddr, IsData, IsCtrl, IsCtrlIsync, IsNeed, ArePairsRising, IsPairListOf}
 use Rattle.bit_relations.specs.Relation.{Bit}
 
 -- each list has just the pairs of its dependency, in rising order
 pub record AreLinks (at : Executed) (links : Links) : Type 0 where
-  pub addr : IsPairListOf IsAddr at links.dependencies.addr_pairs.items
-  pub «data» : IsPairListOf IsData at links.dependencies.data_pairs.items
-  pub ctrl : IsPairListOf IsCtrl at links.dependencies.ctrl_pairs.items
-  pub ctrlisync : IsPairListOf IsCtrlIsync at links.dependencies.ctrlisync_pairs.items
+  pub addr : IsPairListOf IsAddr at links.addr_pairs.items
+  pub «data» : IsPairListOf IsData at links.data_pairs.items
+  pub ctrl : IsPairListOf IsCtrl at links.ctrl_pairs.items
+  pub ctrlisync : IsPairListOf IsCtrlIsync at links.ctrlisync_pairs.items
   pub need : IsPairListOf IsNeed at links.need_pairs.items
 
 -- there are none
 pub record HasNoLinks (links : Links) : Type 0 where
-  pub dependencies : dependency_lists links.dependencies ≡ no_dependencies
+  pub dependencies : link_lists links ≡ no_dependencies
   pub need : links.need_pairs.items ≡ []
 
 -- the pairs of an index whose bit a word has, and the index of the word

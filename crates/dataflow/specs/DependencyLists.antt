@@ -1,6 +1,7 @@
 -- Lists of dependencies as plain data, and those of runs one after another.
 use Rattle.std.specs.Prelude.{ℕ, ◌+◌, ◌-◌, ◌^◌, min, List, [], ◌++◌, map}
 use Rattle.dataflow.specs.declared.lists.Dependencies.{Dependencies}
+use Rattle.dataflow.specs.declared.lists.Links.{Links}
 
 -- each list has pairs of numbers of events
 pub record DependencyLists : Type 0 where
@@ -15,6 +16,15 @@ dependency_lists d = record {
   data_pairs = d.data_pairs.items;
   ctrl_pairs = d.ctrl_pairs.items;
   ctrlisync_pairs = d.ctrlisync_pairs.items;
+}
+
+-- those of a run
+abbrev pub link_lists : Links → DependencyLists
+link_lists l = record {
+  addr_pairs = l.addr_pairs.items;
+  data_pairs = l.data_pairs.items;
+  ctrl_pairs = l.ctrl_pairs.items;
+  ctrlisync_pairs = l.ctrlisync_pairs.items;
 }
 
 abbrev pub no_dependencies : DependencyLists

@@ -2,7 +2,7 @@ pub mod Chains
 pub mod Law
 pub mod Execution
 pub mod Taints
-pub mod Within
+pub mod Bounds
 pub mod Control
 pub mod Dependencies
 pub mod DependencyLists

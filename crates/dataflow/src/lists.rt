@@ -1,12 +1,11 @@
 //! What is found of a run.
 
 ghost use Rattle.std.specs.Prelude.{◌≡◌, ◌++◌, IsTrue, ◌↔◌, IfOk, OnOk};
-ghost use Rattle.dataflow.specs.DependencyLists.{dependency_lists, no_dependencies, renumbered_pairs, with_dependencies};
+ghost use Rattle.dataflow.specs.DependencyLists.{dependency_lists, link_lists, no_dependencies, renumbered_pairs, with_dependencies};
 
 use std::alloc::{AllocError, Global};
 
-/// The dependencies of Alglave, Maranget and Tautschnig, Herding Cats, TOPLAS 36(2), 2014, as pairs
-/// of numbers of events, each list rising.
+/// The dependencies of several runs, as pairs of numbers of events, each list rising.
 #[derive(Debug, Drop)]
 pub struct Dependencies {
     /// Address dependencies: a load and an access whose address it reaches.
@@ -20,11 +19,20 @@ pub struct Dependencies {
     pub ctrlisync_pairs: Vec<(usize, usize)>,
 }
 
-/// The dependencies of a run; the number of an event is its index in the run's list of events.
+/// The dependencies of a run (Alglave, Maranget and Tautschnig, Herding Cats, TOPLAS 36(2), 2014),
+/// as pairs of numbers of events, each list rising. The number of an event is its index in the
+/// run's list of events.
 #[derive(Debug, Drop)]
 pub struct Links {
-    /// The address, data and control dependencies.
-    pub dependencies: Dependencies,
+    /// Address dependencies: a load and an access whose address it reaches.
+    pub addr_pairs: Vec<(usize, usize)>,
+    /// Data dependencies: a load and a store whose stored register it reaches.
+    pub data_pairs: Vec<(usize, usize)>,
+    /// Control dependencies: a load and an event after a conditional branch whose CR0 it reaches.
+    pub ctrl_pairs: Vec<(usize, usize)>,
+    /// Control dependencies by an `isync`: a load and an event after an `isync` that is so behind
+    /// the load.
+    pub ctrlisync_pairs: Vec<(usize, usize)>,
     /// As data, by chains through no exclusive or or difference of a register with itself.
     pub need_pairs: Vec<(usize, usize)>,
 }
@@ -75,9 +83,9 @@ impl Dependencies {
     }
 
     /// Adds those of a run whose first event has the number `base`. Errors: want of memory.
-    pub fn add(&mut self, more: &Dependencies, base: usize) -> Result<(), AllocError>
+    pub fn add(&mut self, more: &Links, base: usize) -> Result<(), AllocError>
         ensures { OnOk result (dependency_lists self.new
-            ≡ with_dependencies base (dependency_lists more.now) (dependency_lists self.old)) }
+            ≡ with_dependencies base (link_lists more.now) (dependency_lists self.old)) }
     {
         add_pairs(&mut self.addr_pairs, &more.addr_pairs, base)?;
         add_pairs(&mut self.data_pairs, &more.data_pairs, base)?;

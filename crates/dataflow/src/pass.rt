@@ -6,10 +6,10 @@ ghost use Rattle.dataflow.specs.Dependencies as found;
 ghost use Rattle.thread_runs.specs.Machine as machine;
 ghost use Rattle.bit_relations.specs.Relation.{Bit};
 ghost use Rattle.dataflow.specs.Taints as taint;
-ghost use Rattle.dataflow.specs.Within.{IsPairBelow, HasBound};
+ghost use Rattle.dataflow.specs.Bounds.{IsPairBelow, HasBound};
 ghost use Rattle.thread_runs.specs.Runs as runs;
 
-use crate::lists::{Dependencies, Links};
+use crate::lists::Links;
 use crate::taints::{
     Columns, Taints, clean, is_event, no_taints, note, operands, reach, registers_fit,
 };
@@ -71,7 +71,7 @@ impl Control {
             Instruction::Branch(_, _) => {
                 self.branched |= operands(&self.taints, instruction);
             }
-            Instruction::Barrier(Fence::Isync) => {
+            Instruction::Fence(Fence::Isync) => {
                 self.synchronised |= self.branched;
             }
             _ => {}
@@ -141,7 +141,10 @@ fn no_links(alloc: Global) -> Links
     ensures none { found.HasNoLinks result }
 {
     Links {
-        dependencies: Dependencies::none(alloc),
+        addr_pairs: Vec::new(alloc),
+        data_pairs: Vec::new(alloc),
+        ctrl_pairs: Vec::new(alloc),
+        ctrlisync_pairs: Vec::new(alloc),
         need_pairs: Vec::new(alloc),
     }
 }
@@ -195,12 +198,10 @@ impl Workspace {
         reach(&mut self.known.taints, &mut self.loads, steps, true, true);
         let need_pairs = pairs(alloc, &self.loads, count)?;
         Ok(Links {
-            dependencies: Dependencies {
-                addr_pairs,
-                data_pairs,
-                ctrl_pairs,
-                ctrlisync_pairs,
-            },
+            addr_pairs,
+            data_pairs,
+            ctrl_pairs,
+            ctrlisync_pairs,
             need_pairs,
         })
     }

@@ -153,7 +153,7 @@ pub fn is_event(instruction: Instruction) -> bool
             | Instruction::LoadIndexed(..)
             | Instruction::Store(..)
             | Instruction::StoreIndexed(..)
-            | Instruction::Barrier(_)
+            | Instruction::Fence(_)
     )
 }
 
@@ -178,7 +178,7 @@ pub fn registers_fit(instruction: Instruction)
         Instruction::Immediate(_, _) => {}
         Instruction::Branch(_, _) => {}
         Instruction::Jump(_) => {}
-        Instruction::Barrier(_) => {}
+        Instruction::Fence(_) => {}
     }
 }
 

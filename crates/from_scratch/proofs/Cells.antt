@@ -26,7 +26,8 @@ use Rattle.from_scratch.specs.declared.cell.FlagAnswer.{FlagAnswer}
 use Rattle.from_scratch.specs.Answers.{AreSaid, AreSoundItems}
 use Rattle.from_scratch.specs.Known.{kept_of, of_flags, flags_of, AreKeptIn, AreKeptAndFlagged}
 use Rattle.text_values.specs.declared.model.ModelText.{ModelText}
-use Rattle.from_scratch.specs.FromScratch.{outermost, bare_items, IsFaultOf, IsFaultless, AreItemsOf, IsEvaluationOf, IsResultOf, IsFromScratch}
+use Rattle.from_scratch.specs.FromScratch.{bare_items, IsFaultOf, IsFaultless, AreItemsOf, IsEvaluationOf, IsResultOf, IsFromScratch}
+use Rattle.binding_kinds.specs.Outermost.{outermost_names}
 use Rattle.from_scratch.specs.Cell.{IsSaidFromSome, IsEvaluationFrom, IsResult, IsCell, IsEvaluationBy, IsEvaluationOver, OfModel}
 use Rattle.from_scratch.proofs.Ordered.{resolved_ordered}
 use Rattle.from_scratch.proofs.Rising.{resolved_rising}
@@ -145,7 +146,7 @@ pub evaluation_of : (model : ModelText) (items : List ResolvedItem) (test : Test
     → IsFaultless model → AreItemsOf model items → (AreSoundItems items → IsEvaluationOver items test e)
     → IsEvaluationOf test model e
 evaluation_of model items test e none resolved over =
-    let o = over (resolved_ordered PREDEFINED (bare_items model) items resolved.0, resolved_rising outermost 0 (bare_items model) items none resolved.0) in
+    let o = over (resolved_ordered PREDEFINED (bare_items model) items resolved.0, resolved_rising outermost_names 0 (bare_items model) items none resolved.0) in
     (items, resolved, o.0, o.1, o.2)
 
 pub scratch_evaluated : (model : ModelText) (items : List ResolvedItem) (test : Test)

@@ -2,18 +2,17 @@
 -- this order: the first fault (binding_kinds, specs/Faults), the items (binding_graph,
 -- specs/Resolved), the executions (candidates, specs/Executions and Listed), the answers of checks
 -- and flags (specs/Answers), states, counts and words (verdict, specs/Evaluated).
-use Rattle.std.specs.Prelude.{◌≡◌, List, [], map, reverse}
+use Rattle.std.specs.Prelude.{◌≡◌, List, [], map}
 use Rattle.text_values.specs.declared.test.Test.{Test}
 use Rattle.text_values.specs.TestValue.{formula_of}
 use Rattle.litmus_printing.specs.Printing.{condition_text}
 use Rattle.candidates.specs.declared.candidate.Space.{Space}
 use Rattle.candidates.specs.Listed.{ListsExecutions, IsSpaceRefusal}
 use Rattle.text_values.specs.declared.model.ModelText.{ModelText}
-use Rattle.text_values.specs.declared.predefined.TheConstants.{PREDEFINED}
 use Rattle.binding_kinds.specs.declared.fault.ModelFault.{ModelFault}
 use Rattle.binding_kinds.specs.Faults.{HasNoFault, FirstFault}
-use Rattle.binding_kinds.specs.Outermost.{naming_of}
-use Rattle.binding_kinds.specs.Value.{Naming, BareItem, bare_item}
+use Rattle.binding_kinds.specs.Outermost.{outermost_names}
+use Rattle.binding_kinds.specs.Value.{BareItem, bare_item}
 use Rattle.binding_graph.specs.declared.resolved.ResolvedItem.{ResolvedItem}
 use Rattle.binding_graph.specs.Resolved.{AreResolved, AreLabelled}
 use Rattle.verdict.specs.declared.answer.Evaluation.{Evaluation}
@@ -23,25 +22,21 @@ use Rattle.verdict.specs.declared.answer.OutcomeResult.TheVariants.{Refused, Eva
 use Rattle.verdict.specs.declared.answer.Refusal.TheVariants as refusals
 use Rattle.from_scratch.specs.Cell.{IsEvaluationBy}
 
--- the names that the first item of a model sees
-abbrev pub outermost : List Naming
-outermost = reverse (map naming_of PREDEFINED)
-
 abbrev pub bare_items : ModelText → List BareItem
 bare_items model = map bare_item model.items.items
 
 -- the model has this fault as its first
 abbrev pub IsFaultOf : ModelText → ModelFault → Type 0
-IsFaultOf model k = FirstFault [] outermost 0 (bare_items model) k
+IsFaultOf model k = FirstFault [] outermost_names 0 (bare_items model) k
 
 abbrev pub IsFaultless : ModelText → Type 0
-IsFaultless model = HasNoFault [] outermost 0 (bare_items model)
+IsFaultless model = HasNoFault [] outermost_names 0 (bare_items model)
 
 -- the items of the model with their names resolved, their checks negated and their flags named as
 -- in the text
 abbrev pub AreItemsOf : ModelText → List ResolvedItem → Type 0
 AreItemsOf model items =
-    AreResolved [] [] outermost 0 (bare_items model) items × AreLabelled model.items.items items
+    AreResolved [] [] outermost_names 0 (bare_items model) items × AreLabelled model.items.items items
 
 -- the evaluation of the test's condition on its candidates that the checks of the model keep
 abbrev pub IsEvaluationOf : Test → ModelText → Evaluation → Type 0

@@ -23,7 +23,7 @@ use Rattle.litmus_grammar.specs.declared.parts.TextKind.TheVariants as kinds
 use Rattle.litmus_grammar.specs.Grammar.{Listed, EntryTree, spelled_entry, spelled_end, spelled_others, spelled_init, members, AreEntryTrees, IsInitText}
 use Rattle.litmus_grammar.specs.InitMachine as init
 use Rattle.litmus_grammar.specs.TextMachine as text
-use Rattle.litmus_grammar.specs.TextMachine.{Part, Draft, Next, State, part_step, nothing, start, run}
+use Rattle.litmus_grammar.specs.TextMachine.{Part, Draft, Next, TextState, part_step, nothing, start, run}
 use Rattle.litmus_grammar.specs.Texts.{IsStart, IsWhole, BreaksOff, IsBrokenOff}
 use Rattle.litmus_grammar.proofs.Bodies.{IsRows, IsName, header_at, header_begins, any_header, rows_at, name_step, names_led, rows_led}
 use Rattle.litmus_grammar.proofs.Ends.{ends_done}
@@ -182,11 +182,11 @@ module _ (name : List ℕ) where
   abbrev first : Stage
   first = after (stages.Init true false) (tokens.Mark marks.OpenBrace)
 
-  abbrev pub block_at : Stage → State
+  abbrev pub block_at : Stage → TextState
   block_at g = test_at g (text.Init expectations.WantsEntry) (early name init.start table.start [])
 
   -- what the test may still begin
-  pub data Opened (ps : List TokenAt) (n : ℕ) (s : State) : Type 0 where
+  pub data Opened (ps : List TokenAt) (n : ℕ) (s : TextState) : Type 0 where
     IsOne : Begins IsBody (tokens_of (brace_at n ∷ ps)) → Opened ps n s
     IsBroken : in_block s.part ≡ true → (rest : List Token)
         → IsBrokenOff IsInitText (stages.Init true false) (tokens_of (brace_at n ∷ ps) ++ rest)
@@ -225,7 +225,7 @@ module _ (name : List ℕ) where
             ∙ sym (init-append x.entries [] (tokens.End ∷ []))),
       )
 
-  pub block_begins : (ps : List TokenAt) (n : ℕ) (g : Stage) (s : State)
+  pub block_begins : (ps : List TokenAt) (n : ℕ) (g : Stage) (s : TextState)
       → length ps + 1 < 18446744073709551616 → run (block_at g) ps ≡ Ok s → Opened ps n s
   block_begins ps n g s few e =
       by_pass (passes kinds.Init 0 with_block text.WantsEnd text.WantsColumn in_block block_alike ps
@@ -269,7 +269,7 @@ module _ (name : List ℕ) where
           first g (text.Init expectations.WantsEntry) first_draft ps s → Opened ps n s
       by_pass (inl r) =
           let b = (init_reading 0).begins (brace_at n ∷ ps) _ r.by in
-          by_start r.draft r.part _ r.inside (ap (λ (x : State). x.part) r.same) r.by b.rest b.text
+          by_start r.draft r.part _ r.inside (ap (λ (x : TextState). x.part) r.same) r.by b.rest b.text
       by_pass (inr r) =
           let x = block_text r.before n _ r.draft r.by in
           let many : length ps ≡ length r.before + length r.behind = ap (λ (l : List TokenAt). length l) r.whole ∙ length-append r.before r.behind in
@@ -291,7 +291,7 @@ module _ (name : List ℕ) where
       (g : Stage) : Type 0 where
     pub stage : Stage
     pub block : init.Block
-    pub reached : table.State
+    pub reached : table.TableState
     pub by : run (block_at g) ps
         ≡ Ok (test_at stage text.Done (with_all name block reached
         (map place_meaning (members x.rows.tail.observed)) x.rows.tail.quantifier

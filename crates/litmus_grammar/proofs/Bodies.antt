@@ -26,7 +26,7 @@ use Rattle.litmus_table.proofs.Tables.{table_complete, table_begins}
 use Rattle.litmus_grammar.specs.Grammar.{members, ArePlaceTrees}
 use Rattle.litmus_grammar.specs.InitMachine as init
 use Rattle.litmus_grammar.specs.TextMachine as text
-use Rattle.litmus_grammar.specs.TextMachine.{Draft, Next, State, TextResult, with_offset, and_then, stepped, run}
+use Rattle.litmus_grammar.specs.TextMachine.{Draft, Next, TextState, TextResult, with_offset, and_then, stepped, run}
 use Rattle.litmus_grammar.proofs.Equations.{no_first, same_first, same_others}
 use Rattle.litmus_grammar.proofs.Outcomes.{not_both}
 use Rattle.litmus_grammar.proofs.Passing.{test_at}
@@ -52,19 +52,19 @@ pub length-steps : (ts : List table.ThreadSteps) → length (steps_of ts) ≡ le
 length-steps [] = refl
 length-steps (t ∷ ts) = let e = length-steps ts in omega arith
 
-abbrev ran_to : table.State → Option table.State
+abbrev ran_to : table.TableState → Option table.TableState
 ran_to u = Some u
 
-same_table : (a b : table.State) → ran_to a ≡ ran_to b → a ≡ b
+same_table : (a b : table.TableState) → ran_to a ≡ ran_to b → a ≡ b
 same_table a b e = cc
 
 -- a table keeps its columns
-kept : (n : ℕ) (ps : List TokenAt) (v : table.State) → laws.run (columns n) ps ≡ Some v
+kept : (n : ℕ) (ps : List TokenAt) (v : table.TableState) → laws.run (columns n) ps ≡ Some v
     → table.is_row_start v ≡ true → length v.threads ≡ n + 1
 kept n ps v e row =
     let r = table_complete [] ps [] n (table_sound n ps v e row) in
     let same = same_table r.after v (sym r.by ∙ e) in
-    ap (λ (u : table.State). length u.threads) (sym same) ∙ sym (length-steps r.after.threads)
+    ap (λ (u : table.TableState). length u.threads) (sym same) ∙ sym (length-steps r.after.threads)
     ∙ ap (λ (l : List (List Step)). length l) r.meant
     ∙ length-meaning 0 (n + 1) (table_sound n ps v e row).rows
 
@@ -118,35 +118,35 @@ IsHeader true k ts = IsNames k ts
 -- ---- the rows
 
 module _ (name : List ℕ) (block : init.Block) where
-  abbrev pub draft_at : table.State → Draft
+  abbrev pub draft_at : table.TableState → Draft
   draft_at u = early name block u []
 
-  abbrev pub rows_at : Stage → table.State → State
+  abbrev pub rows_at : Stage → table.TableState → TextState
   rows_at g u = test_at g text.Rows (draft_at u)
 
-  abbrev row_step : Stage → table.State → TokenAt → List TokenAt → Option Next → TextResult
+  abbrev row_step : Stage → table.TableState → TokenAt → List TokenAt → Option Next → TextResult
   row_step g u p ps o =
       and_then (with_offset p.offset (stepped (rows_at g u) p.token o)) (λ x. run x ps)
 
   -- the test is still within the table
-  record Within (g : Stage) (u : table.State) (ps : List TokenAt) (s : State) : Type 0 where
-    reached : table.State
+  record Within (g : Stage) (u : table.TableState) (ps : List TokenAt) (s : TextState) : Type 0 where
+    reached : table.TableState
     by : laws.run u ps ≡ Some reached
     same : s ≡ rows_at (stage_after g (tokens_of ps)) reached
 
   -- the table has ended before some token
-  record Behind (g : Stage) (u : table.State) (ps : List TokenAt) (s : State) : Type 0 where
+  record Behind (g : Stage) (u : table.TableState) (ps : List TokenAt) (s : TextState) : Type 0 where
     before : List TokenAt
     token : TokenAt
     behind : List TokenAt
-    reached : table.State
+    reached : table.TableState
     whole : ps ≡ before ++ token ∷ behind
     by : laws.run u before ≡ Some reached
     row : table.is_row_start reached ≡ true
     on : row_step (stage_after g (tokens_of before)) reached token behind
         (text.next_at (draft_at reached) (text.tail_start token.token)) ≡ Ok s
 
-  within_on : (g : Stage) (u v : table.State) (p : TokenAt) (ps : List TokenAt) (s : State)
+  within_on : (g : Stage) (u v : table.TableState) (p : TokenAt) (ps : List TokenAt) (s : TextState)
       → table.step u p.token p.offset ≡ Some v
       → Within (after g p.token) v ps s ⊎ Behind (after g p.token) v ps s
       → Within g u (p ∷ ps) s ⊎ Behind g u (p ∷ ps) s
@@ -168,7 +168,7 @@ module _ (name : List ℕ) (block : init.Block) where
         on = r.on;
       })
 
-  rows_pass : (ps : List TokenAt) (u : table.State) (g : Stage) (s : State)
+  rows_pass : (ps : List TokenAt) (u : table.TableState) (g : Stage) (s : TextState)
       → run (rows_at g u) ps ≡ Ok s → Within g u ps s ⊎ Behind g u ps s
   rows_pass [] u g s e =
       let same : rows_at g u ≡ s = same_state _ _ e in
@@ -177,9 +177,9 @@ module _ (name : List ℕ) (block : init.Block) where
       by_tail (table.is_row_start u && begins_tail p.token) refl e
       (λ v k. rows_pass ps v (after g p.token) s k)
     where
-      by_step : (o : Option table.State) → table.step u p.token p.offset ≡ o
+      by_step : (o : Option table.TableState) → table.step u p.token p.offset ≡ o
           → row_step g u p ps (text.table_result (draft_at u) text.Rows o) ≡ Ok s
-          → ((v : table.State) → run (rows_at (after g p.token) v) ps ≡ Ok s
+          → ((v : table.TableState) → run (rows_at (after g p.token) v) ps ≡ Ok s
           → Within (after g p.token) v ps s ⊎ Behind (after g p.token) v ps s)
           → Within g u (p ∷ ps) s ⊎ Behind g u (p ∷ ps) s
       by_step None c k later = absurd (not_both _ _ k)
@@ -189,7 +189,7 @@ module _ (name : List ℕ) (block : init.Block) where
           → row_step g u p ps (if b then text.next_at (draft_at u) (text.tail_start p.token)
           else text.table_result (draft_at u) text.Rows (table.step u p.token p.offset))
           ≡ Ok s
-          → ((v : table.State) → run (rows_at (after g p.token) v) ps ≡ Ok s
+          → ((v : table.TableState) → run (rows_at (after g p.token) v) ps ≡ Ok s
           → Within (after g p.token) v ps s ⊎ Behind (after g p.token) v ps s)
           → Within g u (p ∷ ps) s ⊎ Behind g u (p ∷ ps) s
       by_tail true c k later =
@@ -206,7 +206,7 @@ module _ (name : List ℕ) (block : init.Block) where
       by_tail false c k later = by_step (table.step u p.token p.offset) refl k later
 
   -- a token that the table takes ends no table
-  row_goes : (u v : table.State) (t : Token) (offset : ℕ) → table.step u t offset ≡ Some v
+  row_goes : (u v : table.TableState) (t : Token) (offset : ℕ) → table.step u t offset ≡ Some v
       → text.row_read (draft_at u) t offset ≡ Some (record { part = text.Rows; draft = draft_at v })
   row_goes u v t offset e = choose (table.is_row_start u && begins_tail t) refl
     where
@@ -220,17 +220,17 @@ module _ (name : List ℕ) (block : init.Block) where
           absurd (none-some v (sym none ∙ e))
       choose false c = ap (text.table_result (draft_at u) text.Rows) e
 
-  rows_run : (ps : List TokenAt) (u v : table.State) (g : Stage) → laws.run u ps ≡ Some v
+  rows_run : (ps : List TokenAt) (u v : table.TableState) (g : Stage) → laws.run u ps ≡ Some v
       → run (rows_at g u) ps ≡ Ok (rows_at (stage_after g (tokens_of ps)) v)
   rows_run [] u v g e =
       let same : u ≡ v = same_Some u v e in
-      ap (λ (x : table.State). Ok (rows_at g x)) same
+      ap (λ (x : table.TableState). Ok (rows_at g x)) same
   rows_run (p ∷ ps) u v g e =
       by_step (table.step u p.token p.offset) refl e (λ w k. rows_run ps w v (after g p.token) k)
     where
-      by_step : (o : Option table.State) → table.step u p.token p.offset ≡ o
+      by_step : (o : Option table.TableState) → table.step u p.token p.offset ≡ o
           → then_on (λ x. laws.run x ps) o ≡ Some v
-          → ((w : table.State) → laws.run w ps ≡ Some v
+          → ((w : table.TableState) → laws.run w ps ≡ Some v
           → run (rows_at (after g p.token) w) ps
           ≡ Ok (rows_at (stage_after (after g p.token) (tokens_of ps)) v))
           → run (rows_at g u) (p ∷ ps) ≡ Ok (rows_at (stage_after g (tokens_of (p ∷ ps))) v)
@@ -263,7 +263,7 @@ module _ (name : List ℕ) (block : init.Block) where
         whole = ap (λ (l : List Token). l ++ us) x.whole ∙ rows-append x.rows [] us;
       }
 
-  rows_begin : (n : ℕ) → n + 1 < 18446744073709551616 → (ps : List TokenAt) (g : Stage) (s : State)
+  rows_begin : (n : ℕ) → n + 1 < 18446744073709551616 → (ps : List TokenAt) (g : Stage) (s : TextState)
       → run (rows_at g (columns n)) ps ≡ Ok s → Begins (IsRows n) (tokens_of ps)
   rows_begin n few ps g s e = by_pass (rows_pass ps (columns n) g s e)
     where
@@ -295,7 +295,7 @@ module _ (name : List ℕ) (block : init.Block) where
   pub record TakesBody (n : ℕ) (pre ps : List TokenAt) (x : IsRows n (tokens_of ps)) (g : Stage)
       : Type 0 where
     pub stage : Stage
-    pub reached : table.State
+    pub reached : table.TableState
     pub by : run (rows_at g (columns n)) ps
         ≡ Ok (test_at stage text.Done (with_all name block reached
         (map place_meaning (members x.tail.observed)) x.tail.quantifier
@@ -338,7 +338,7 @@ module _ (name : List ℕ) (block : init.Block) where
 
   -- ---- the header
 
-  abbrev pub names : ℕ → table.State
+  abbrev pub names : ℕ → table.TableState
   names zero = table.start
   names (suc k) = table.widened (names k)
 
@@ -349,9 +349,9 @@ module _ (name : List ℕ) (block : init.Block) where
   length-names : (k : ℕ) → length (names k).threads ≡ k
   length-names zero = refl
   length-names (suc n) =
-      ap (λ (u : table.State). length u.threads) (sym (names_are n)) ∙ columns-length n ∙ add-one n
+      ap (λ (u : table.TableState). length u.threads) (sym (names_are n)) ∙ columns-length n ∙ add-one n
 
-  abbrev pub header_at : Bool → Stage → ℕ → State
+  abbrev pub header_at : Bool → Stage → ℕ → TextState
   header_at false g k = test_at g text.WantsColumn (draft_at (names k))
   header_at true g k = test_at g text.HasColumn (draft_at (names (suc k)))
 
@@ -366,7 +366,7 @@ module _ (name : List ℕ) (block : init.Block) where
       let a = few_names k few in
       record { rest = tokens.Word (column_name k) ∷ a.rest; text = one_name k a.rest a.text }
 
-  pub header_begins : (ps : List TokenAt) (has : Bool) (k : ℕ) (g : Stage) (s : State)
+  pub header_begins : (ps : List TokenAt) (has : Bool) (k : ℕ) (g : Stage) (s : TextState)
       → k + length ps + 1 < 18446744073709551616 → run (header_at has g k) ps ≡ Ok s
       → Begins (IsHeader has k) (tokens_of ps)
   header_begins [] has k g s few e =
@@ -404,7 +404,7 @@ module _ (name : List ℕ) (block : init.Block) where
           record { rest = b.rest; text = next_name k (tokens_of ps ++ b.rest) b.text }
       by_part true (tokens.Mark marks.Semicolon) n l later =
           let g' = after g (tokens.Mark marks.Semicolon) in
-          let b = rows_begin k (let h : k + 1 < 18446744073709551616 = omega (arith, few) in h) ps g' s (ap (λ (u : table.State). run (rows_at g' u) ps) (names_are k) ∙ l) in
+          let b = rows_begin k (let h : k + 1 < 18446744073709551616 = omega (arith, few) in h) ps g' s (ap (λ (u : table.TableState). run (rows_at g' u) ps) (names_are k) ∙ l) in
           record { rest = b.rest; text = last_name k (tokens_of ps ++ b.rest) b.text }
       by_part true t n l later = absurd (not_both _ _ l)
 
@@ -456,7 +456,7 @@ module _ (name : List ℕ) (block : init.Block) where
             ap
             (λ (x : Token).
             run (header_at true g k) (record { token = x; offset = p.offset } ∷ [])) t
-            ∙ ap (λ (u : table.State). Ok (rows_at g' u)) (sym (names_are k))
+            ∙ ap (λ (u : table.TableState). Ok (rows_at g' u)) (sym (names_are k))
             ∙ ap (λ (j : ℕ). Ok (rows_at g' (columns j))) z;
       }
   names_led (suc m) k [] behind g e = absurd (no_first e)

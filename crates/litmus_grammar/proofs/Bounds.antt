@@ -6,10 +6,10 @@ use Rattle.litmus_tokens.specs.declared.stage.Stage.{Stage}
 use Rattle.litmus_tokens.specs.declared.token.Token.{Token}
 use Rattle.litmus_tokens.specs.declared.token.Token.TheVariants as tokens
 use Rattle.litmus_tokens.specs.declared.token.Mark.TheVariants as marks
-use Rattle.litmus_tokens.specs.declared.lexer.Front.{Front}
-use Rattle.litmus_tokens.specs.declared.lexer.Front.TheVariants.{Layout, Lexeme}
-use Rattle.litmus_tokens.specs.Lexer.{front}
-use Rattle.litmus_tokens.specs.Texts.{TokenAt, after_front, tokens_from, lexing, is_end, begins_tail}
+use Rattle.litmus_tokens.specs.declared.lexer.NextLexeme.{NextLexeme}
+use Rattle.litmus_tokens.specs.declared.lexer.NextLexeme.TheVariants.{Layout, Lexeme}
+use Rattle.litmus_tokens.specs.Lexer.{first_lexeme}
+use Rattle.litmus_tokens.specs.Texts.{TokenAt, after_lexeme, tokens_from, lexing, is_end, begins_tail}
 use Rattle.litmus_tokens.specs.Words.{is_test_name, names_column}
 use Rattle.text_values.specs.declared.test.InitEntry.{InitEntry}
 use Rattle.text_values.specs.declared.test.Place.{Place}
@@ -20,10 +20,10 @@ use Rattle.litmus_tokens.specs.declared.place.PlaceExpectation.TheVariants as pl
 use Rattle.litmus_tokens.specs.declared.place.PlaceStep.{PlaceStep}
 use Rattle.litmus_tokens.specs.declared.place.PlaceStep.TheVariants as place_steps
 use Rattle.litmus_tokens.specs.Conditions.{limits}
-use Rattle.litmus_tokens.specs.PlaceMachine.{place_step, value_read, is_there}
+use Rattle.litmus_tokens.specs.PlaceMachine.{place_step, value_read, has_thread}
 use Rattle.litmus_tokens.specs.ConditionMachine as condition
 use Rattle.litmus_table.specs.Machine as table
-use Rattle.litmus_table.specs.Within.{AreThreadsUpTo}
+use Rattle.litmus_table.specs.Bounds.{AreThreadsUpTo}
 use Rattle.litmus_table.proofs.Places.{expectation_within, widened_within}
 use Rattle.litmus_grammar.specs.declared.parts.TextKind.{TextKind}
 use Rattle.litmus_grammar.specs.declared.parts.TextKind.TheVariants as kinds
@@ -34,7 +34,7 @@ use Rattle.litmus_grammar.specs.declared.parts.InitExpectation.TheVariants as ex
 use Rattle.litmus_grammar.specs.InitMachine as init
 use Rattle.litmus_grammar.specs.InitMachine.{Block, Did, missing, lacks_thread}
 use Rattle.litmus_grammar.specs.TextMachine as text
-use Rattle.litmus_grammar.specs.TextMachine.{Part, Draft, Next, State, with_name, at, next_at, stepped, and_then, run, start, nothing, first_stage}
+use Rattle.litmus_grammar.specs.TextMachine.{Part, Draft, Next, TextState, with_name, at, next_at, stepped, and_then, run, start, nothing, first_stage}
 use Rattle.litmus_grammar.specs.Kept.{AreAtMost, AreDraftUpTo, StandsUpTo}
 
 pushed : (n p : ℕ) (ps : List ℕ) → p ≤ n → AreAtMost n ps → AreAtMost n (ps ++ p ∷ [])
@@ -151,8 +151,8 @@ module _ (n p : ℕ) (le : p ≤ n) (kind : TextKind) (h : Draft) (k : AreDraftU
   init_kept (Some d) w = (w, k.1)
   init_kept None w = tt
 
-  table_kept : (q : Part) (o : Option table.State)
-      → ((s : table.State) → o ≡ Some s → AreThreadsUpTo n s.threads)
+  table_kept : (q : Part) (o : Option table.TableState)
+      → ((s : table.TableState) → o ≡ Some s → AreThreadsUpTo n s.threads)
       → InNext n (text.table_result h q o)
   table_kept q (Some s) f = (k.0, f s refl)
   table_kept q None f = tt
@@ -179,7 +179,7 @@ module _ (n p : ℕ) (le : p ≤ n) (kind : TextKind) (h : Draft) (k : AreDraftU
 
   starts_kept : (threads : ℕ) (t : Token) → InNext n (text.item_start threads h t)
   starts_kept threads t =
-      either_way (is_there threads t) (text.item_result h (place_step places.Begins t)) None
+      either_way (has_thread threads t) (text.item_result h (place_step places.Begins t)) None
       (item_result_kept (place_step places.Begins t)) tt
 
   next_kept : (threads : ℕ) (t : Token) → InNext n (text.next_item kind threads h t)
@@ -190,10 +190,10 @@ module _ (n p : ℕ) (le : p ≤ n) (kind : TextKind) (h : Draft) (k : AreDraftU
       → InNext n (text.item_read kind threads h expected t)
   item_kept threads items.WantsFirst t = starts_kept threads t
   item_kept threads items.WantsNext t = next_kept threads t
-  item_kept threads (items.Within expected) t = item_result_kept (place_step expected t)
+  item_kept threads (items.InItem expected) t = item_result_kept (place_step expected t)
   item_kept threads items.HasItem t = led (text.item_ended kind t)
 
-  proposition_kept : (q : Quantifier) (f : condition.StepResult)
+  proposition_kept : (q : Quantifier) (f : condition.ConditionStepResult)
       → InNext n (text.proposition_result h q f)
   proposition_kept q (condition.Goes fs used expected) = k
   proposition_kept q (condition.Ends a) = k
@@ -238,7 +238,7 @@ abbrev AreBefore : ℕ → List TokenAt → Type 0
 AreBefore n [] = Unit {0}
 AreBefore n (q ∷ qs) = (q.offset ≤ n) × AreBefore n qs
 
-run_kept : (n : ℕ) (s : State) (ps : List TokenAt) → AreBefore n ps → AreDraftUpTo n s.draft
+run_kept : (n : ℕ) (s : TextState) (ps : List TokenAt) → AreBefore n ps → AreDraftUpTo n s.draft
     → StandsUpTo n (run s ps)
 run_kept n s [] h k = k
 run_kept n s (q ∷ ps) h k =
@@ -247,7 +247,7 @@ run_kept n s (q ∷ ps) h k =
     (λ x j. run_kept n x ps h.1 j)
   where
     by_next : (o : Option Next) → InNext n o
-        → ((x : State) → AreDraftUpTo n x.draft → StandsUpTo n (run x ps))
+        → ((x : TextState) → AreDraftUpTo n x.draft → StandsUpTo n (run x ps))
         → StandsUpTo n (and_then (text.with_offset q.offset (stepped s q.token o)) (λ x. run x ps))
     by_next (Some x) j f = f _ j
     by_next None j f = h.0
@@ -259,15 +259,15 @@ tokens_before n s fresh skip offset [] le = (omega arith, tt)
 tokens_before n s fresh (suc skip) offset (b ∷ bs) le =
     tokens_before n s fresh skip (offset + 1) bs (omega arith)
 tokens_before n s fresh zero offset (b ∷ bs) le =
-    by_front (front s fresh (b ∷ bs)) (λ g f skip.
+    by_lexeme (first_lexeme s fresh (b ∷ bs)) (λ g f skip.
     tokens_before n g f skip (offset + 1) bs (omega arith))
   where
-    by_front : (f : Front)
+    by_lexeme : (f : NextLexeme)
         → ((g : Stage) (f : Bool) (skip : ℕ) → AreBefore n (tokens_from g f skip (offset + 1) bs))
-        → AreBefore n (after_front s fresh offset b f
+        → AreBefore n (after_lexeme s fresh offset b f
         (λ g f skip. tokens_from g f skip (offset + 1) bs))
-    by_front (Layout k) r = r _ _ _
-    by_front (Lexeme t k) r = (omega arith, r _ _ _)
+    by_lexeme (Layout k) r = r _ _ _
+    by_lexeme (Lexeme t k) r = (omega arith, r _ _ _)
 
 start_kept : (n : ℕ) (kind : TextKind) → AreDraftUpTo n (nothing kind)
 start_kept n kinds.Test = (tt, tt)
@@ -283,7 +283,7 @@ module _ (kind : TextKind) (threads : ℕ) (bytes : List ℕ) where
       (tokens_before (length bytes) (first_stage kind) false 0 0 bytes (omega arith))
       (start_kept (length bytes) kind)
 
-  kept : (s : State) → run (start kind threads) (lexing (first_stage kind) bytes) ≡ Ok s
+  kept : (s : TextState) → run (start kind threads) (lexing (first_stage kind) bytes) ≡ Ok s
       → AreDraftUpTo (length bytes) s.draft
   kept s h = subst (StandsUpTo (length bytes)) h all_kept
 
@@ -298,7 +298,7 @@ is_short bytes bounded = choose (cases_lt 65536 (length bytes))
     choose (inl lt) = absurd (bounded lt)
     choose (inr le) = le
 
-pub kept_short : (kind : TextKind) (threads : ℕ) (bytes : List ℕ) (s : State)
+pub kept_short : (kind : TextKind) (threads : ℕ) (bytes : List ℕ) (s : TextState)
     → (length bytes ≤ 65536 → run (start kind threads) (lexing (first_stage kind) bytes) ≡ Ok s)
     → (65536 < length bytes → ⊥) → AreDraftUpTo (length bytes) s.draft
 kept_short kind threads bytes s h bounded = kept kind threads bytes s (h (is_short bytes bounded))

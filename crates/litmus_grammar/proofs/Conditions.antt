@@ -19,7 +19,7 @@ use Rattle.text_values.specs.declared.test.Quantifier.{Quantifier}
 use Rattle.text_values.specs.declared.test.Quantifier.TheVariants.{Exists, NotExists, Forall}
 use Rattle.text_values.specs.TestValue.{Formula}
 use Rattle.litmus_tokens.specs.Conditions.{limits, formula_meaning, spelled, spelled_quantifier, IsConditionText}
-use Rattle.litmus_tokens.specs.ConditionMachine.{Frame, Expectation, Wants, StepResult, Goes, Ends, Refuses, proposition_step, whole_at, go_on, proposition}
+use Rattle.litmus_tokens.specs.ConditionMachine.{ConditionFrame, ConditionExpectation, Wants, ConditionStepResult, Goes, Ends, Refuses, proposition_step, whole_at, go_on, proposition}
 use Rattle.litmus_tokens.specs.ConditionLaws.{takes_on, takes, IsPropositionText}
 use Rattle.litmus_tokens.proofs.Sound.{sound}
 use Rattle.litmus_tokens.proofs.Complete.{complete}
@@ -28,7 +28,7 @@ use Rattle.litmus_table.specs.Machine as table
 use Rattle.litmus_grammar.specs.declared.parts.TextKind.{TextKind}
 use Rattle.litmus_grammar.specs.declared.parts.TextKind.TheVariants as kinds
 use Rattle.litmus_grammar.specs.TextMachine as text
-use Rattle.litmus_grammar.specs.TextMachine.{Part, Draft, State, TextResult, with_offset, and_then, stepped, proposition_result, with_condition, nothing, start, run, rule_at}
+use Rattle.litmus_grammar.specs.TextMachine.{Part, Draft, TextState, TextResult, with_offset, and_then, stepped, proposition_result, with_condition, nothing, start, run, rule_at}
 use Rattle.litmus_grammar.proofs.Equations.{no_first, same_first, same_others}
 use Rattle.litmus_grammar.proofs.Runs.{follows}
 use Rattle.litmus_grammar.proofs.Outcomes.{Reading, not_both}
@@ -39,7 +39,7 @@ pub tail_stays : (ts : List Token) → stage_after Tail ts ≡ Tail
 tail_stays [] = refl
 tail_stays (t ∷ ts) = tail_stays ts
 
-pub tail_says : (C : Token → Type 0) (kind : TextKind) (rows : table.State) (t : Token)
+pub tail_says : (C : Token → Type 0) (kind : TextKind) (rows : table.TableState) (t : Token)
     → RulingSays C Tail (ruling Tail t) (rule_at kind rows Tail t)
 tail_says C kind rows (tokens.Broken rule) = refl
 tail_says C kind rows (tokens.Word w) = choose (is_filter w)
@@ -52,23 +52,23 @@ tail_says C kind rows (tokens.Word w) = choose (is_filter w)
 tail_says C kind rows t = refl
 
 module _ (threads : ℕ) (few : threads < 18446744073709551616) where
-  abbrev standing : Stage → Part → Draft → State
+  abbrev standing : Stage → Part → Draft → TextState
   standing g p h =
       record { kind = kinds.Condition; threads = threads; stage = g; part = p; draft = h }
 
-  abbrev went_on : Stage → Quantifier → Draft → Token → ℕ → StepResult → TextResult
+  abbrev went_on : Stage → Quantifier → Draft → Token → ℕ → ConditionStepResult → TextResult
   went_on g q h t n f =
       with_offset n (stepped (standing g text.Done h) t (proposition_result h q f))
 
   -- ---- the proposition
 
-  done_takes : (g : Stage) (h : Draft) (ps : List TokenAt) (s : State)
+  done_takes : (g : Stage) (h : Draft) (ps : List TokenAt) (s : TextState)
       → run (standing g text.Done h) ps ≡ Ok s → are_none (tokens_of ps) ≡ true
   done_takes g h [] s e = refl
   done_takes g h (p ∷ ps) s e = absurd (not_both _ _ e)
 
-  prop_takes : (ps : List TokenAt) (g : Stage) (q : Quantifier) (fs : List Frame) (used : ℕ)
-      (expected : Expectation) (h : Draft) (s : State)
+  prop_takes : (ps : List TokenAt) (g : Stage) (q : Quantifier) (fs : List ConditionFrame) (used : ℕ)
+      (expected : ConditionExpectation) (h : Draft) (s : TextState)
       → run (standing g (text.Proposition q fs used expected) h) ps ≡ Ok s
       → takes limits threads fs used expected (tokens_of ps) ≡ true
   prop_takes [] g q fs used expected h s e = refl
@@ -76,9 +76,9 @@ module _ (threads : ℕ) (few : threads < 18446744073709551616) where
       by_result (proposition_step limits threads fs used expected p.token) e
       (λ gs u o k. prop_takes ps (after g p.token) q gs u o h s k)
     where
-      by_result : (f : StepResult)
+      by_result : (f : ConditionStepResult)
           → and_then (went_on g q h p.token p.offset f) (λ x. run x ps) ≡ Ok s
-          → ((gs : List Frame) (u : ℕ) (o : Expectation)
+          → ((gs : List ConditionFrame) (u : ℕ) (o : ConditionExpectation)
           → run (standing (after g p.token) (text.Proposition q gs u o) h) ps ≡ Ok s
           → takes limits threads gs u o (tokens_of ps) ≡ true)
           → takes_on (λ gs u o. takes limits threads gs u o (tokens_of ps)) (tokens_of ps) f ≡ true
@@ -86,7 +86,7 @@ module _ (threads : ℕ) (few : threads < 18446744073709551616) where
       by_result (Ends v) k later = done_takes (after g p.token) (with_condition h q v) ps s k
       by_result Refuses k later = absurd (not_both _ _ k)
 
-  done_ends : (g : Stage) (h : Draft) (ps : List TokenAt) (s : State) (v : Formula)
+  done_ends : (g : Stage) (h : Draft) (ps : List TokenAt) (s : TextState) (v : Formula)
       → run (standing g text.Done h) ps ≡ Ok s → whole_at v (tokens_of ps) ≡ Some v
   done_ends g h [] s v e = refl
   done_ends g h (p ∷ ps) s v e = absurd (not_both _ _ e)
@@ -99,8 +99,8 @@ module _ (threads : ℕ) (few : threads < 18446744073709551616) where
   done_in (Ok s) = is_done s.part
   done_in (Err e) = false
 
-  prop_ends : (ps : List TokenAt) (g : Stage) (q : Quantifier) (fs : List Frame) (used : ℕ)
-      (expected : Expectation) (h : Draft) (s : State)
+  prop_ends : (ps : List TokenAt) (g : Stage) (q : Quantifier) (fs : List ConditionFrame) (used : ℕ)
+      (expected : ConditionExpectation) (h : Draft) (s : TextState)
       → run (standing g (text.Proposition q fs used expected) h) ps ≡ Ok s → s.part ≡ text.Done
       → (v : Formula) × (proposition limits threads fs used expected (tokens_of ps) ≡ Some v)
   prop_ends [] g q fs used expected h s e d =
@@ -109,9 +109,9 @@ module _ (threads : ℕ) (few : threads < 18446744073709551616) where
       by_result (proposition_step limits threads fs used expected p.token) e
       (λ gs u o k. prop_ends ps (after g p.token) q gs u o h s k d)
     where
-      by_result : (f : StepResult)
+      by_result : (f : ConditionStepResult)
           → and_then (went_on g q h p.token p.offset f) (λ x. run x ps) ≡ Ok s
-          → ((gs : List Frame) (u : ℕ) (o : Expectation)
+          → ((gs : List ConditionFrame) (u : ℕ) (o : ConditionExpectation)
           → run (standing (after g p.token) (text.Proposition q gs u o) h) ps ≡ Ok s
           → (v : Formula) × (proposition limits threads gs u o (tokens_of ps) ≡ Some v))
           → (v : Formula)
@@ -121,14 +121,14 @@ module _ (threads : ℕ) (few : threads < 18446744073709551616) where
       by_result (Ends v) k later = (v, done_ends (after g p.token) (with_condition h q v) ps s v k)
       by_result Refuses k later = absurd (not_both _ _ k)
 
-  record IsAccepted (from : State) (ps : List TokenAt) (q : Quantifier) (v : Formula) : Type 0 where
-    state : State
+  record IsAccepted (from : TextState) (ps : List TokenAt) (q : Quantifier) (v : Formula) : Type 0 where
+    state : TextState
     by : run from ps ≡ Ok state
     quantifier : state.draft.quantifier ≡ q
     formula : state.draft.formula ≡ v
 
-  prop_runs : (ps : List TokenAt) (g : Stage) (q : Quantifier) (fs : List Frame) (used : ℕ)
-      (expected : Expectation) (h : Draft) (v : Formula)
+  prop_runs : (ps : List TokenAt) (g : Stage) (q : Quantifier) (fs : List ConditionFrame) (used : ℕ)
+      (expected : ConditionExpectation) (h : Draft) (v : Formula)
       → proposition limits threads fs used expected (tokens_of ps) ≡ Some v
       → IsAccepted (standing g (text.Proposition q fs used expected) h) ps q v
   prop_runs [] g q fs used expected h v e = absurd (none-some v e)
@@ -137,22 +137,22 @@ module _ (threads : ℕ) (few : threads < 18446744073709551616) where
       record { state = r.0; by = r.1; quantifier = r.2; formula = r.3 }
     where
       by_end : (w : Formula) (qs : List TokenAt) → whole_at w (tokens_of qs) ≡ Some v
-          → (s : State)
+          → (s : TextState)
           × (run (standing (after g p.token) text.Done (with_condition h q w)) qs ≡ Ok s)
           × (s.draft.quantifier ≡ q) × (s.draft.formula ≡ v)
       by_end w [] k =
           (standing (after g p.token) text.Done (with_condition h q w), refl, refl, same_Some w v k)
       by_end w (x ∷ qs) k = absurd (none-some v k)
 
-      by_result : (f : StepResult)
+      by_result : (f : ConditionStepResult)
           → go_on (λ gs u o. proposition limits threads gs u o (tokens_of ps)) (tokens_of ps) f
           ≡ Some v
-          → ((gs : List Frame) (u : ℕ) (o : Expectation)
+          → ((gs : List ConditionFrame) (u : ℕ) (o : ConditionExpectation)
           → proposition limits threads gs u o (tokens_of ps) ≡ Some v
-          → (s : State)
+          → (s : TextState)
           × (run (standing (after g p.token) (text.Proposition q gs u o) h) ps ≡ Ok s)
           × (s.draft.quantifier ≡ q) × (s.draft.formula ≡ v))
-          → (s : State) × (and_then (went_on g q h p.token p.offset f) (λ x. run x ps) ≡ Ok s)
+          → (s : TextState) × (and_then (went_on g q h p.token p.offset f) (λ x. run x ps) ≡ Ok s)
           × (s.draft.quantifier ≡ q) × (s.draft.formula ≡ v)
       by_result (Goes gs u o) k later = later gs u o k
       by_result (Ends w) k later = by_end w ps k
@@ -177,7 +177,7 @@ module _ (threads : ℕ) (few : threads < 18446744073709551616) where
   nothing_yet = nothing kinds.Condition
 
   -- where a text that is taken so far stands
-  data Standing (ps : List TokenAt) (s : State) : Type 0 where
+  data Standing (ps : List TokenAt) (s : TextState) : Type 0 where
     Before : tokens_of ps ≡ [] → s.part ≡ text.WantsQuantifier → Standing ps s
     AfterTilde : tokens_of ps ≡ tokens.Mark marks.Tilde ∷ [] → s.part ≡ text.AfterTilde
         → Standing ps s
@@ -192,7 +192,7 @@ module _ (threads : ℕ) (few : threads < 18446744073709551616) where
   part_in (Ok s) = s.part
   part_in (Err e) = text.Magic
 
-  word_stands : (g : Stage) (w : List ℕ) (n : ℕ) (ps : List TokenAt) (s : State) (a b : Bool)
+  word_stands : (g : Stage) (w : List ℕ) (n : ℕ) (ps : List TokenAt) (s : TextState) (a b : Bool)
       → bytes_eq w (codes "exists") ≡ a → bytes_eq w (codes "forall") ≡ b
       → and_then
       (with_offset n (stepped (standing g text.WantsQuantifier nothing_yet) (tokens.Word w)
@@ -208,7 +208,7 @@ module _ (threads : ℕ) (few : threads < 18446744073709551616) where
       (ap (λ (x : List ℕ). tokens.Word x ∷ tokens_of ps) (same_word w (codes "forall") eb)) e
   word_stands g w n ps s false false ea eb e = absurd (not_both _ _ e)
 
-  exists_stands : (g : Stage) (m n : ℕ) (w : List ℕ) (ps : List TokenAt) (s : State) (a : Bool)
+  exists_stands : (g : Stage) (m n : ℕ) (w : List ℕ) (ps : List TokenAt) (s : TextState) (a : Bool)
       → bytes_eq w (codes "exists") ≡ a
       → and_then
       (with_offset n (stepped (standing g text.AfterTilde nothing_yet) (tokens.Word w)
@@ -224,7 +224,7 @@ module _ (threads : ℕ) (few : threads < 18446744073709551616) where
       (same_word w (codes "exists") ea)) e
   exists_stands g m n w ps s false ea e = absurd (not_both _ _ e)
 
-  tilde_stands : (g : Stage) (m : ℕ) (ps : List TokenAt) (s : State)
+  tilde_stands : (g : Stage) (m : ℕ) (ps : List TokenAt) (s : TextState)
       → run (standing g text.AfterTilde nothing_yet) ps ≡ Ok s
       → Standing (record { token = tokens.Mark marks.Tilde; offset = m } ∷ ps) s
   tilde_stands g m [] s e = AfterTilde refl (sym (ap part_in e))
@@ -239,7 +239,7 @@ module _ (threads : ℕ) (few : threads < 18446744073709551616) where
       by_token (tokens.Word w) n k = exists_stands g m n w ps s (bytes_eq w (codes "exists")) refl k
       by_token t n k = absurd (not_both _ _ k)
 
-  stands : (g : Stage) (ps : List TokenAt) (s : State)
+  stands : (g : Stage) (ps : List TokenAt) (s : TextState)
       → run (standing g text.WantsQuantifier nothing_yet) ps ≡ Ok s → Standing ps s
   stands g [] s e = Before refl (sym (ap part_in e))
   stands g (p ∷ ps) s e = by_token p.token p.offset e
@@ -263,7 +263,7 @@ module _ (threads : ℕ) (few : threads < 18446744073709551616) where
   spelled_more NotExists ts us = refl
   spelled_more Forall ts us = refl
 
-  begins_by : (ps : List TokenAt) (s : State) → Standing ps s → Begins IsText (tokens_of ps)
+  begins_by : (ps : List TokenAt) (s : TextState) → Standing ps s → Begins IsText (tokens_of ps)
   begins_by ps s (Before e at_part) =
       let b = (takes_beginnings limits threads few []).0 refl in
       record { rest = tokens.Word (codes "exists") ∷ b.rest; text = subst (λ ts. IsText (ts ++ tokens.Word (codes "exists") ∷ b.rest)) (sym e) (to_text Exists b.rest b.text) }
@@ -275,7 +275,7 @@ module _ (threads : ℕ) (few : threads < 18446744073709551616) where
       record { rest = b.rest; text = subst IsText (sym (ap (λ ts. ts ++ b.rest) e ∙ spelled_more q (tokens_of qs) b.rest)) (to_text q (tokens_of qs ++ b.rest) b.text) }
 
   -- and with its end it is one
-  whole_by : (ps : List TokenAt) (s : State) → Standing ps s → s.part ≡ text.Done
+  whole_by : (ps : List TokenAt) (s : TextState) → Standing ps s → s.part ≡ text.Done
       → IsText (tokens_of ps)
   whole_by ps s (Before e at_part) d = absurd (false≢true (ap is_done (sym at_part ∙ d)))
   whole_by ps s (AfterTilde e at_part) d = absurd (false≢true (ap is_done (sym at_part ∙ d)))
@@ -286,13 +286,13 @@ module _ (threads : ℕ) (few : threads < 18446744073709551616) where
         text = sound limits threads few (tokens_of qs) w.0 w.1;
       }))
 
-  pub condition_whole : (ps : List TokenAt) (s : State)
+  pub condition_whole : (ps : List TokenAt) (s : TextState)
       → run (start kinds.Condition threads) ps ≡ Ok s → s.part ≡ text.Done → IsText (tokens_of ps)
   condition_whole ps s e d = whole_by ps s (stands Tail ps s e) d
 
   -- ---- each text is taken
 
-  abbrev first_draft : Quantifier → Stage → State
+  abbrev first_draft : Quantifier → Stage → TextState
   first_draft q g = standing g (text.proposition q) nothing_yet
 
   quantifier_runs : (q : Quantifier) (ps : List TokenAt) (ts : List Token)
@@ -336,7 +336,7 @@ module _ (threads : ℕ) (few : threads < 18446744073709551616) where
       )
 
   pub condition_taken : (ps : List TokenAt) (x : IsText (tokens_of ps))
-      → (s : State) × (run (start kinds.Condition threads) ps ≡ Ok s)
+      → (s : TextState) × (run (start kinds.Condition threads) ps ≡ Ok s)
       × (s.draft.quantifier ≡ x.quantifier) × (s.draft.formula ≡ formula_meaning x.condition)
   condition_taken ps x =
       let b = quantifier_runs x.quantifier ps (spelled x.condition (tokens.End ∷ [])) x.whole in

@@ -10,7 +10,7 @@ use Rattle.litmus_tokens.specs.declared.place.PlaceExpectation.TheVariants as pl
 use Rattle.litmus_tokens.specs.Conditions.{limits}
 use Rattle.litmus_tokens.specs.PlaceMachine.{place_step}
 use Rattle.litmus_tokens.specs.ConditionMachine as condition
-use Rattle.litmus_tokens.specs.ConditionMachine.{Frame}
+use Rattle.litmus_tokens.specs.ConditionMachine.{ConditionFrame}
 use Rattle.litmus_table.specs.declared.opcode.Want.{Want}
 use Rattle.litmus_table.specs.declared.opcode.Want.TheVariants as wants
 use Rattle.litmus_table.specs.Machine as table
@@ -21,7 +21,7 @@ use Rattle.litmus_grammar.specs.declared.parts.ItemExpectation.TheVariants as it
 use Rattle.litmus_grammar.specs.declared.parts.TextKind.{TextKind}
 use Rattle.litmus_grammar.specs.InitMachine as init
 use Rattle.litmus_grammar.specs.TextMachine as text
-use Rattle.litmus_grammar.specs.TextMachine.{Part, Draft, Next, State, TextResult, stepped, and_then, part_step, run}
+use Rattle.litmus_grammar.specs.TextMachine.{Part, Draft, Next, TextState, TextResult, stepped, and_then, part_step, run}
 use Rattle.litmus_grammar.proofs.Runs.{run-split}
 
 no_place : (expected : PlaceExpectation) → place_step expected End ≡ None
@@ -41,11 +41,11 @@ no_operand p (Some wants.Comma) = refl
 no_operand p (Some wants.Open) = refl
 no_operand p (Some wants.Close) = refl
 
-pub no_cell : (ts : List table.ThreadSteps) (c : ℕ) (expected : table.Expectation) (offset : ℕ)
+pub no_cell : (ts : List table.ThreadSteps) (c : ℕ) (expected : table.CellExpectation) (offset : ℕ)
     → table.expected_step ts c expected End offset ≡ None
 no_cell ts c table.Begins offset = refl
 no_cell ts c table.Labelled offset = refl
-no_cell ts c (table.Within p) offset =
+no_cell ts c (table.InInstruction p) offset =
     ap (λ (o : Option table.Pending). table.operand ts c o offset)
     (no_operand p (table.first_of p.wants))
 no_cell ts c (table.WantsLabel condition) offset = refl
@@ -58,7 +58,7 @@ IsDone (Some n) = n.part ≡ text.Done
 module _ (kind : TextKind) (given : ℕ) (h : Draft) (offset : ℕ) where
   no_row : (q : Part) → IsDone (text.table_result h q (table.step h.table End offset))
   no_row q =
-      subst (λ (o : Option table.State). IsDone (text.table_result h q o))
+      subst (λ (o : Option table.TableState). IsDone (text.table_result h q o))
       (sym (no_cell h.table.threads h.table.column h.table.expected offset)) tt
 
   row_done : (b : Bool)
@@ -88,11 +88,11 @@ module _ (kind : TextKind) (given : ℕ) (h : Draft) (offset : ℕ) where
       → IsDone (text.item_read kind threads h expected End)
   item_done threads items.WantsFirst = tt
   item_done threads items.WantsNext = tt
-  item_done threads (items.Within within) =
+  item_done threads (items.InItem within) =
       subst (λ o. IsDone (text.item_result h o)) (sym (no_place within)) tt
   item_done threads items.HasItem = tt
 
-  ended_done : (q : Quantifier) (p : List Frame × Formula)
+  ended_done : (q : Quantifier) (p : List ConditionFrame × Formula)
       → IsDone (text.proposition_result h q (condition.ended p))
   ended_done q ([], v) = refl
   ended_done q (f ∷ fs, v) = tt
@@ -102,8 +102,8 @@ module _ (kind : TextKind) (given : ℕ) (h : Draft) (offset : ℕ) where
   not_done q true = tt
   not_done q false = tt
 
-  proposition_done : (threads : ℕ) (q : Quantifier) (fs : List Frame) (used : ℕ)
-      (expected : condition.Expectation)
+  proposition_done : (threads : ℕ) (q : Quantifier) (fs : List ConditionFrame) (used : ℕ)
+      (expected : condition.ConditionExpectation)
       → IsDone (text.proposition_result h q (condition.proposition_step limits threads fs used
       expected End))
   proposition_done threads q fs used condition.Wants = tt
@@ -144,12 +144,12 @@ abbrev part_in : TextResult → Part
 part_in (Ok x) = x.part
 part_in (Err d) = text.Done
 
-pub ends_done : (s s' : State) (ps : List TokenAt) (n : ℕ)
+pub ends_done : (s s' : TextState) (ps : List TokenAt) (n : ℕ)
     → run s (ps ++ record { token = End; offset = n } ∷ []) ≡ Ok s' → s'.part ≡ text.Done
 ends_done s s' ps n e =
     by_run (run s ps) (sym (run-split s ps (record { token = End; offset = n } ∷ [])) ∙ e)
   where
-    by_end : (x : State) (o : Option Next) → IsDone o
+    by_end : (x : TextState) (o : Option Next) → IsDone o
         → and_then (text.with_offset n (stepped x End o)) (λ y. Ok y) ≡ Ok s' → s'.part ≡ text.Done
     by_end x (Some y) d k = sym (ap part_in k) ∙ d
     by_end x None d k = absurd cc

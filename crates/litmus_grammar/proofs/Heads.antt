@@ -23,7 +23,7 @@ use Rattle.litmus_grammar.specs.declared.parts.TextKind.TheVariants as kinds
 use Rattle.litmus_grammar.specs.Grammar.{spelled_init, members, TestTree, spelled_text, spelled_keylines, spelled_head, spelled_observed, spelled_condition, spelled_test, IsTestTree}
 use Rattle.litmus_grammar.specs.InitMachine as init
 use Rattle.litmus_grammar.specs.TextMachine as text
-use Rattle.litmus_grammar.specs.TextMachine.{Part, State, with_offset, and_then, stepped, start, run}
+use Rattle.litmus_grammar.specs.TextMachine.{Part, TextState, with_offset, and_then, stepped, start, run}
 use Rattle.litmus_grammar.specs.Texts.{before_entries, before_rows}
 use Rattle.litmus_grammar.proofs.Bodies.{IsRows, any_header}
 use Rattle.litmus_grammar.proofs.Blocks.{IsBody, Opened, IsOne, IsBroken, brace_at, block_at, in_block, block_begins, body_led}
@@ -37,13 +37,13 @@ use Rattle.litmus_grammar.proofs.Splits.{split}
 use Rattle.litmus_grammar.proofs.Tails.{early, with_all, done_behind}
 use Rattle.litmus_grammar.proofs.InitLeft.{more}
 
-abbrev pub in_head : List ℕ → Stage → Part → State
+abbrev pub in_head : List ℕ → Stage → Part → TextState
 in_head name g p = test_at g p (early name init.start table.start [])
 
 -- ---- what is taken, where it is known behind the brace
 
-module _ (X : List Token → Type 0) (Q : State → Type 0) (any : Begins X [])
-    (from : (name : List ℕ) (ps : List TokenAt) (n : ℕ) (g : Stage) (s : State)
+module _ (X : List Token → Type 0) (Q : TextState → Type 0) (any : Begins X [])
+    (from : (name : List ℕ) (ps : List TokenAt) (n : ℕ) (g : Stage) (s : TextState)
     → length ps + 1 < 18446744073709551616 → run (block_at name g) ps ≡ Ok s → Q s
     → Begins X (tokens_of (brace_at n ∷ ps))) where
   abbrev pub Keys : List Token → Type 0
@@ -62,7 +62,7 @@ module _ (X : List Token → Type 0) (Q : State → Type 0) (any : Begins X [])
   any_head true = record { rest = any.rest; text = (false, 0, any.rest, any.text, refl) }
   any_head false = record { rest = any.rest; text = (0, any.rest, any.text, refl) }
 
-  head_begins : (ps : List TokenAt) (b : Bool) (name : List ℕ) (g : Stage) (s : State)
+  head_begins : (ps : List TokenAt) (b : Bool) (name : List ℕ) (g : Stage) (s : TextState)
       → length ps < 18446744073709551616 → run (in_head name g (text.Head b)) ps ≡ Ok s → Q s
       → Begins (HeadOf b) (tokens_of ps)
   head_begins [] b name g s few e q = any_head b
@@ -123,7 +123,7 @@ module _ (X : List Token → Type 0) (Q : State → Type 0) (any : Begins X [])
   any_lines = any_head true
 
   line_end : (name : List ℕ) → is_test_name name ≡ true
-      → (ps : List TokenAt) (g : Stage) (s : State) → length ps < 18446744073709551616
+      → (ps : List TokenAt) (g : Stage) (s : TextState) → length ps < 18446744073709551616
       → run (in_head name g text.TitleEnd) ps ≡ Ok s → Q s
       → Begins IsHeaded (tokens.Word (codes "PPC") ∷ tokens.Word name ∷ tokens_of ps)
   line_end name i [] g s few e q =
@@ -142,7 +142,7 @@ module _ (X : List Token → Type 0) (Q : State → Type 0) (any : Begins X [])
           (let h : length ps < 18446744073709551616 = omega (arith, few) in h) k q)
       by_token t n k = absurd (not_both _ _ k)
 
-  title : (ps : List TokenAt) (g : Stage) (s : State) → length ps < 18446744073709551616
+  title : (ps : List TokenAt) (g : Stage) (s : TextState) → length ps < 18446744073709551616
       → run (in_head [] g text.Title) ps ≡ Ok s → Q s
       → Begins IsHeaded (tokens.Word (codes "PPC") ∷ tokens_of ps)
   title [] g s few e q =
@@ -178,7 +178,7 @@ module _ (X : List Token → Type 0) (Q : State → Type 0) (any : Begins X [])
       by_token (tokens.Word w) n k = by_word w n (is_test_name w) refl k
       by_token t n k = absurd (not_both _ _ k)
 
-  pub magic : (ps : List TokenAt) (g : Stage) (s : State) → length ps < 18446744073709551616
+  pub magic : (ps : List TokenAt) (g : Stage) (s : TextState) → length ps < 18446744073709551616
       → run (in_head [] g text.Magic) ps ≡ Ok s → Q s → Begins IsHeaded (tokens_of ps)
   magic [] g s few e q =
       let r = any_lines in
@@ -359,7 +359,7 @@ head_led name t k (a ∷ b ∷ c ∷ ps) behind i e =
 pub record TakesTest (ps : List TokenAt) (t : TestTree) : Type 0 where
   pub stage : Stage
   pub block : init.Block
-  pub reached : table.State
+  pub reached : table.TableState
   pub by : run (start kinds.Test 0) ps
       ≡ Ok (test_at stage text.Done (with_all t.name block reached
       (map place_meaning (members t.observed)) t.quantifier (formula_meaning t.condition)))
@@ -468,10 +468,10 @@ module _ (t : TestTree) (fine : IsTestTree limits t) (few : t.others + 1 < 18446
 
 -- ---- what is taken to its end is a test
 
-abbrev pub IsEnded : State → Type 0
+abbrev pub IsEnded : TextState → Type 0
 IsEnded s = s.part ≡ text.Done
 
-pub body_from : (name : List ℕ) (ps : List TokenAt) (n : ℕ) (g : Stage) (s : State)
+pub body_from : (name : List ℕ) (ps : List TokenAt) (n : ℕ) (g : Stage) (s : TextState)
     → length ps + 1 < 18446744073709551616 → run (block_at name g) ps ≡ Ok s → IsEnded s
     → Begins IsBody (tokens_of (brace_at n ∷ ps))
 body_from name ps n g s few e d = by_opened (block_begins name ps n g s few e)
@@ -552,7 +552,7 @@ nothing_more : (ts : List Token) → anywhere ts ≡ [] → ts ≡ []
 nothing_more [] e = refl
 nothing_more (t ∷ ts) e = absurd (no_first (sym e))
 
-pub test_whole : (ps : List TokenAt) (s : State) → length ps < 18446744073709551616
+pub test_whole : (ps : List TokenAt) (s : TextState) → length ps < 18446744073709551616
     → run (start kinds.Test 0) ps ≡ Ok s → s.part ≡ text.Done → IsFewTest (tokens_of ps)
 test_whole ps s few e d =
     let b = magic IsBody IsEnded any_body body_from ps stages.Magic s few e d in
@@ -562,7 +562,7 @@ test_whole ps s few e d =
     let r = test_led x.tree x.fine x.few all (words ∙ x.whole) in
     let on : run s (anywhere b.rest) ≡ Ok _ = sym (run-append (start kinds.Test 0) s ps (anywhere b.rest) e) ∙ r.by in
     let at_end : s ≡ text_at s.kind s.threads s.stage text.Done s.draft = ap (λ (p : Part). text_at s.kind s.threads s.stage p s.draft) d in
-    let none = nothing_more b.rest (done_behind s.kind s.threads s.stage s.draft (anywhere b.rest) _ (ap (λ (y : State). run y (anywhere b.rest)) (sym at_end) ∙ on)).0 in
+    let none = nothing_more b.rest (done_behind s.kind s.threads s.stage s.draft (anywhere b.rest) _ (ap (λ (y : TextState). run y (anywhere b.rest)) (sym at_end) ∙ on)).0 in
     subst IsFewTest (ap (λ (l : List Token). tokens_of ps ++ l) none ∙ append-nil (tokens_of ps)) x
 
 -- ---- no more columns than tokens

@@ -24,7 +24,7 @@ use Rattle.litmus_grammar.specs.InitMachine as init
 use Rattle.litmus_grammar.specs.InitMachine.{Block, has_key, with_key, with_start, with_entry, and_place, valued}
 use Rattle.litmus_grammar.specs.Laws.{entry_kept, AreStarts}
 use Rattle.litmus_grammar.specs.TextMachine as text
-use Rattle.litmus_grammar.specs.TextMachine.{Part, Next, State, with_offset, and_then, stepped, part_step, start, run, init_result}
+use Rattle.litmus_grammar.specs.TextMachine.{Part, Next, TextState, with_offset, and_then, stepped, part_step, start, run, init_result}
 use Rattle.litmus_grammar.proofs.Equations.{no_first, same_first, same_others}
 use Rattle.litmus_grammar.proofs.InitKeys.{key_of, Keeps, keeps_none, keeps_more, added_new}
 use Rattle.litmus_grammar.proofs.InitLeft.{closing, draft, standing}
@@ -68,10 +68,10 @@ module _ (threads : ℕ) where
   record Leads (g : Stage) (p : Part) (b : Block) (ps : List TokenAt) (q : Part) (c : Block)
       (us ts : List Token) : Type 0 where
     stage : Stage
-    front : List TokenAt
+    prefix : List TokenAt
     behind : List TokenAt
-    split : ps ≡ front ++ behind
-    are : tokens_of front ≡ us
+    split : ps ≡ prefix ++ behind
+    are : tokens_of prefix ≡ us
     rest : tokens_of behind ≡ ts
     by : run (standing threads g p b) ps ≡ run (standing threads stage q c) behind
 
@@ -83,13 +83,13 @@ module _ (threads : ℕ) where
       let m = f l.stage l.behind l.rest in
       record {
         stage = m.stage;
-        front = l.front ++ m.front;
+        prefix = l.prefix ++ m.prefix;
         behind = m.behind;
         split =
-            l.split ∙ ap (λ (x : List TokenAt). l.front ++ x) m.split
-            ∙ sym (append_assoc l.front m.front m.behind);
+            l.split ∙ ap (λ (x : List TokenAt). l.prefix ++ x) m.split
+            ∙ sym (append_assoc l.prefix m.prefix m.behind);
         are =
-            tokens_of-append l.front m.front ∙ ap (λ (x : List Token). x ++ tokens_of m.front) l.are
+            tokens_of-append l.prefix m.prefix ∙ ap (λ (x : List Token). x ++ tokens_of m.prefix) l.are
             ∙ ap (λ (x : List Token). us ++ x) m.are;
         rest = m.rest;
         by = l.by ∙ m.by;
@@ -105,7 +105,7 @@ module _ (threads : ℕ) where
       let same : x.token ≡ t = same_first e in
       record {
         stage = after g t;
-        front = x ∷ [];
+        prefix = x ∷ [];
         behind = ps;
         split = refl;
         are = ap (λ (u : Token). u ∷ []) same;
@@ -269,7 +269,7 @@ module _ (threads : ℕ) where
 
   record IsAccepted (all : List TokenAt) (so_far : List Token) (g : Stage) (p : Part) (b : Block)
       (ps : List TokenAt) (es : List EntryTree) : Type 0 where
-    state : State
+    state : TextState
     by : run (standing threads g p b) ps ≡ Ok state
     entries : state.draft.init.entries ≡ b.entries ++ map entry_kept es
     starts : List ℕ
@@ -315,13 +315,13 @@ module _ (threads : ℕ) where
   entry_then e os closed others g b before qs [] keeps fine k = absurd (no_place e.place _ k)
   entry_then e os closed others g b before qs (x ∷ ps) keeps fine k =
       let l = entry_taken g b before e x ps (spelled_others spelled_entry closed os closing) keeps fine.0 fine.1 fine.2 k in
-      let rs = qs ++ l.front in
+      let rs = qs ++ l.prefix in
       let c = entered b x.offset e in
       let r = others l.stage c (written_place e.place ∷ before) rs l.behind (keeps_more b.named before (written_place e.place) keeps) fine.3 l.rest in
-      let all_is : rs ++ l.behind ≡ qs ++ x ∷ ps = append_assoc qs l.front l.behind ∙ ap (λ (y : List TokenAt). qs ++ y) (sym l.split) in
+      let all_is : rs ++ l.behind ≡ qs ++ x ∷ ps = append_assoc qs l.prefix l.behind ∙ ap (λ (y : List TokenAt). qs ++ y) (sym l.split) in
       let far_is : tokens_of rs ++ semicolon ≡ tokens_of qs ++ spelled_entry e semicolon
       =
-      ap (λ (y : List Token). y ++ semicolon) (tokens_of-append qs l.front
+      ap (λ (y : List Token). y ++ semicolon) (tokens_of-append qs l.prefix
       ∙ ap (λ (y : List Token). tokens_of qs ++ y) l.are)
       ∙ append_assoc (tokens_of qs) (spelled_entry e []) semicolon
       ∙ ap (λ (y : List Token). tokens_of qs ++ y) (entry_more e semicolon) in
@@ -349,10 +349,10 @@ module _ (threads : ℕ) where
       record { state = r.state; by = l.by ∙ r.by; entries = r.entries; starts = r.starts; starts_are = r.starts_are; stand = r.stand }
   others_taken (o ∷ os) closed g b before qs ps keeps fine k =
       let l = one g (text.Init expectations.HasEntry) (text.Init expectations.WantsEntry) b b (tokens.Mark marks.Semicolon) ps (spelled_entry o (spelled_others spelled_entry closed os closing)) (λ n. refl) k in
-      let rs = qs ++ l.front in
+      let rs = qs ++ l.prefix in
       let r = entry_then o os closed (others_taken os closed) l.stage b before rs l.behind keeps fine l.rest in
-      let all_is : rs ++ l.behind ≡ qs ++ ps = append_assoc qs l.front l.behind ∙ ap (λ (y : List TokenAt). qs ++ y) (sym l.split) in
-      let far_is : tokens_of rs ≡ tokens_of qs ++ semicolon = tokens_of-append qs l.front ∙ ap (λ (y : List Token). tokens_of qs ++ y) l.are in
+      let all_is : rs ++ l.behind ≡ qs ++ ps = append_assoc qs l.prefix l.behind ∙ ap (λ (y : List TokenAt). qs ++ y) (sym l.split) in
+      let far_is : tokens_of rs ≡ tokens_of qs ++ semicolon = tokens_of-append qs l.prefix ∙ ap (λ (y : List Token). tokens_of qs ++ y) l.are in
       record {
         state = r.state;
         by = l.by ∙ r.by;
@@ -370,7 +370,7 @@ module _ (threads : ℕ) where
 
   -- a whole text
   pub record InitTaken (ps : List TokenAt) (es : List EntryTree) : Type 0 where
-    pub state : State
+    pub state : TextState
     pub by : run (start kinds.Init threads) ps ≡ Ok state
     pub entries : state.draft.init.entries ≡ map entry_kept es
     pub stand : AreStarts ps (tokens.Mark marks.OpenBrace ∷ []) es state.draft.init.starts
@@ -383,7 +383,7 @@ module _ (threads : ℕ) where
       record { state = r.state; by = l.by ∙ r.by; entries = r.entries; stand = subst (AreStarts ps brace []) (sym r.starts_are) r.stand }
   init_taken (Some x) ps fine k =
       let l = one (text.first_stage kinds.Init) (text.Init expectations.WantsOpen) (text.Init expectations.WantsEntry) init.start init.start (tokens.Mark marks.OpenBrace) ps (spelled_entry x.first (spelled_others spelled_entry x.closed x.others closing)) (λ n. refl) k in
-      let r = entry_then x.first x.others x.closed (others_taken x.others x.closed) l.stage init.start [] l.front l.behind keeps_none fine l.rest in
+      let r = entry_then x.first x.others x.closed (others_taken x.others x.closed) l.stage init.start [] l.prefix l.behind keeps_none fine l.rest in
       record {
         state = r.state;
         by = l.by ∙ r.by;
@@ -393,6 +393,6 @@ module _ (threads : ℕ) where
             (λ (y : List TokenAt). AreStarts y brace (x.first ∷ x.others) r.starts)
             (sym l.split) (subst
             (λ (y : List Token).
-            AreStarts (l.front ++ l.behind) y (x.first ∷ x.others) r.starts) l.are
+            AreStarts (l.prefix ++ l.behind) y (x.first ∷ x.others) r.starts) l.are
             r.stand));
       }

@@ -25,7 +25,7 @@ use Rattle.litmus_grammar.specs.Grammar.{EntryTree, spelled_entry, spelled_other
 use Rattle.litmus_grammar.specs.InitMachine as init
 use Rattle.litmus_grammar.specs.InitMachine.{Block, Did, has_key, with_key, with_start, with_entry, place_result, and_place, valued}
 use Rattle.litmus_grammar.specs.TextMachine as text
-use Rattle.litmus_grammar.specs.TextMachine.{Part, Draft, State, TextResult, with_offset, and_then, stepped, with_init, nothing, start, run, init_result}
+use Rattle.litmus_grammar.specs.TextMachine.{Part, Draft, TextState, TextResult, with_offset, and_then, stepped, with_init, nothing, start, run, init_result}
 use Rattle.litmus_grammar.proofs.InitKeys.{key_of, Keeps, keeps_none, keeps_more}
 use Rattle.litmus_grammar.proofs.Outcomes.{not_both}
 
@@ -43,7 +43,7 @@ done_in r = false
 abbrev pub draft : Block → Draft
 draft b = with_init (nothing kinds.Init) b
 
-abbrev pub standing : ℕ → Stage → Part → Block → State
+abbrev pub standing : ℕ → Stage → Part → Block → TextState
 standing threads g p b =
     record { kind = kinds.Init; threads = threads; stage = g; part = p; draft = draft b }
 
@@ -168,12 +168,12 @@ after_semicolon before ts (Another f) =
     }
 
 module _ (threads : ℕ) where
-  only_end : (ps : List TokenAt) (g : Stage) (b : Block) (s : State)
+  only_end : (ps : List TokenAt) (g : Stage) (b : Block) (s : TextState)
       → run (standing threads g text.Done b) ps ≡ Ok s → tokens_of ps ≡ []
   only_end [] g b s e = refl
   only_end (p ∷ ps) g b s e = absurd (not_both _ _ e)
 
-  end_left : (ps : List TokenAt) (g : Stage) (b : Block) (s : State)
+  end_left : (ps : List TokenAt) (g : Stage) (b : Block) (s : TextState)
       → run (standing threads g text.WantsEnd b) ps ≡ Ok s → s.part ≡ text.Done
       → tokens_of ps ≡ tokens.End ∷ []
   end_left [] g b s e d = absurd (false≢true (ap done_in e ∙ ap is_done d))
@@ -187,7 +187,7 @@ module _ (threads : ℕ) where
       by_token t n k = absurd (not_both _ _ k)
 
   -- with what is left behind the token
-  module _ (ps : List TokenAt) (s : State) (d : s.part ≡ text.Done)
+  module _ (ps : List TokenAt) (s : TextState) (d : s.part ≡ text.Done)
       (again : (expected : InitExpectation) (g : Stage) (b : Block) (before : List WrittenPlace)
       → Keeps b.named before → run (standing threads g (text.Init expected) b) ps ≡ Ok s
       → Left before expected (tokens_of ps)) where
@@ -364,7 +364,7 @@ module _ (threads : ℕ) where
     by_expectation expectations.HasEntry g b before t n keeps h = behind_left g b before t n keeps h
 
   left : (ps : List TokenAt) (expected : InitExpectation) (g : Stage) (b : Block)
-      (before : List WrittenPlace) (s : State) → Keeps b.named before
+      (before : List WrittenPlace) (s : TextState) → Keeps b.named before
       → run (standing threads g (text.Init expected) b) ps ≡ Ok s → s.part ≡ text.Done
       → Left before expected (tokens_of ps)
   left [] expected g b before s keeps e d = absurd (false≢true (ap done_in e ∙ ap is_done d))
@@ -379,7 +379,7 @@ module _ (threads : ℕ) where
   to_text ts us e (Another f) =
       record { entries = Some (record { first = f.first; others = f.others; closed = f.closed }); fine = f.fine; whole = e ∙ more (tokens.Mark marks.OpenBrace) us _ f.whole }
 
-  pub init_whole : (ps : List TokenAt) (s : State) → run (start kinds.Init threads) ps ≡ Ok s
+  pub init_whole : (ps : List TokenAt) (s : TextState) → run (start kinds.Init threads) ps ≡ Ok s
       → s.part ≡ text.Done → IsInitText (tokens_of ps)
   init_whole ps s e d =
       let l = left ps expectations.WantsOpen (text.first_stage kinds.Init) init.start [] s keeps_none e d in

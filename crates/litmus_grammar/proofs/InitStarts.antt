@@ -29,7 +29,7 @@ use Rattle.litmus_grammar.specs.InitMachine as init
 use Rattle.litmus_grammar.specs.InitMachine.{Block, has_key, with_key, with_start, with_entry, place_result, and_place, valued}
 use Rattle.litmus_grammar.specs.Texts.{spelled_colon, is_init, IsBrokenOff, IsStart, IsWhole, BreaksOff}
 use Rattle.litmus_grammar.specs.TextMachine as text
-use Rattle.litmus_grammar.specs.TextMachine.{Part, Draft, Next, State, TextResult, with_offset, and_then, stepped, part_step, start, run, rule_at, init_result}
+use Rattle.litmus_grammar.specs.TextMachine.{Part, Draft, Next, TextState, TextResult, with_offset, and_then, stepped, part_step, start, run, rule_at, init_result}
 use Rattle.litmus_grammar.proofs.Equations.{no_first, same_first, same_others}
 use Rattle.litmus_grammar.proofs.InitKeys.{key_of, Keeps, keeps_none, keeps_more, added_new, fresh, lacks_fresh}
 use Rattle.litmus_grammar.proofs.InitLeft.{closing, draft, standing, init_whole}
@@ -92,9 +92,9 @@ module _ (threads : ℕ) where
 
   -- ---- what goes on to the end
 
-  record Ended (s : State) : Type 0 where
+  record Ended (s : TextState) : Type 0 where
     rest : List Token
-    state : State
+    state : TextState
     by : run s (anywhere rest) ≡ Ok state
     done : state.part ≡ text.Done
 
@@ -270,14 +270,14 @@ module _ (threads : ℕ) where
     step_known text.Done t n o reached = tt
     step_known p t n o reached = absurd o
 
-  record Reached (ts : List Token) (s : State) : Type 0 where
+  record Reached (ts : List Token) (s : TextState) : Type 0 where
     stage : Stage
     part : Part
     block : Block
     is : s ≡ standing threads stage part block
     known : Known ts part block
 
-  walk : (before rest : List TokenAt) (g : Stage) (p : Part) (b : Block) (s : State)
+  walk : (before rest : List TokenAt) (g : Stage) (p : Part) (b : Block) (s : TextState)
       → run (start kinds.Init threads) before ≡ Ok (standing threads g p b)
       → Known (tokens_of before) p b → run (standing threads g p b) rest ≡ Ok s
       → Reached (tokens_of (before ++ rest)) s
@@ -303,14 +303,14 @@ module _ (threads : ℕ) where
           → Reached (tokens_of (before ++ q ∷ rest)) s
       by_next (Some n) step known h later =
           let here = run_one (start kinds.Init threads) (standing threads g p b) before q n reached step in
-          let at_draft : (x : Draft) → State = λ (x : Draft). record { kind = kinds.Init; threads = threads; stage = after g q.token; part = n.part; draft = x } in
+          let at_draft : (x : Draft) → TextState = λ (x : Draft). record { kind = kinds.Init; threads = threads; stage = after g q.token; part = n.part; draft = x } in
           later known.0 n.part (here ∙ ap (λ (x : Draft). Ok (at_draft x)) known.1)
           (subst (λ (ts : List Token). Known ts n.part known.0)
           (sym (tokens_of-append before (q ∷ []))) known.2)
           (ap (λ (x : Draft). run (at_draft x) rest) (sym known.1) ∙ h)
       by_next None step known h later = absurd (not_both _ _ h)
 
-  reach : (ps : List TokenAt) (s : State) → run (start kinds.Init threads) ps ≡ Ok s
+  reach : (ps : List TokenAt) (s : TextState) → run (start kinds.Init threads) ps ≡ Ok s
       → Reached (tokens_of ps) s
   reach ps s e =
       walk [] ps first_stage (text.Init expectations.WantsOpen) init.start s refl
@@ -318,7 +318,7 @@ module _ (threads : ℕ) where
 
   -- ---- what is taken begins a text, or breaks one off
 
-  data CanEnd (ts : List Token) (s : State) : Type 0 where
+  data CanEnd (ts : List Token) (s : TextState) : Type 0 where
     Ends : Ended s → CanEnd ts s
     Breaks : IsBrokenOff IsInitText first_stage ts → CanEnd ts s
 
@@ -376,7 +376,7 @@ module _ (threads : ℕ) where
   ends ts g text.Done b k = Ends (record { rest = []; state = _; by = refl; done = refl })
   ends ts g p b k = absurd k.open_so
 
-  begins_by : (ps : List TokenAt) (s : State) → run (start kinds.Init threads) ps ≡ Ok s
+  begins_by : (ps : List TokenAt) (s : TextState) → run (start kinds.Init threads) ps ≡ Ok s
       → CanEnd (tokens_of ps) s → Begins (IsStart IsInitText first_stage) (tokens_of ps)
   begins_by ps s e (Ends x) =
       let same : tokens_of (ps ++ anywhere x.rest) ≡ tokens_of ps ++ x.rest = tokens_of-append ps (anywhere x.rest) ∙ ap (λ (ts : List Token). tokens_of ps ++ ts) (tokens_of-anywhere x.rest) in
@@ -389,7 +389,7 @@ module _ (threads : ℕ) where
             (sym (append-nil (tokens_of ps))) x);
       }
 
-  init_begins : (ps : List TokenAt) (s : State) → run (start kinds.Init threads) ps ≡ Ok s
+  init_begins : (ps : List TokenAt) (s : TextState) → run (start kinds.Init threads) ps ≡ Ok s
       → Begins (IsStart IsInitText first_stage) (tokens_of ps)
   init_begins ps s e =
       let r = reach ps s e in
@@ -399,21 +399,21 @@ module _ (threads : ℕ) where
   -- ---- each is taken
 
   record Split (ps : List TokenAt) (us vs : List Token) : Type 0 where
-    front : List TokenAt
+    prefix : List TokenAt
     back : List TokenAt
-    split : ps ≡ front ++ back
-    front_is : tokens_of front ≡ us
+    split : ps ≡ prefix ++ back
+    prefix_is : tokens_of prefix ≡ us
     back_is : tokens_of back ≡ vs
 
   split_at : (ps : List TokenAt) (us vs : List Token) → tokens_of ps ≡ us ++ vs → Split ps us vs
-  split_at ps [] vs e = record { front = []; back = ps; split = refl; front_is = refl; back_is = e }
+  split_at ps [] vs e = record { prefix = []; back = ps; split = refl; prefix_is = refl; back_is = e }
   split_at [] (u ∷ us) vs e = absurd (no_first e)
   split_at (p ∷ ps) (u ∷ us) vs e =
       let same : p.token ≡ u = same_first e in
       let s = split_at ps us vs (same_others e) in
-      record { front = p ∷ s.front; back = s.back; split = ap (λ (x : List TokenAt). p ∷ x) s.split; front_is = ap (λ (x : Token). x ∷ tokens_of s.front) same ∙ ap (λ (x : List Token). u ∷ x) s.front_is; back_is = s.back_is }
+      record { prefix = p ∷ s.prefix; back = s.back; split = ap (λ (x : List TokenAt). p ∷ x) s.split; prefix_is = ap (λ (x : Token). x ∷ tokens_of s.prefix) same ∙ ap (λ (x : List Token). u ∷ x) s.prefix_is; back_is = s.back_is }
 
-  at_entry : (ts : List Token) (g : Stage) (p : Part) (b : Block) (rest : List TokenAt) (s : State)
+  at_entry : (ts : List Token) (g : Stage) (p : Part) (b : Block) (rest : List TokenAt) (s : TextState)
       → Known ts p b
       → run (standing threads g p b) (record { token = bracket; offset = 0 } ∷ rest) ≡ Ok s
       → p ≡ text.Init expectations.WantsEntry
@@ -440,7 +440,7 @@ module _ (threads : ℕ) where
 
   number_taken : (g : Stage) (b : Block) (d : List ℕ) (colon : Bool) (ps : List TokenAt)
       → tokens_of ps ≡ tokens.Number false d ∷ spelled_colon colon
-      → (s : State) × (run (standing threads g (text.Init expectations.WantsEntry) b) ps ≡ Ok s)
+      → (s : TextState) × (run (standing threads g (text.Init expectations.WantsEntry) b) ps ≡ Ok s)
   number_taken g b d colon [] e = absurd (no_first e)
   number_taken g b d colon (p ∷ ps) e =
       let same : p.token ≡ tokens.Number false d = same_first e in
@@ -454,7 +454,7 @@ module _ (threads : ℕ) where
     where
       colon_taken : (h : Stage) (c : Block) (x : Bool) (qs : List TokenAt)
           → tokens_of qs ≡ spelled_colon x
-          → (s : State)
+          → (s : TextState)
           × (run (standing threads h (text.Init (expectations.InPlace (places.WantsColon d))) c)
           qs ≡ Ok s)
       colon_taken h c false [] k = (_, refl)
@@ -471,54 +471,54 @@ module _ (threads : ℕ) where
           )
       colon_taken h c true (q ∷ r ∷ qs) k = absurd (no_first (sym (same_others k)))
 
-  part_run : (front : List TokenAt) (rest : List TokenAt) (s : State)
-      → run (start kinds.Init threads) (front ++ rest) ≡ Ok s
-      → (x : State) × (run (start kinds.Init threads) front ≡ Ok x) × (run x rest ≡ Ok s)
-  part_run front rest s e =
-      by_run (run (start kinds.Init threads) front) refl
-      (sym (run-split (start kinds.Init threads) front rest) ∙ e)
+  part_run : (prefix : List TokenAt) (rest : List TokenAt) (s : TextState)
+      → run (start kinds.Init threads) (prefix ++ rest) ≡ Ok s
+      → (x : TextState) × (run (start kinds.Init threads) prefix ≡ Ok x) × (run x rest ≡ Ok s)
+  part_run prefix rest s e =
+      by_run (run (start kinds.Init threads) prefix) refl
+      (sym (run-split (start kinds.Init threads) prefix rest) ∙ e)
     where
-      by_run : (r : TextResult) → run (start kinds.Init threads) front ≡ r
+      by_run : (r : TextResult) → run (start kinds.Init threads) prefix ≡ r
           → and_then r (λ x. run x rest) ≡ Ok s
-          → (x : State) × (run (start kinds.Init threads) front ≡ Ok x) × (run x rest ≡ Ok s)
+          → (x : TextState) × (run (start kinds.Init threads) prefix ≡ Ok x) × (run x rest ≡ Ok s)
       by_run (Ok x) k h = (x, k, h)
       by_run (Err d) k h = absurd (not_both _ _ h)
 
-  with_bracket : (front : List TokenAt) (before us : List Token) → tokens_of front ≡ before
-      → tokens_of (front ++ anywhere (bracket ∷ us)) ≡ (before ++ bracket ∷ []) ++ us
-  with_bracket front before us e =
-      tokens_of-append front (anywhere (bracket ∷ us))
+  with_bracket : (prefix : List TokenAt) (before us : List Token) → tokens_of prefix ≡ before
+      → tokens_of (prefix ++ anywhere (bracket ∷ us)) ≡ (before ++ bracket ∷ []) ++ us
+  with_bracket prefix before us e =
+      tokens_of-append prefix (anywhere (bracket ∷ us))
       ∙ ap (λ (ts : List Token). ts ++ tokens_of (anywhere (bracket ∷ us))) e
       ∙ ap (λ (ts : List Token). before ++ ts) (tokens_of-anywhere (bracket ∷ us))
       ∙ sym (append_assoc before (bracket ∷ []) us)
 
   broken_taken : (ps : List TokenAt) → IsBrokenOff IsInitText first_stage (tokens_of ps)
-      → (s : State) × (run (start kinds.Init threads) ps ≡ Ok s)
+      → (s : TextState) × (run (start kinds.Init threads) ps ≡ Ok s)
   broken_taken ps x =
       let c = split_at ps x.before (tokens.Number false x.thread ∷ spelled_colon x.colon) x.whole in
       let us = bracket ∷ x.entry.rest in
-      let whole_is = with_bracket c.front x.before x.entry.rest c.front_is in
+      let whole_is = with_bracket c.prefix x.before x.entry.rest c.prefix_is in
       let t = x.entry.text in
-      let all = init_taken threads t.entries (c.front ++ anywhere us) t.fine (whole_is ∙ t.whole) in
-      let p = part_run c.front (anywhere us) all.state all.by in
-      let r = reach c.front p.0 p.1 in
-      let there : run (standing threads r.stage r.part r.block) (anywhere us) ≡ Ok all.state = ap (λ (y : State). run y (anywhere us)) (sym r.is) ∙ p.2 in
-      let entry : r.part ≡ text.Init expectations.WantsEntry = at_entry (tokens_of c.front) r.stage r.part r.block (anywhere x.entry.rest) all.state r.known there in
+      let all = init_taken threads t.entries (c.prefix ++ anywhere us) t.fine (whole_is ∙ t.whole) in
+      let p = part_run c.prefix (anywhere us) all.state all.by in
+      let r = reach c.prefix p.0 p.1 in
+      let there : run (standing threads r.stage r.part r.block) (anywhere us) ≡ Ok all.state = ap (λ (y : TextState). run y (anywhere us)) (sym r.is) ∙ p.2 in
+      let entry : r.part ≡ text.Init expectations.WantsEntry = at_entry (tokens_of c.prefix) r.stage r.part r.block (anywhere x.entry.rest) all.state r.known there in
       let n = number_taken r.stage r.block x.thread x.colon c.back c.back_is in
       let at_wants : p.0 ≡ standing threads r.stage (text.Init expectations.WantsEntry) r.block = r.is ∙ ap (λ (q : Part). standing threads r.stage q r.block) entry in (
         n.0,
         ap (run (start kinds.Init threads)) c.split
-            ∙ run-append (start kinds.Init threads) p.0 c.front c.back p.1
-            ∙ ap (λ (y : State). run y c.back) at_wants ∙ n.1,
+            ∙ run-append (start kinds.Init threads) p.0 c.prefix c.back p.1
+            ∙ ap (λ (y : TextState). run y c.back) at_wants ∙ n.1,
       )
 
   init_takes : (ps : List TokenAt) → IsStart IsInitText first_stage (tokens_of ps)
-      → (s : State) × (run (start kinds.Init threads) ps ≡ Ok s)
+      → (s : TextState) × (run (start kinds.Init threads) ps ≡ Ok s)
   init_takes ps (IsWhole x) =
       let r = init_taken threads x.entries ps x.fine x.whole in (r.state, r.by)
   init_takes ps (BreaksOff x) = broken_taken ps x
 
-  init_says : (C : Token → Type 0) (kind : TextKind) (rows : table.State) (x : Bool) (t : Token)
+  init_says : (C : Token → Type 0) (kind : TextKind) (rows : table.TableState) (x : Bool) (t : Token)
       → RulingSays C (stages.Init true x) (ruling (stages.Init true x) t)
       (rule_at kind rows (stages.Init true x) t)
   init_says C kind rows x (tokens.Broken rule) = refl

@@ -6,11 +6,11 @@ use Rattle.std.proofs.lemmas.List.{at_drop_more, drop_more, drop_all, length-dro
 use Rattle.litmus_tokens.specs.declared.stage.Stage.{Stage}
 use Rattle.litmus_tokens.specs.declared.token.Token.{Token}
 use Rattle.litmus_tokens.specs.declared.token.Token.TheVariants as tokens
-use Rattle.litmus_tokens.specs.declared.lexer.Front.{Front}
-use Rattle.litmus_tokens.specs.declared.lexer.Front.TheVariants.{Layout, Lexeme}
-use Rattle.litmus_tokens.specs.Lexer.{front}
+use Rattle.litmus_tokens.specs.declared.lexer.NextLexeme.{NextLexeme}
+use Rattle.litmus_tokens.specs.declared.lexer.NextLexeme.TheVariants.{Layout, Lexeme}
+use Rattle.litmus_tokens.specs.Lexer.{first_lexeme}
 use Rattle.litmus_tokens.specs.Stage.{after}
-use Rattle.litmus_tokens.specs.Texts.{TokenAt, ends_line, fresh_after, after_front, tokens_from}
+use Rattle.litmus_tokens.specs.Texts.{TokenAt, ends_line, fresh_after, after_lexeme, tokens_from}
 
 -- passing over bytes
 pub tokens_skip : (s : Stage) (fresh : Bool) (k offset : ℕ) (bs : List ℕ) → k ≤ length bs
@@ -59,19 +59,19 @@ module _ (bytes : List ℕ) (p n q : ℕ) (lt : p < length bytes)
           ∙ ap (λ k. tokens_from s fresh 0 k []) e
           ∙ ap (tokens_from s fresh 0 q) (sym (drop_all q bytes (omega arith)))
 
-  abbrev then_on : Stage → Bool → Front → List TokenAt
+  abbrev then_on : Stage → Bool → NextLexeme → List TokenAt
   then_on s fresh f =
-      after_front s fresh p (get_or bytes p 0) f (λ s' fresh' skip.
+      after_lexeme s fresh p (get_or bytes p 0) f (λ s' fresh' skip.
       tokens_from s' fresh' skip (p + 1) (drop (p + 1) bytes))
 
-  opens_with : (s : Stage) (fresh : Bool) (f : Front) → f ≡ front s fresh (drop p bytes)
+  opens_with : (s : Stage) (fresh : Bool) (f : NextLexeme) → f ≡ first_lexeme s fresh (drop p bytes)
       → tokens_from s fresh 0 p (drop p bytes) ≡ then_on s fresh f
   unfolding tokens_from
   opens_with s fresh f e =
       at_drop_more (tokens_from s fresh 0 p) bytes p 0 lt
-      ∙ ap (then_on s fresh) (ap (front s fresh) (sym (drop_more bytes p 0 lt)) ∙ sym e)
+      ∙ ap (then_on s fresh) (ap (first_lexeme s fresh) (sym (drop_more bytes p 0 lt)) ∙ sym e)
 
-  pub layout_turn : (s : Stage) (fresh : Bool) (f : Front) → f ≡ front s fresh (drop p bytes)
+  pub layout_turn : (s : Stage) (fresh : Bool) (f : NextLexeme) → f ≡ first_lexeme s fresh (drop p bytes)
       → f ≡ Layout n
       → tokens_from s fresh 0 p (drop p bytes)
       ≡ tokens_from s (fresh_after fresh (get_or bytes p 0)) 0 q (drop q bytes)
@@ -79,8 +79,8 @@ module _ (bytes : List ℕ) (p n q : ℕ) (lt : p < length bytes)
       opens_with s fresh f e ∙ ap (then_on s fresh) k
       ∙ next s (fresh_after fresh (get_or bytes p 0))
 
-  pub lexeme_turn : (s : Stage) (fresh : Bool) (f : Front) (t : Token)
-      → f ≡ front s fresh (drop p bytes) → f ≡ Lexeme t n
+  pub lexeme_turn : (s : Stage) (fresh : Bool) (f : NextLexeme) (t : Token)
+      → f ≡ first_lexeme s fresh (drop p bytes) → f ≡ Lexeme t n
       → tokens_from s fresh 0 p (drop p bytes)
       ≡ record { token = t; offset = p }
       ∷ tokens_from (after s t) (ends_line t) 0 q (drop q bytes)

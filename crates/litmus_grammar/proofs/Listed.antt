@@ -19,14 +19,14 @@ use Rattle.litmus_tokens.specs.declared.place.PlaceStep.{PlaceStep}
 use Rattle.litmus_tokens.specs.declared.place.PlaceStep.TheVariants as place_steps
 use Rattle.litmus_tokens.specs.declared.place.WrittenPlace.TheVariants as written
 use Rattle.litmus_tokens.specs.Conditions.{PlaceTree, Location, Register, spelled_place, place_meaning, IsPlaceTree, HasThread}
-use Rattle.litmus_tokens.specs.PlaceMachine.{place_step, place_of, register_ends, is_there}
+use Rattle.litmus_tokens.specs.PlaceMachine.{place_step, place_of, register_ends, has_thread}
 use Rattle.litmus_tokens.proofs.Places.{place_of_written}
 use Rattle.litmus_grammar.specs.declared.parts.ItemExpectation.{ItemExpectation}
 use Rattle.litmus_grammar.specs.declared.parts.ItemExpectation.TheVariants as items
 use Rattle.litmus_grammar.specs.declared.parts.TextKind.TheVariants as kinds
 use Rattle.litmus_grammar.specs.Grammar.{Listed, spelled_others, members, spelled_observed, ArePlaceTrees, IsLocationsText}
 use Rattle.litmus_grammar.specs.TextMachine as text
-use Rattle.litmus_grammar.specs.TextMachine.{Part, Draft, Next, State, with_offset, and_then, stepped, part_step, with_place, nothing, start, run, rule_at, item_result}
+use Rattle.litmus_grammar.specs.TextMachine.{Part, Draft, Next, TextState, with_offset, and_then, stepped, part_step, with_place, nothing, start, run, rule_at, item_result}
 use Rattle.litmus_grammar.proofs.Conditions.{tail_stays, tail_says}
 use Rattle.litmus_grammar.proofs.Lists.{closing, list_whole}
 use Rattle.litmus_grammar.proofs.Outcomes.{Reading}
@@ -45,19 +45,19 @@ uncons (p ∷ ps) t ts e =
     record { offset = p.offset; behind = ps; split = ap (λ (x : Token). record { token = x; offset = p.offset } ∷ ps) same; rest = cc }
 
 module _ (threads : ℕ) (few : threads < 18446744073709551616) where
-  abbrev standing : Stage → Part → Draft → State
+  abbrev standing : Stage → Part → Draft → TextState
   standing g p h =
       record { kind = kinds.Locations; threads = threads; stage = g; part = p; draft = h }
 
   -- ---- each text is taken
 
   -- the reader goes on from there, with this left
-  record Leads (from : State) (ps : List TokenAt) (to : State) (ts : List Token) : Type 0 where
+  record Leads (from : TextState) (ps : List TokenAt) (to : TextState) (ts : List Token) : Type 0 where
     behind : List TokenAt
     rest : tokens_of behind ≡ ts
     by : run from ps ≡ run to behind
 
-  leads_on : (a b c : State) (ps : List TokenAt) (ts us : List Token) → Leads a ps b ts
+  leads_on : (a b c : TextState) (ps : List TokenAt) (ts us : List Token) → Leads a ps b ts
       → ((qs : List TokenAt) → tokens_of qs ≡ ts → Leads b qs c us) → Leads a ps c us
   leads_on a b c ps ts us l f =
       let m = f l.behind l.rest in record { behind = m.behind; rest = m.rest; by = l.by ∙ m.by }
@@ -84,7 +84,7 @@ module _ (threads : ℕ) (few : threads < 18446744073709551616) where
   wants false = items.WantsFirst
   wants true = items.WantsNext
 
-  abbrev has : Place → Draft → State
+  abbrev has : Place → Draft → TextState
   has p h = standing Tail (text.Item items.HasItem) (with_place h p)
 
   there : (a b : ℕ) → a < b → nat_lt a b ≡ true
@@ -98,13 +98,13 @@ module _ (threads : ℕ) (few : threads < 18446744073709551616) where
 
   bracket_first : (next : Bool) (h : Draft) (offset : ℕ)
       → part_step kinds.Locations threads h (text.Item (wants next)) (tokens.Mark marks.OpenBracket)
-      offset ≡ text.at h (text.Item (items.Within places.WantsName))
+      offset ≡ text.at h (text.Item (items.InItem places.WantsName))
   bracket_first false h offset = refl
   bracket_first true h offset = refl
 
   number_first : (next : Bool) (d : List ℕ) (h : Draft) (offset : ℕ) → decimal d < threads
       → part_step kinds.Locations threads h (text.Item (wants next)) (tokens.Number false d) offset
-      ≡ text.at h (text.Item (items.Within (places.WantsColon d)))
+      ≡ text.at h (text.Item (items.InItem (places.WantsColon d)))
   number_first false d h offset lt =
       ap
       (λ (b : Bool).
@@ -118,7 +118,7 @@ module _ (threads : ℕ) (few : threads < 18446744073709551616) where
 
   register_last : (d w : List ℕ) (h : Draft) (offset : ℕ) (o : Option ℕ) → register_of w ≡ o
       → is_known o ≡ true
-      → part_step kinds.Locations threads h (text.Item (items.Within (places.WantsRegister d)))
+      → part_step kinds.Locations threads h (text.Item (items.InItem (places.WantsRegister d)))
       (tokens.Word w) offset
       ≡ text.at (with_place h (place_of (written.Register d (or_zero (register_of w)))))
       (text.Item items.HasItem)
@@ -139,42 +139,42 @@ module _ (threads : ℕ) (few : threads < 18446744073709551616) where
       e
   place_taken next (Location true n) h ps ts i t e =
       let named = tokens.Word n ∷ tokens.Mark marks.CloseBracket ∷ ts in
-      leads_on _ (standing Tail (text.Item (items.Within places.WantsName)) h) _ ps named ts
-      (one (text.Item (wants next)) (text.Item (items.Within places.WantsName)) h h
+      leads_on _ (standing Tail (text.Item (items.InItem places.WantsName)) h) _ ps named ts
+      (one (text.Item (wants next)) (text.Item (items.InItem places.WantsName)) h h
       (tokens.Mark marks.OpenBracket) ps named (bracket_first next h) e)
-      (λ qs k. leads_on _ (standing Tail (text.Item (items.Within (places.WantsBracket n))) h) _ qs
+      (λ qs k. leads_on _ (standing Tail (text.Item (items.InItem (places.WantsBracket n))) h) _ qs
       (tokens.Mark marks.CloseBracket ∷ ts) ts
-      (one (text.Item (items.Within places.WantsName))
-      (text.Item (items.Within (places.WantsBracket n))) h h (tokens.Word n) qs
+      (one (text.Item (items.InItem places.WantsName))
+      (text.Item (items.InItem (places.WantsBracket n))) h h (tokens.Word n) qs
       (tokens.Mark marks.CloseBracket ∷ ts) (λ m. refl) k)
-      (λ rs j. one (text.Item (items.Within (places.WantsBracket n))) (text.Item items.HasItem) h
+      (λ rs j. one (text.Item (items.InItem (places.WantsBracket n))) (text.Item items.HasItem) h
       (with_place h (place_meaning (Location true n))) (tokens.Mark marks.CloseBracket) rs
       ts (λ m. refl) j))
   place_taken next (Register d w) h ps ts i t e =
       let colon = tokens.Mark marks.Colon ∷ tokens.Word w ∷ ts in
-      let last : (m : ℕ) → part_step kinds.Locations threads h (text.Item (items.Within (places.WantsRegister d))) (tokens.Word w) m ≡ text.at (with_place h (place_meaning (Register d w))) (text.Item items.HasItem)
+      let last : (m : ℕ) → part_step kinds.Locations threads h (text.Item (items.InItem (places.WantsRegister d))) (tokens.Word w) m ≡ text.at (with_place h (place_meaning (Register d w))) (text.Item items.HasItem)
       =
       λ m. register_last d w h m (register_of w) refl i
       ∙ ap (λ (p : Place). text.at (with_place h p) (text.Item items.HasItem))
       (place_of_written threads (Register d w) few t) in
-      leads_on _ (standing Tail (text.Item (items.Within (places.WantsColon d))) h) _ ps colon ts
-      (one (text.Item (wants next)) (text.Item (items.Within (places.WantsColon d))) h h
+      leads_on _ (standing Tail (text.Item (items.InItem (places.WantsColon d))) h) _ ps colon ts
+      (one (text.Item (wants next)) (text.Item (items.InItem (places.WantsColon d))) h h
       (tokens.Number false d) ps colon (λ m. number_first next d h m t) e)
-      (λ qs k. leads_on _ (standing Tail (text.Item (items.Within (places.WantsRegister d))) h) _ qs
+      (λ qs k. leads_on _ (standing Tail (text.Item (items.InItem (places.WantsRegister d))) h) _ qs
       (tokens.Word w ∷ ts) ts
-      (one (text.Item (items.Within (places.WantsColon d)))
-      (text.Item (items.Within (places.WantsRegister d))) h h (tokens.Mark marks.Colon) qs
+      (one (text.Item (items.InItem (places.WantsColon d)))
+      (text.Item (items.InItem (places.WantsRegister d))) h h (tokens.Mark marks.Colon) qs
       (tokens.Word w ∷ ts) (λ m. refl) k)
-      (λ rs j. one (text.Item (items.Within (places.WantsRegister d))) (text.Item items.HasItem) h
+      (λ rs j. one (text.Item (items.InItem (places.WantsRegister d))) (text.Item items.HasItem) h
       (with_place h (place_meaning (Register d w))) (tokens.Word w) rs ts last j))
 
   -- a list was read to its end
-  record IsAccepted (from : State) (ps : List TokenAt) (found : List Place) : Type 0 where
-    state : State
+  record IsAccepted (from : TextState) (ps : List TokenAt) (found : List Place) : Type 0 where
+    state : TextState
     by : run from ps ≡ Ok state
     observed : state.draft.observed ≡ found
 
-  taken_by : (a b : State) (ps : List TokenAt) (ts : List Token) (found : List Place)
+  taken_by : (a b : TextState) (ps : List TokenAt) (ts : List Token) (found : List Place)
       → Leads a ps b ts → ((qs : List TokenAt) → tokens_of qs ≡ ts → IsAccepted b qs found)
       → IsAccepted a ps found
   taken_by a b ps ts found l f =
@@ -253,7 +253,7 @@ module _ (threads : ℕ) (few : threads < 18446744073709551616) where
       l.others l.closed (with_place nothing_yet (place_meaning l.first)) us fine.2 i)))
 
   pub list_taken : (ps : List TokenAt) (x : IsLocationsText threads (tokens_of ps))
-      → (s : State) × (run (start kinds.Locations threads) ps ≡ Ok s)
+      → (s : TextState) × (run (start kinds.Locations threads) ps ≡ Ok s)
       × (s.draft.observed ≡ map place_meaning (members x.items))
   list_taken ps x = let r = text_taken x.items ps x.fine x.whole in (r.state, r.by, r.observed)
 
@@ -277,7 +277,7 @@ module _ (threads : ℕ) (few : threads < 18446744073709551616) where
   result_stays h None = tt
 
   start_stays : (h : Draft) (t : Token) → LeadsToList (text.item_start threads h t)
-  start_stays h t = choose (is_there threads t)
+  start_stays h t = choose (has_thread threads t)
     where
       choose : (b : Bool)
           → LeadsToList (if b then item_result h (place_step places.Begins t) else None)
@@ -316,15 +316,15 @@ module _ (threads : ℕ) (few : threads < 18446744073709551616) where
   stays h text.WantsList t n o = opened_stays h t
   stays h (text.Item items.WantsFirst) t n o = start_stays h t
   stays h (text.Item items.WantsNext) t n o = next_stays h t
-  stays h (text.Item (items.Within expected)) t n o = result_stays h (place_step expected t)
+  stays h (text.Item (items.InItem expected)) t n o = result_stays h (place_step expected t)
   stays h (text.Item items.HasItem) t n o = ended_stays h t
   stays h text.WantsEnd t n o = end_stays h t
   stays h text.Done t n o = tt
   stays h p t n o = absurd o
 
-  record Finished (from : State) (ps : List TokenAt) : Type 0 where
+  record Finished (from : TextState) (ps : List TokenAt) : Type 0 where
     rest : List Token
-    state : State
+    state : TextState
     by : run from (ps ++ anywhere rest) ≡ Ok state
     done : state.part ≡ text.Done
 
@@ -339,7 +339,7 @@ module _ (threads : ℕ) (few : threads < 18446744073709551616) where
   place_rest (places.WantsRegister d) ts = tokens.Word known_register ∷ ts
 
   within_finished : (g : Stage) (h : Draft) (expected : PlaceExpectation)
-      → Finished (standing g (text.Item (items.Within expected)) h) []
+      → Finished (standing g (text.Item (items.InItem expected)) h) []
   within_finished g h places.Begins =
       record { rest = place_rest places.Begins closing; state = _; by = refl; done = refl }
   within_finished g h places.WantsName =
@@ -375,7 +375,7 @@ module _ (threads : ℕ) (few : threads < 18446744073709551616) where
       record { rest = tokens.Word [] ∷ closing; state = _; by = refl; done = refl }
   finished g (text.Item items.WantsNext) h o =
       record { rest = closing; state = _; by = refl; done = refl }
-  finished g (text.Item (items.Within expected)) h o = within_finished g h expected
+  finished g (text.Item (items.InItem expected)) h o = within_finished g h expected
   finished g (text.Item items.HasItem) h o =
       record { rest = closing; state = _; by = refl; done = refl }
   finished g text.WantsEnd h o =
@@ -383,7 +383,7 @@ module _ (threads : ℕ) (few : threads < 18446744073709551616) where
   finished g text.Done h o = record { rest = []; state = _; by = refl; done = refl }
   finished g p h o = absurd o
 
-  goes_on : (ps : List TokenAt) (g : Stage) (p : Part) (h : Draft) (s : State) → IsOfList p
+  goes_on : (ps : List TokenAt) (g : Stage) (p : Part) (h : Draft) (s : TextState) → IsOfList p
       → run (standing g p h) ps ≡ Ok s → Finished (standing g p h) ps
   goes_on [] g p h s o e = finished g p h o
   goes_on (q ∷ ps) g p h s o e =
@@ -396,13 +396,13 @@ module _ (threads : ℕ) (few : threads < 18446744073709551616) where
           → ((n : Next) → IsOfList n.part
           → run (standing (after g q.token) n.part n.draft) ps ≡ Ok s
           → Finished (standing (after g q.token) n.part n.draft) ps)
-          → (rest : List Token) × (x : State)
+          → (rest : List Token) × (x : TextState)
           × (and_then (with_offset q.offset (stepped (standing g p h) q.token m))
           (λ y. run y (ps ++ anywhere rest)) ≡ Ok x) × (x.part ≡ text.Done)
       by_next (Some n) i k later = let f = later n i k in (f.rest, f.state, f.by, f.done)
       by_next None i k later = absurd cc
 
-  begins_by : (ps : List TokenAt) (s : State) → run (start kinds.Locations threads) ps ≡ Ok s
+  begins_by : (ps : List TokenAt) (s : TextState) → run (start kinds.Locations threads) ps ≡ Ok s
       → Begins (IsLocationsText threads) (tokens_of ps)
   begins_by ps s e =
       let f = goes_on ps Tail text.ListOrEnd nothing_yet s tt e in

@@ -17,13 +17,13 @@ use Rattle.litmus_tokens.specs.declared.place.PlaceExpectation.TheVariants as pl
 use Rattle.litmus_tokens.specs.declared.place.PlaceStep.{PlaceStep}
 use Rattle.litmus_tokens.specs.declared.place.PlaceStep.TheVariants as place_steps
 use Rattle.litmus_tokens.specs.Conditions.{PlaceTree, Location, Register, spelled_place, IsPlaceTree, HasThread}
-use Rattle.litmus_tokens.specs.PlaceMachine.{place_step, place_of, register_ends, is_there}
+use Rattle.litmus_tokens.specs.PlaceMachine.{place_step, place_of, register_ends, has_thread}
 use Rattle.litmus_grammar.specs.declared.parts.ItemExpectation.{ItemExpectation}
 use Rattle.litmus_grammar.specs.declared.parts.ItemExpectation.TheVariants as items
 use Rattle.litmus_grammar.specs.declared.parts.TextKind.TheVariants as kinds
 use Rattle.litmus_grammar.specs.Grammar.{spelled_others, ArePlaceTrees, IsLocationsText}
 use Rattle.litmus_grammar.specs.TextMachine as text
-use Rattle.litmus_grammar.specs.TextMachine.{Part, Draft, State, TextResult, with_offset, and_then, stepped, with_place, run, item_result}
+use Rattle.litmus_grammar.specs.TextMachine.{Part, Draft, TextState, TextResult, with_offset, and_then, stepped, with_place, run, item_result}
 use Rattle.litmus_grammar.proofs.InitLeft.{is_done}
 use Rattle.litmus_grammar.proofs.Outcomes.{not_both}
 
@@ -35,7 +35,7 @@ done_in (Ok s) = is_done s.part
 done_in (Err e) = false
 
 module _ (threads : ℕ) where
-  abbrev standing : Stage → Part → Draft → State
+  abbrev standing : Stage → Part → Draft → TextState
   standing g p h =
       record { kind = kinds.Locations; threads = threads; stage = g; part = p; draft = h }
 
@@ -84,7 +84,7 @@ module _ (threads : ℕ) where
   abbrev Left : ItemExpectation → List Token → Type 0
   Left items.WantsFirst ts = Following ts
   Left items.WantsNext ts = AfterSemicolon ts
-  Left (items.Within expected) ts = PlaceLeft expected ts
+  Left (items.InItem expected) ts = PlaceLeft expected ts
   Left items.HasItem ts = Behind ts
 
   more : (t : Token) (ts us : List Token) → ts ≡ us → t ∷ ts ≡ t ∷ us
@@ -116,7 +116,7 @@ module _ (threads : ℕ) where
   below : (a b : ℕ) → nat_lt a b ≡ true → a < b
   below a b h = grind (arith, nat_tests)
 
-  first_draft : (t : Token) (ts : List Token) → is_there threads t ≡ true
+  first_draft : (t : Token) (ts : List Token) → has_thread threads t ≡ true
       → StepLeft (place_step places.Begins t) ts → Following (t ∷ ts)
   first_draft (tokens.Word n) ts e b =
       record {
@@ -177,12 +177,12 @@ module _ (threads : ℕ) where
 
   -- ---- what is taken to its end
 
-  only_end : (ps : List TokenAt) (g : Stage) (h : Draft) (s : State)
+  only_end : (ps : List TokenAt) (g : Stage) (h : Draft) (s : TextState)
       → run (standing g text.Done h) ps ≡ Ok s → tokens_of ps ≡ []
   only_end [] g h s e = refl
   only_end (p ∷ ps) g h s e = absurd (not_both _ _ e)
 
-  end_left : (ps : List TokenAt) (g : Stage) (h : Draft) (s : State)
+  end_left : (ps : List TokenAt) (g : Stage) (h : Draft) (s : TextState)
       → run (standing g text.WantsEnd h) ps ≡ Ok s → s.part ≡ text.Done
       → tokens_of ps ≡ tokens.End ∷ []
   end_left [] g h s e d = absurd (false≢true (ap done_in e ∙ ap is_done d))
@@ -196,14 +196,14 @@ module _ (threads : ℕ) where
       by_token t n k = absurd (not_both _ _ k)
 
   -- with what is left behind the token
-  module _ (ps : List TokenAt) (s : State) (d : s.part ≡ text.Done)
+  module _ (ps : List TokenAt) (s : TextState) (d : s.part ≡ text.Done)
       (again : (expected : ItemExpectation) (g : Stage) (h : Draft)
       → run (standing g (text.Item expected) h) ps ≡ Ok s → Left expected (tokens_of ps)) where
     went : (g : Stage) (h : Draft) (part : Part) (t : Token) (n : ℕ) (o : Option PlaceStep)
         → and_then (with_offset n (stepped (standing g part h) t (item_result h o))) (λ x. run x ps)
         ≡ Ok s → StepLeft o (tokens_of ps)
     went g h part t n (Some (place_steps.Goes within)) k =
-        again (items.Within within) (after g t) h k
+        again (items.InItem within) (after g t) h k
     went g h part t n (Some (place_steps.Ends w)) k =
         again items.HasItem (after g t) (with_place h (place_of w)) k
     went g h part t n None k = absurd (not_both _ _ k)
@@ -211,9 +211,9 @@ module _ (threads : ℕ) where
     start_left : (g : Stage) (h : Draft) (part : Part) (t : Token) (n : ℕ)
         → and_then (with_offset n (stepped (standing g part h) t (text.item_start threads h t)))
         (λ x. run x ps) ≡ Ok s → Following (t ∷ tokens_of ps)
-    start_left g h part t n k = choose (is_there threads t) refl k
+    start_left g h part t n k = choose (has_thread threads t) refl k
       where
-        choose : (b : Bool) → is_there threads t ≡ b
+        choose : (b : Bool) → has_thread threads t ≡ b
             → and_then
             (with_offset n (stepped (standing g part h) t (if b then item_result h
             (place_step places.Begins t)
@@ -253,19 +253,19 @@ module _ (threads : ℕ) where
         → Left expected (t ∷ tokens_of ps)
     by_expectation items.WantsFirst g h t n k = start_left g h (text.Item items.WantsFirst) t n k
     by_expectation items.WantsNext g h t n k = next_left g h t n k
-    by_expectation (items.Within within) g h t n k =
-        back within t (tokens_of ps) (went g h (text.Item (items.Within within)) t n
+    by_expectation (items.InItem within) g h t n k =
+        back within t (tokens_of ps) (went g h (text.Item (items.InItem within)) t n
         (place_step within t) k)
     by_expectation items.HasItem g h t n k = ended_left g h t n k
 
-  left : (ps : List TokenAt) (expected : ItemExpectation) (g : Stage) (h : Draft) (s : State)
+  left : (ps : List TokenAt) (expected : ItemExpectation) (g : Stage) (h : Draft) (s : TextState)
       → run (standing g (text.Item expected) h) ps ≡ Ok s → s.part ≡ text.Done
       → Left expected (tokens_of ps)
   left [] expected g h s e d = absurd (false≢true (ap done_in e ∙ ap is_done d))
   left (p ∷ ps) expected g h s e d =
       by_expectation ps s d (λ o f i k. left ps o f i s k d) expected g h p.token p.offset e
 
-  list_left : (ps : List TokenAt) (g : Stage) (h : Draft) (s : State)
+  list_left : (ps : List TokenAt) (g : Stage) (h : Draft) (s : TextState)
       → run (standing g text.WantsList h) ps ≡ Ok s → s.part ≡ text.Done
       → (rest : List Token) × (tokens_of ps ≡ tokens.Mark marks.OpenBracket ∷ rest) × Following rest
   list_left [] g h s e d = absurd (false≢true (ap done_in e ∙ ap is_done d))
@@ -296,7 +296,7 @@ module _ (threads : ℕ) where
             (l.1 ∙ more (tokens.Mark marks.OpenBracket) l.0 _ f.whole);
       }
 
-  pub list_whole : (ps : List TokenAt) (g : Stage) (h : Draft) (s : State)
+  pub list_whole : (ps : List TokenAt) (g : Stage) (h : Draft) (s : TextState)
       → run (standing g text.ListOrEnd h) ps ≡ Ok s → s.part ≡ text.Done
       → IsLocationsText threads (tokens_of ps)
   list_whole [] g h s e d = absurd (false≢true (ap done_in e ∙ ap is_done d))

@@ -5,19 +5,19 @@ use Rattle.litmus_tokens.specs.declared.token.Token.{Token}
 use Rattle.litmus_tokens.specs.Texts.{TokenAt, tokens_of, stage_after}
 use Rattle.litmus_tokens.specs.Faults.{Begins, CanFollow, ruling, RulingSays, IsFault}
 use Rattle.litmus_grammar.specs.declared.parts.TextKind.{TextKind}
-use Rattle.litmus_grammar.specs.TextMachine.{Next, State, TextResult, stepped, with_offset, and_then, part_step, run, rule_at, start, first_stage}
+use Rattle.litmus_grammar.specs.TextMachine.{Next, TextState, TextResult, stepped, with_offset, and_then, part_step, run, rule_at, start, first_stage}
 use Rattle.litmus_grammar.proofs.Runs.{tokens_of-append, anywhere, tokens_of-anywhere, went, run-append, run_one}
 
 -- what is known of a machine and a grammar
 pub record Reading (IsText : List Token → Type 0) (kind : TextKind) (threads : ℕ) : Type 0 where
   -- what it takes begins a text
-  pub begins : (ps : List TokenAt) (s : State) → run (start kind threads) ps ≡ Ok s
+  pub begins : (ps : List TokenAt) (s : TextState) → run (start kind threads) ps ≡ Ok s
       → Begins IsText (tokens_of ps)
   -- it takes each text
   pub takes : (ps : List TokenAt) → IsText (tokens_of ps)
-      → (s : State) × (run (start kind threads) ps ≡ Ok s)
+      → (s : TextState) × (run (start kind threads) ps ≡ Ok s)
   -- and names the rule that another token breaks
-  pub says : (ps : List TokenAt) (s : State) (t : Token) (offset : ℕ)
+  pub says : (ps : List TokenAt) (s : TextState) (t : Token) (offset : ℕ)
       → run (start kind threads) ps ≡ Ok s
       → part_step s.kind s.threads s.draft s.part t offset ≡ None
       → RulingSays (CanFollow IsText (tokens_of ps)) (stage_after (first_stage kind) (tokens_of ps))
@@ -27,11 +27,11 @@ pub record Reading (IsText : List Token → Type 0) (kind : TextKind) (threads :
 -- the same, where the rule is known behind some tokens alone
 pub record ReadingWhere (Fine : List Token → Type 0) (IsText : List Token → Type 0)
     (kind : TextKind) (threads : ℕ) : Type 0 where
-  pub begins : (ps : List TokenAt) (s : State) → run (start kind threads) ps ≡ Ok s
+  pub begins : (ps : List TokenAt) (s : TextState) → run (start kind threads) ps ≡ Ok s
       → Begins IsText (tokens_of ps)
   pub takes : (ps : List TokenAt) → IsText (tokens_of ps)
-      → (s : State) × (run (start kind threads) ps ≡ Ok s)
-  pub says : (ps : List TokenAt) (s : State) (t : Token) (offset : ℕ) → Fine (tokens_of ps)
+      → (s : TextState) × (run (start kind threads) ps ≡ Ok s)
+  pub says : (ps : List TokenAt) (s : TextState) (t : Token) (offset : ℕ) → Fine (tokens_of ps)
       → run (start kind threads) ps ≡ Ok s
       → part_step s.kind s.threads s.draft s.part t offset ≡ None
       → RulingSays (CanFollow IsText (tokens_of ps)) (stage_after (first_stage kind) (tokens_of ps))
@@ -56,15 +56,15 @@ stopped e = Err e
 pub stopped_is : (a b : LitmusRule × ℕ) → stopped a ≡ stopped b → a ≡ b
 stopped_is a b e = cc
 
-pub not_both : (e : LitmusRule × ℕ) (s : State) → stopped e ≡ Ok s → ⊥
+pub not_both : (e : LitmusRule × ℕ) (s : TextState) → stopped e ≡ Ok s → ⊥
 not_both e s h = absurd cc
 
 -- a token that is refused cannot follow
 pub refused : (IsText : List Token → Type 0) (kind : TextKind) (threads : ℕ)
     (takes : (ps : List TokenAt) → IsText (tokens_of ps)
-    → (s : State) × (run (start kind threads) ps ≡ Ok s))
+    → (s : TextState) × (run (start kind threads) ps ≡ Ok s))
     (before : List TokenAt)
-    (s : State)
+    (s : TextState)
     (p : TokenAt)
     → run (start kind threads) before ≡ Ok s
     → part_step s.kind s.threads s.draft s.part p.token p.offset ≡ None
@@ -88,7 +88,7 @@ module _ (Fine : List Token → Type 0) (IsText : List Token → Type 0) (kind :
     (known : ReadingWhere Fine IsText kind threads) (ps : List TokenAt)
     (fine : (before : List TokenAt) (p : TokenAt) (behind : List TokenAt)
     → ps ≡ before ++ p ∷ behind → Fine (tokens_of before)) where
-  go : (before : List TokenAt) (s : State) (rest : List TokenAt) (r : LitmusRule) (n : ℕ)
+  go : (before : List TokenAt) (s : TextState) (rest : List TokenAt) (r : LitmusRule) (n : ℕ)
       → ps ≡ before ++ rest → run (start kind threads) before ≡ Ok s → run s rest ≡ Err (r, n)
       → IsFault IsText (first_stage kind) (before ++ rest) r n
   go before s [] r n whole reached e = absurd (not_both (r, n) s (sym e))
@@ -99,7 +99,7 @@ module _ (Fine : List Token → Type 0) (IsText : List Token → Type 0) (kind :
     where
       by_next : (o : Option Next) → part_step s.kind s.threads s.draft s.part p.token p.offset ≡ o
           → and_then (with_offset p.offset (stepped s p.token o)) (λ x. run x rest) ≡ Err (r, n)
-          → ((x : State) → run (start kind threads) (before ++ p ∷ []) ≡ Ok x
+          → ((x : TextState) → run (start kind threads) (before ++ p ∷ []) ≡ Ok x
           → run x rest ≡ Err (r, n)
           → IsFault IsText (first_stage kind) (before ++ p ∷ rest) r n)
           → IsFault IsText (first_stage kind) (before ++ p ∷ rest) r n

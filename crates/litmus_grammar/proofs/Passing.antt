@@ -7,14 +7,14 @@ use Rattle.litmus_tokens.specs.Stage.{after}
 use Rattle.litmus_tokens.specs.Texts.{TokenAt, tokens_of, stage_after}
 use Rattle.litmus_grammar.specs.declared.parts.TextKind.{TextKind}
 use Rattle.litmus_grammar.specs.declared.parts.TextKind.TheVariants as kinds
-use Rattle.litmus_grammar.specs.TextMachine.{Part, Draft, Next, State, TextResult, with_offset, and_then, stepped, part_step, run}
+use Rattle.litmus_grammar.specs.TextMachine.{Part, Draft, Next, TextState, TextResult, with_offset, and_then, stepped, part_step, run}
 use Rattle.litmus_grammar.proofs.Outcomes.{not_both}
 use Rattle.litmus_grammar.proofs.Runs.{same_state}
 
-abbrev pub test_at : Stage → Part → Draft → State
+abbrev pub test_at : Stage → Part → Draft → TextState
 test_at g p h = record { kind = kinds.Test; threads = 0; stage = g; part = p; draft = h }
 
-abbrev pub text_at : TextKind → ℕ → Stage → Part → Draft → State
+abbrev pub text_at : TextKind → ℕ → Stage → Part → Draft → TextState
 text_at kind threads g p h =
     record { kind = kind; threads = threads; stage = g; part = p; draft = h }
 
@@ -33,11 +33,11 @@ module _ (kind : TextKind) (threads : ℕ) (lift : Draft → Draft) (exit next :
     (alike : (p : Part) (h : Draft) (t : Token) (offset : ℕ) → is_inside p ≡ true
     → Alike lift exit next is_inside (part_step kind threads h p t offset)
     (part_step kinds.Test 0 (lift h) p t offset)) where
-  abbrev alone : Stage → Part → Draft → State
+  abbrev alone : Stage → Part → Draft → TextState
   alone g p h = text_at kind threads g p h
 
   -- the test is still within the part
-  pub record Stays (f g : Stage) (p : Part) (h : Draft) (ps : List TokenAt) (s : State)
+  pub record Stays (f g : Stage) (p : Part) (h : Draft) (ps : List TokenAt) (s : TextState)
       : Type 0 where
     pub part : Part
     pub draft : Draft
@@ -46,7 +46,7 @@ module _ (kind : TextKind) (threads : ℕ) (lift : Draft → Draft) (exit next :
     pub same : s ≡ test_at (stage_after g (tokens_of ps)) part (lift draft)
 
   -- the part has ended behind some tokens
-  pub record Leaves (f g : Stage) (p : Part) (h : Draft) (ps : List TokenAt) (s : State)
+  pub record Leaves (f g : Stage) (p : Part) (h : Draft) (ps : List TokenAt) (s : TextState)
       : Type 0 where
     pub before : List TokenAt
     pub behind : List TokenAt
@@ -63,7 +63,7 @@ module _ (kind : TextKind) (threads : ℕ) (lift : Draft → Draft) (exit next :
   test_step g p h q ps o =
       and_then (with_offset q.offset (stepped (test_at g p h) q.token o)) (λ x. run x ps)
 
-  stays_on : (f g : Stage) (p : Part) (h : Draft) (q : TokenAt) (ps : List TokenAt) (s : State)
+  stays_on : (f g : Stage) (p : Part) (h : Draft) (q : TokenAt) (ps : List TokenAt) (s : TextState)
       (n : Next) → part_step kind threads h p q.token q.offset ≡ Some n
       → Stays (after f q.token) (after g q.token) n.part n.draft ps s → Stays f g p h (q ∷ ps) s
   stays_on f g p h q ps s n e r =
@@ -75,7 +75,7 @@ module _ (kind : TextKind) (threads : ℕ) (lift : Draft → Draft) (exit next :
         same = r.same;
       }
 
-  leaves_on : (f g : Stage) (p : Part) (h : Draft) (q : TokenAt) (ps : List TokenAt) (s : State)
+  leaves_on : (f g : Stage) (p : Part) (h : Draft) (q : TokenAt) (ps : List TokenAt) (s : TextState)
       (n : Next) → part_step kind threads h p q.token q.offset ≡ Some n
       → Leaves (after f q.token) (after g q.token) n.part n.draft ps s → Leaves f g p h (q ∷ ps) s
   leaves_on f g p h q ps s n e r =
@@ -88,7 +88,7 @@ module _ (kind : TextKind) (threads : ℕ) (lift : Draft → Draft) (exit next :
         on = r.on;
       }
 
-  leaves_here : (f g : Stage) (p : Part) (h : Draft) (q : TokenAt) (ps : List TokenAt) (s : State)
+  leaves_here : (f g : Stage) (p : Part) (h : Draft) (q : TokenAt) (ps : List TokenAt) (s : TextState)
       (n m : Next) → part_step kind threads h p q.token q.offset ≡ Some n → n.part ≡ exit
       → m.draft ≡ lift n.draft → m.part ≡ next
       → run (test_at (after g q.token) m.part m.draft) ps ≡ Ok s → Leaves f g p h (q ∷ ps) s
@@ -106,7 +106,7 @@ module _ (kind : TextKind) (threads : ℕ) (lift : Draft → Draft) (exit next :
             ∙ ap (λ (x : Draft). run (test_at (after g q.token) m.part x) ps) (sym draft) ∙ k;
       }
 
-  pub passes : (ps : List TokenAt) (f g : Stage) (p : Part) (h : Draft) (s : State)
+  pub passes : (ps : List TokenAt) (f g : Stage) (p : Part) (h : Draft) (s : TextState)
       → is_inside p ≡ true → run (test_at g p (lift h)) ps ≡ Ok s
       → Stays f g p h ps s ⊎ Leaves f g p h ps s
   passes [] f g p h s i e =
@@ -146,7 +146,7 @@ module _ (kind : TextKind) (threads : ℕ) (lift : Draft → Draft) (exit next :
   -- ---- the text of the part alone, within the test
 
   -- what is read of the part alone, behind it what is left
-  pub record Ends (f : Stage) (p : Part) (h : Draft) (ps : List TokenAt) (s : State) : Type 0 where
+  pub record Ends (f : Stage) (p : Part) (h : Draft) (ps : List TokenAt) (s : TextState) : Type 0 where
     pub before : List TokenAt
     pub behind : List TokenAt
     pub draft : Draft
@@ -156,11 +156,11 @@ module _ (kind : TextKind) (threads : ℕ) (lift : Draft → Draft) (exit next :
         → run (test_at g p (lift h)) before
         ≡ Ok (test_at (stage_after g (tokens_of before)) next (lift draft))
 
-  pub ends : (ps : List TokenAt) (f : Stage) (p : Part) (h : Draft) (s : State) → is_inside p ≡ true
+  pub ends : (ps : List TokenAt) (f : Stage) (p : Part) (h : Draft) (s : TextState) → is_inside p ≡ true
       → run (alone f p h) ps ≡ Ok s → is_inside s.part ≡ false → Ends f p h ps s
   ends [] f p h s i e o =
       let same : alone f p h ≡ s = same_state _ _ e in
-      absurd (true≢false (sym i ∙ ap (λ (x : State). is_inside x.part) same ∙ o))
+      absurd (true≢false (sym i ∙ ap (λ (x : TextState). is_inside x.part) same ∙ o))
   ends (q ∷ ps) f p h s i e o =
       by_step (part_step kind threads h p q.token q.offset)
       (part_step kinds.Test 0 (lift h) p q.token q.offset) refl (alike p h q.token q.offset i) e

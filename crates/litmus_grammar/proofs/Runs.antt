@@ -3,17 +3,17 @@ use Rattle.std.proofs.Common.{◌≡◌, ℕ, zero, suc, ◌+◌, ◌-◌, Bool,
 use Rattle.litmus_tokens.specs.declared.stage.Stage.{Stage}
 use Rattle.litmus_tokens.specs.declared.token.Token.{Token}
 use Rattle.litmus_tokens.specs.declared.token.Token.TheVariants as tokens
-use Rattle.litmus_tokens.specs.declared.lexer.Front.{Front}
-use Rattle.litmus_tokens.specs.declared.lexer.Front.TheVariants.{Layout, Lexeme}
-use Rattle.litmus_tokens.specs.Lexer.{front}
+use Rattle.litmus_tokens.specs.declared.lexer.NextLexeme.{NextLexeme}
+use Rattle.litmus_tokens.specs.declared.lexer.NextLexeme.TheVariants.{Layout, Lexeme}
+use Rattle.litmus_tokens.specs.Lexer.{first_lexeme}
 use Rattle.litmus_tokens.specs.Stage.{after}
-use Rattle.litmus_tokens.specs.Texts.{TokenAt, tokens_of, stage_after, ends_line, after_front, tokens_from}
-use Rattle.litmus_grammar.specs.TextMachine.{Next, State, TextResult, stepped, with_offset, and_then, part_step, run}
+use Rattle.litmus_tokens.specs.Texts.{TokenAt, tokens_of, stage_after, ends_line, after_lexeme, tokens_from}
+use Rattle.litmus_grammar.specs.TextMachine.{Next, TextState, TextResult, stepped, with_offset, and_then, part_step, run}
 
-abbrev ran : State → TextResult
+abbrev ran : TextState → TextResult
 ran s = Ok s
 
-pub same_state : (a b : State) → ran a ≡ ran b → a ≡ b
+pub same_state : (a b : TextState) → ran a ≡ ran b → a ≡ b
 same_state a b e = cc
 
 pub tokens_of-append : (ps qs : List TokenAt) → tokens_of (ps ++ qs) ≡ tokens_of ps ++ tokens_of qs
@@ -29,7 +29,7 @@ pub tokens_of-anywhere : (ts : List Token) → tokens_of (anywhere ts) ≡ ts
 tokens_of-anywhere [] = refl
 tokens_of-anywhere (t ∷ ts) = ap (λ (us : List Token). t ∷ us) (tokens_of-anywhere ts)
 
-abbrev pub went : State → Token → Next → State
+abbrev pub went : TextState → Token → Next → TextState
 went s t n =
     record {
       kind = s.kind;
@@ -39,26 +39,26 @@ went s t n =
       draft = n.draft;
     }
 
-pub run-split : (s : State) (ps qs : List TokenAt)
+pub run-split : (s : TextState) (ps qs : List TokenAt)
     → run s (ps ++ qs) ≡ and_then (run s ps) (λ x. run x qs)
 run-split s [] qs = refl
 run-split s (p ∷ ps) qs =
     by_next (part_step s.kind s.threads s.draft s.part p.token p.offset) (λ x. run-split x ps qs)
   where
     by_next : (o : Option Next)
-        → ((x : State) → run x (ps ++ qs) ≡ and_then (run x ps) (λ y. run y qs))
+        → ((x : TextState) → run x (ps ++ qs) ≡ and_then (run x ps) (λ y. run y qs))
         → and_then (with_offset p.offset (stepped s p.token o)) (λ x. run x (ps ++ qs))
         ≡ and_then (and_then (with_offset p.offset (stepped s p.token o)) (λ x. run x ps))
         (λ y. run y qs)
     by_next (Some n) f = f (went s p.token n)
     by_next None f = refl
 
-pub run-append : (s s' : State) (ps qs : List TokenAt) → run s ps ≡ Ok s'
+pub run-append : (s s' : TextState) (ps qs : List TokenAt) → run s ps ≡ Ok s'
     → run s (ps ++ qs) ≡ run s' qs
 run-append s s' ps qs e = run-split s ps qs ∙ ap (λ (r : TextResult). and_then r (λ x. run x qs)) e
 
 -- one token more
-pub run_one : (s s' : State) (ps : List TokenAt) (p : TokenAt) (n : Next) → run s ps ≡ Ok s'
+pub run_one : (s s' : TextState) (ps : List TokenAt) (p : TokenAt) (n : Next) → run s ps ≡ Ok s'
     → part_step s'.kind s'.threads s'.draft s'.part p.token p.offset ≡ Some n
     → run s (ps ++ p ∷ []) ≡ Ok (went s' p.token n)
 run_one s s' ps p n e step =
@@ -67,18 +67,18 @@ run_one s s' ps p n e step =
     step
 
 -- what is never changed, and the part of the text
-pub record Follows (s s' : State) (ts : List Token) : Type 0 where
+pub record Follows (s s' : TextState) (ts : List Token) : Type 0 where
   pub kind : s'.kind ≡ s.kind
   pub threads : s'.threads ≡ s.threads
   pub stage : s'.stage ≡ stage_after s.stage ts
 
-pub follows : (s s' : State) (ps : List TokenAt) → run s ps ≡ Ok s' → Follows s s' (tokens_of ps)
+pub follows : (s s' : TextState) (ps : List TokenAt) → run s ps ≡ Ok s' → Follows s s' (tokens_of ps)
 follows s s' [] e =
     let same : s' ≡ s = cc in
     record {
-      kind = ap (λ (x : State). x.kind) same;
-      threads = ap (λ (x : State). x.threads) same;
-      stage = ap (λ (x : State). x.stage) same;
+      kind = ap (λ (x : TextState). x.kind) same;
+      threads = ap (λ (x : TextState). x.threads) same;
+      stage = ap (λ (x : TextState). x.stage) same;
     }
 follows s s' (p ∷ ps) e =
     by_next (part_step s.kind s.threads s.draft s.part p.token p.offset) e
@@ -86,7 +86,7 @@ follows s s' (p ∷ ps) e =
   where
     by_next : (o : Option Next)
         → and_then (with_offset p.offset (stepped s p.token o)) (λ x. run x ps) ≡ Ok s'
-        → ((x : State) → run x ps ≡ Ok s' → Follows x s' (tokens_of ps))
+        → ((x : TextState) → run x ps ≡ Ok s' → Follows x s' (tokens_of ps))
         → Follows s s' (p.token ∷ tokens_of ps)
     by_next (Some n) h f =
         let r = f (went s p.token n) h in
@@ -102,18 +102,18 @@ unfolding tokens_from
 ends_last s fresh skip offset [] = ([], offset, refl)
 ends_last s fresh (suc skip) offset (b ∷ bs) = ends_last s fresh skip (offset + 1) bs
 ends_last s fresh zero offset (b ∷ bs) =
-    by_front (front s fresh (b ∷ bs)) (λ g f skip. ends_last g f skip (offset + 1) bs)
+    by_lexeme (first_lexeme s fresh (b ∷ bs)) (λ g f skip. ends_last g f skip (offset + 1) bs)
   where
-    by_front : (f : Front)
+    by_lexeme : (f : NextLexeme)
         → ((g : Stage) (f : Bool) (skip : ℕ)
         → (ps : List TokenAt) × (n : ℕ)
         × (tokens_from g f skip (offset + 1) bs
         ≡ ps ++ record { token = tokens.End; offset = n } ∷ []))
         → (ps : List TokenAt) × (n : ℕ)
-        × (after_front s fresh offset b f (λ g f skip. tokens_from g f skip (offset + 1) bs)
+        × (after_lexeme s fresh offset b f (λ g f skip. tokens_from g f skip (offset + 1) bs)
         ≡ ps ++ record { token = tokens.End; offset = n } ∷ [])
-    by_front (Layout k) r = r _ _ _
-    by_front (Lexeme t k) r =
+    by_lexeme (Layout k) r = r _ _ _
+    by_lexeme (Lexeme t k) r =
         let q = r (after s t) (ends_line t) (k - 1) in (
           record { token = t; offset = offset } ∷ q.0,
           q.1,

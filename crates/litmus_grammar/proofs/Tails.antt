@@ -19,7 +19,7 @@ use Rattle.text_values.specs.TestValue.{Formula, Constant}
 use Rattle.litmus_tokens.specs.declared.place.PlaceExpectation.TheVariants as places
 use Rattle.litmus_tokens.specs.declared.place.PlaceStep.{PlaceStep}
 use Rattle.litmus_tokens.specs.declared.place.PlaceStep.TheVariants as place_steps
-use Rattle.litmus_tokens.specs.PlaceMachine.{place_step, is_there}
+use Rattle.litmus_tokens.specs.PlaceMachine.{place_step, has_thread}
 use Rattle.litmus_tokens.specs.ConditionMachine as condition
 use Rattle.litmus_tokens.specs.Conditions.{limits, PlaceTree, FormulaTree, place_meaning, formula_meaning, spelled, spelled_quantifier, IsFormulaTree, IsConditionText}
 use Rattle.litmus_table.specs.Machine as table
@@ -29,7 +29,7 @@ use Rattle.litmus_grammar.specs.declared.parts.TextKind.TheVariants as kinds
 use Rattle.litmus_grammar.specs.Grammar.{Listed, members, spelled_items, spelled_observed, spelled_condition, ArePlaceTrees}
 use Rattle.litmus_grammar.specs.InitMachine as init
 use Rattle.litmus_grammar.specs.TextMachine as text
-use Rattle.litmus_grammar.specs.TextMachine.{Part, Draft, Next, State, TextResult, with_offset, and_then, stepped, part_step, nothing, start, run}
+use Rattle.litmus_grammar.specs.TextMachine.{Part, Draft, Next, TextState, TextResult, with_offset, and_then, stepped, part_step, nothing, start, run}
 use Rattle.litmus_grammar.proofs.Conditions.{condition_taken, condition_reading}
 use Rattle.litmus_grammar.proofs.Ends.{ends_done}
 use Rattle.litmus_grammar.proofs.Equations.{no_first, same_first}
@@ -46,7 +46,7 @@ abbrev pub last_at : ℕ → TokenAt
 last_at n = record { token = tokens.End; offset = n }
 
 -- the draft of a test before its condition
-abbrev pub early : List ℕ → init.Block → table.State → List Place → Draft
+abbrev pub early : List ℕ → init.Block → table.TableState → List Place → Draft
 early name block t o =
     record {
       name = name;
@@ -57,7 +57,7 @@ early name block t o =
       formula = Constant true;
     }
 
-abbrev pub with_all : List ℕ → init.Block → table.State → List Place → Quantifier → Formula → Draft
+abbrev pub with_all : List ℕ → init.Block → table.TableState → List Place → Quantifier → Formula → Draft
 with_all name block t o q a =
     record { name = name; init = block; table = t; observed = o; quantifier = q; formula = a }
 
@@ -70,7 +70,7 @@ pub record IsTail (threads : ℕ) (ts : List Token) : Type 0 where
   pub fine : IsFormulaTree limits threads condition
   pub whole : ts ≡ spelled_observed observed (spelled_condition quantifier condition)
 
-pub done_behind : (kind : TextKind) (n : ℕ) (g : Stage) (h : Draft) (ps : List TokenAt) (s : State)
+pub done_behind : (kind : TextKind) (n : ℕ) (g : Stage) (h : Draft) (ps : List TokenAt) (s : TextState)
     → run (text_at kind n g text.Done h) ps ≡ Ok s → (ps ≡ []) × (s ≡ text_at kind n g text.Done h)
 done_behind kind n g h [] s e =
     let same : text_at kind n g text.Done h ≡ s = same_state _ _ e in
@@ -78,12 +78,12 @@ done_behind kind n g h [] s e =
 done_behind kind n g h (p ∷ ps) s e = absurd (not_both _ _ e)
 
 -- behind the part of a text alone stands the end
-pub end_behind : (kind : TextKind) (n : ℕ) (g : Stage) (h : Draft) (ps : List TokenAt) (s : State)
+pub end_behind : (kind : TextKind) (n : ℕ) (g : Stage) (h : Draft) (ps : List TokenAt) (s : TextState)
     → run (text_at kind n g text.WantsEnd h) ps ≡ Ok s → s.part ≡ text.Done
     → (m : ℕ) × (ps ≡ last_at m ∷ []) × (s.draft ≡ h)
 end_behind kind n g h [] s e d =
     let same : text_at kind n g text.WantsEnd h ≡ s = same_state _ _ e in
-    absurd (false≢true (ap (λ (x : State). is_done x.part) same ∙ ap is_done d))
+    absurd (false≢true (ap (λ (x : TextState). is_done x.part) same ∙ ap is_done d))
 end_behind kind n g h (p ∷ ps) s e d = by_token p.token p.offset e
   where
     by_token : (t : Token) (m : ℕ)
@@ -91,10 +91,10 @@ end_behind kind n g h (p ∷ ps) s e d = by_token p.token p.offset e
         → (k : ℕ) × (record { token = t; offset = m } ∷ ps ≡ last_at k ∷ []) × (s.draft ≡ h)
     by_token tokens.End m k =
         let r = done_behind kind n (after g tokens.End) h ps s k in
-        (m, ap (λ (l : List TokenAt). last_at m ∷ l) r.0, ap (λ (x : State). x.draft) r.1)
+        (m, ap (λ (l : List TokenAt). last_at m ∷ l) r.0, ap (λ (x : TextState). x.draft) r.1)
     by_token t m k = absurd (not_both _ _ k)
 
-module _ (name : List ℕ) (block : init.Block) (t : table.State)
+module _ (name : List ℕ) (block : init.Block) (t : table.TableState)
     (few : length t.threads < 18446744073709551616) where
   abbrev threads : ℕ
   threads = length t.threads
@@ -145,7 +145,7 @@ module _ (name : List ℕ) (block : init.Block) (t : table.State)
       choose false = tt
   exists_in x = tt
 
-  proposition_alike : (o : List Place) (h : Draft) (q : Quantifier) (f : condition.StepResult)
+  proposition_alike : (o : List Place) (h : Draft) (q : Quantifier) (f : condition.ConditionStepResult)
       → AlikeCondition o (text.proposition_result h q f)
       (text.proposition_result (with_condition o h) q f)
   proposition_alike o h q (condition.Goes fs used expected) = (refl, inl (refl, refl))
@@ -167,7 +167,7 @@ module _ (name : List ℕ) (block : init.Block) (t : table.State)
   abbrev IsCondition : List Token → Type 0
   IsCondition = IsConditionText limits threads
 
-  pub condition_begins : (o : List Place) (ps : List TokenAt) (g : Stage) (s : State)
+  pub condition_begins : (o : List Place) (ps : List TokenAt) (g : Stage) (s : TextState)
       → run (test_at g text.WantsQuantifier (early name block t o)) ps ≡ Ok s
       → Begins IsCondition (tokens_of ps)
   condition_begins o ps g s e =
@@ -207,7 +207,7 @@ module _ (name : List ℕ) (block : init.Block) (t : table.State)
       let m = ends kinds.Condition threads (with_condition o) text.Done text.Done in_condition (condition_alike o) ps stages.Tail text.WantsQuantifier (nothing kinds.Condition) r.0 refl r.1 out in
       let b = done_behind kinds.Condition threads (stage_after stages.Tail (tokens_of m.before)) m.draft m.behind r.0 m.by in
       let same : ps ≡ m.before = m.whole ∙ ap (λ (l : List TokenAt). m.before ++ l) b.0 ∙ append-nil m.before in
-      let draft : r.0.draft ≡ m.draft = ap (λ (y : State). y.draft) b.1 in
+      let draft : r.0.draft ≡ m.draft = ap (λ (y : TextState). y.draft) b.1 in
       let q : m.draft.quantifier ≡ x.quantifier = ap (λ (y : Draft). y.quantifier) (sym draft) ∙ r.2 in
       let a : m.draft.formula ≡ formula_meaning x.condition = ap (λ (y : Draft). y.formula) (sym draft) ∙ r.3 in
       record {
@@ -249,7 +249,7 @@ module _ (name : List ℕ) (block : init.Block) (t : table.State)
 
   start_alike : (h : Draft) (x : Token)
       → AlikeList (text.item_start threads h x) (text.item_start threads (with_places h) x)
-  start_alike h x = choose (is_there threads x)
+  start_alike h x = choose (has_thread threads x)
     where
       choose : (b : Bool)
           → AlikeList (if b then text.item_result h (place_step places.Begins x) else None)
@@ -276,7 +276,7 @@ module _ (name : List ℕ) (block : init.Block) (t : table.State)
   list_alike text.WantsList h x offset i = opened_alike h x
   list_alike (text.Item items.WantsFirst) h x offset i = start_alike h x
   list_alike (text.Item items.WantsNext) h x offset i = next_alike h x
-  list_alike (text.Item (items.Within expected)) h x offset i =
+  list_alike (text.Item (items.InItem expected)) h x offset i =
       item_result_alike h (place_step expected x)
   list_alike (text.Item items.HasItem) h x offset i = ended_alike h x
   list_alike p h x offset i = absurd (false≢true i)
@@ -332,7 +332,7 @@ module _ (name : List ℕ) (block : init.Block) (t : table.State)
             (k ∙ sym (items-append l [] (tokens.End ∷ []))),
       )
 
-  list_begins : (ps : List TokenAt) (n : ℕ) (g : Stage) (s : State)
+  list_begins : (ps : List TokenAt) (n : ℕ) (g : Stage) (s : TextState)
       → run (test_at g text.WantsList (early name block t [])) ps ≡ Ok s
       → Begins (IsTail threads) (tokens_of (word_at n ∷ ps))
   list_begins ps n g s e =
@@ -407,7 +407,7 @@ module _ (name : List ℕ) (block : init.Block) (t : table.State)
       and_then (with_offset q.offset (stepped (test_at g p there) q.token o)) (λ x. run x ps)
 
   same_step : (g : Stage) (a b : Part) (q : TokenAt) (ps : List TokenAt) (o : Option Next)
-      (s : State) → first_step g a q ps o ≡ Ok s → first_step g b q ps o ≡ Ok s
+      (s : TextState) → first_step g a q ps o ≡ Ok s → first_step g b q ps o ≡ Ok s
   same_step g a b q ps None s e = absurd (not_both _ _ e)
   same_step g a b q ps (Some n) s e = e
 
@@ -433,7 +433,7 @@ module _ (name : List ℕ) (block : init.Block) (t : table.State)
   pub any_tail : Begins (IsTail threads) []
   any_tail = of_condition [] any_condition
 
-  pub tail_begins : (q : TokenAt) (ps : List TokenAt) (g : Stage) (s : State)
+  pub tail_begins : (q : TokenAt) (ps : List TokenAt) (g : Stage) (s : TextState)
       → first_step g text.Rows q ps (text.next_at there (text.tail_start q.token)) ≡ Ok s
       → Begins (IsTail threads) (tokens_of (q ∷ ps))
   tail_begins q ps g s e = by_token q.token q.offset e

@@ -23,7 +23,7 @@ use Rattle.litmus_grammar.specs.declared.parts.TextKind.TheVariants as kinds
 use Rattle.litmus_grammar.specs.Grammar.{spelled_init, members, AreEntryTrees, TestTree, spelled_head, spelled_observed, spelled_condition, spelled_test, IsTestTree, IsTestText}
 use Rattle.litmus_grammar.specs.InitMachine as init
 use Rattle.litmus_grammar.specs.TextMachine as text
-use Rattle.litmus_grammar.specs.TextMachine.{Part, Draft, Next, State, TextResult, with_offset, and_then, stepped, part_step, start, run, rule_at}
+use Rattle.litmus_grammar.specs.TextMachine.{Part, Draft, Next, TextState, TextResult, with_offset, and_then, stepped, part_step, start, run, rule_at}
 use Rattle.litmus_grammar.specs.Texts.{spelled_colon, is_init, IsBrokenOff, IsStart, IsWhole, BreaksOff}
 use Rattle.litmus_grammar.proofs.Blocks.{brace_at, block_at, entries_led}
 use Rattle.litmus_grammar.proofs.Bodies.{header_at, rows_at, name_step, names_led}
@@ -37,7 +37,7 @@ use Rattle.litmus_grammar.proofs.Splits.{split}
 use Rattle.litmus_grammar.proofs.TestParts.{Agrees, stood}
 use Rattle.litmus_grammar.proofs.InitStarts.{bracket}
 
-abbrev pub first_draft : State
+abbrev pub first_draft : TextState
 first_draft = start kinds.Test 0
 
 -- ---- lists
@@ -64,12 +64,12 @@ drop_same (x ∷ xs) ys zs e =
     drop_same xs ys zs others
 
 -- what leads to the end of some tokens leads through the first of them
-part_run : (s : State) (front rest : List TokenAt) (z : State) → run s (front ++ rest) ≡ Ok z
-    → (x : State) × (run s front ≡ Ok x) × (run x rest ≡ Ok z)
-part_run s front rest z e = by_run (run s front) refl (sym (run-split s front rest) ∙ e)
+part_run : (s : TextState) (prefix rest : List TokenAt) (z : TextState) → run s (prefix ++ rest) ≡ Ok z
+    → (x : TextState) × (run s prefix ≡ Ok x) × (run x rest ≡ Ok z)
+part_run s prefix rest z e = by_run (run s prefix) refl (sym (run-split s prefix rest) ∙ e)
   where
-    by_run : (r : TextResult) → run s front ≡ r → and_then r (λ x. run x rest) ≡ Ok z
-        → (x : State) × (run s front ≡ Ok x) × (run x rest ≡ Ok z)
+    by_run : (r : TextResult) → run s prefix ≡ r → and_then r (λ x. run x rest) ≡ Ok z
+        → (x : TextState) × (run s prefix ≡ Ok x) × (run x rest ≡ Ok z)
     by_run (Ok x) k h = (x, k, h)
     by_run (Err d) k h = absurd (not_both _ _ h)
 
@@ -84,16 +84,16 @@ with_rest ps rest =
 abbrev header_of : TestTree → List Token
 header_of t = spelled_header t.others []
 
-abbrev front_of : TestTree → List Token
-front_of t = spelled_head t (spelled_init t.init (header_of t))
+abbrev prefix_of : TestTree → List Token
+prefix_of t = spelled_head t (spelled_init t.init (header_of t))
 
-body_front : (t : TestTree) (g : Stage) (may : Bool) (before behind : List TokenAt)
+body_prefix : (t : TestTree) (g : Stage) (may : Bool) (before behind : List TokenAt)
     → AreEntryTrees [] (members t.init) → tokens_of before ≡ spelled_init t.init []
     → tokens_of behind ≡ header_of t
-    → (s : State) × (run (in_head t.name g (text.Head may)) (before ++ behind) ≡ Ok s)
-body_front t g may [] behind fine e k = absurd (no_first e)
-body_front t g may (p ∷ q) [] fine e k = absurd (no_first k)
-body_front t g may (p ∷ q) (w ∷ b) fine e k =
+    → (s : TextState) × (run (in_head t.name g (text.Head may)) (before ++ behind) ≡ Ok s)
+body_prefix t g may [] behind fine e k = absurd (no_first e)
+body_prefix t g may (p ∷ q) [] fine e k = absurd (no_first k)
+body_prefix t g may (p ∷ q) (w ∷ b) fine e k =
     let n = p.offset in
     let brace : p.token ≡ tokens.Mark marks.OpenBrace = same_first e in
     let is_brace : p ≡ brace_at n = ap (λ (x : Token). record { token = x; offset = p.offset }) brace in
@@ -118,13 +118,13 @@ body_front t g may (p ∷ q) (w ∷ b) fine e k =
           ∙ ap (run there) (none_left l.left l.are_left),
     )
 
-front_led : (t : TestTree) (ps : List TokenAt) → is_test_name t.name ≡ true
-    → AreEntryTrees [] (members t.init) → tokens_of ps ≡ front_of t
-    → (s : State) × (run first_draft ps ≡ Ok s)
-front_led t ps i fine e =
+prefix_led : (t : TestTree) (ps : List TokenAt) → is_test_name t.name ≡ true
+    → AreEntryTrees [] (members t.init) → tokens_of ps ≡ prefix_of t
+    → (s : TextState) × (run first_draft ps ≡ Ok s)
+prefix_led t ps i fine e =
     let h = head_led t.name t.text t.keylines ps (spelled_init t.init (header_of t)) i e in
     let cut = split h.left (spelled_init t.init []) (header_of t) (h.are_left ∙ sym (init-append t.init [] (header_of t))) in
-    let r = body_front t h.stage h.may cut.before cut.behind fine cut.are_before cut.are_behind in (
+    let r = body_prefix t h.stage h.may cut.before cut.behind fine cut.are_before cut.are_behind in (
       r.0,
       ap (run first_draft) h.whole
           ∙ run-append first_draft (in_head t.name h.stage (text.Head h.may)) h.before h.left h.by
@@ -137,8 +137,8 @@ abbrev rows_of : TestTree → List Token
 rows_of t =
     spelled_rows t.rows (spelled_observed t.observed (spelled_condition t.quantifier t.condition))
 
-front-append : (t : TestTree) → front_of t ++ rows_of t ≡ spelled_test t
-front-append t =
+prefix-append : (t : TestTree) → prefix_of t ++ rows_of t ≡ spelled_test t
+prefix-append t =
     ap (λ (l : List Token). l ++ rows_of t)
     (sym (head-append t (spelled_init t.init (header_of t))))
     ∙ append_assoc (spelled_head t []) (spelled_init t.init (header_of t)) (rows_of t)
@@ -147,35 +147,35 @@ front-append t =
     ∙ ap (λ (l : List Token). spelled_init t.init (tokens.Word (column_name 0) ∷ l))
     (names-append 1 t.others [] (rows_of t)))
 
-front_length : (t : TestTree) → t.others + 1 ≤ length (front_of t)
-front_length t =
+prefix_length : (t : TestTree) → t.others + 1 ≤ length (prefix_of t)
+prefix_length t =
     let many : t.others + 1 ≤ length (header_of t) = (let h = names_count 1 t.others [] in omega (arith, h)) in
     let a : length (spelled_init t.init (header_of t)) ≡ length (spelled_init t.init []) + length (header_of t) = ap (λ (l : List Token). length l) (sym (init-append t.init [] (header_of t))) ∙ length-append (spelled_init t.init []) (header_of t) in
-    let b : length (front_of t) ≡ length (spelled_head t []) + length (spelled_init t.init (header_of t)) =
+    let b : length (prefix_of t) ≡ length (spelled_head t []) + length (spelled_init t.init (header_of t)) =
     ap (λ (l : List Token). length l) (sym (head-append t (spelled_init t.init (header_of t))))
     ∙ length-append (spelled_head t []) (spelled_init t.init (header_of t)) in
     omega (arith, many, a, b)
 
 pub prefix_taken : (t : TestTree) → IsTestTree limits t → (ps : List TokenAt) (rest : List Token)
     → length ps < 18446744073709551616 → tokens_of ps ++ rest ≡ spelled_test t
-    → (s : State) × (run first_draft ps ≡ Ok s)
+    → (s : TextState) × (run first_draft ps ≡ Ok s)
 prefix_taken t fine ps rest few e = choose (cases_lt (t.others + 1) 18446744073709551616)
   where
-    through : (more : List Token) (z : State) → run first_draft (ps ++ anywhere more) ≡ Ok z
-        → (s : State) × (run first_draft ps ≡ Ok s)
+    through : (more : List Token) (z : TextState) → run first_draft (ps ++ anywhere more) ≡ Ok z
+        → (s : TextState) × (run first_draft ps ≡ Ok s)
     through more z k = let r = part_run first_draft ps (anywhere more) z k in (r.0, r.1)
 
     choose : (t.others + 1 < 18446744073709551616) ⊎ (18446744073709551616 ≤ t.others + 1)
-        → (s : State) × (run first_draft ps ≡ Ok s)
+        → (s : TextState) × (run first_draft ps ≡ Ok s)
     choose (inl lt) =
         let r = test_led t fine lt (ps ++ anywhere rest) (with_rest ps rest ∙ e) in
         through rest _ r.by
     choose (inr ge) =
-        let long = front_length t in
+        let long = prefix_length t in
         let same = length-tokens ps in
-        let le : length (tokens_of ps) ≤ length (front_of t) = omega (arith, long, same, few, ge) in
-        let c = shorter (tokens_of ps) rest (front_of t) (rows_of t) (e ∙ sym (front-append t)) le in
-        let r = front_led t (ps ++ anywhere c.0) fine.name fine.init (with_rest ps c.0 ∙ c.1) in
+        let le : length (tokens_of ps) ≤ length (prefix_of t) = omega (arith, long, same, few, ge) in
+        let c = shorter (tokens_of ps) rest (prefix_of t) (rows_of t) (e ∙ sym (prefix-append t)) le in
+        let r = prefix_led t (ps ++ anywhere c.0) fine.name fine.init (with_rest ps c.0 ∙ c.1) in
         through c.0 r.0 r.1
 
 abbrev pub IsText : List Token → Type 0
@@ -185,23 +185,23 @@ abbrev pub IsBegun : List Token → Type 0
 IsBegun = IsStart IsText stages.Magic
 
 text_taken : (ps : List TokenAt) (rest : List Token) → length ps < 18446744073709551616
-    → IsText (tokens_of ps ++ rest) → (s : State) × (run first_draft ps ≡ Ok s)
+    → IsText (tokens_of ps ++ rest) → (s : TextState) × (run first_draft ps ≡ Ok s)
 text_taken ps rest few x = prefix_taken x.tree x.fine ps rest few x.whole
 
 -- ---- a register's beginning, where an entry may begin
 
-in_init_part : (g : Stage) (p : Part) (x : table.Expectation) → is_init g ≡ true → Agrees g p x
+in_init_part : (g : Stage) (p : Part) (x : table.CellExpectation) → is_init g ≡ true → Agrees g p x
     → (expected : InitExpectation) × (p ≡ text.Init expected)
 in_init_part (stages.Init false y) (text.Init expected) x i a = (expected, refl)
 in_init_part (stages.Init b y) p x i a = absurd a
 in_init_part g p x i a = absurd (false≢true i)
 
-abbrev in_init_at : Stage → InitExpectation → Draft → State
+abbrev in_init_at : Stage → InitExpectation → Draft → TextState
 in_init_at g expected h = test_at g (text.Init expected) h
 
 colon_taken : (g : Stage) (d : List ℕ) (h : Draft) (colon : Bool) (qs : List TokenAt)
     (rest : List Token) → tokens_of qs ++ rest ≡ spelled_colon colon
-    → (s : State) × (run (in_init_at g (expectations.InPlace (places.WantsColon d)) h) qs ≡ Ok s)
+    → (s : TextState) × (run (in_init_at g (expectations.InPlace (places.WantsColon d)) h) qs ≡ Ok s)
 colon_taken g d h colon [] rest e =
     (in_init_at g (expectations.InPlace (places.WantsColon d)) h, refl)
 colon_taken g d h false (q ∷ qs) rest e = absurd (no_first (sym e))
@@ -216,7 +216,7 @@ colon_taken g d h true (q ∷ r ∷ qs) rest e = absurd (no_first (sym (same_oth
 
 entry_taken : (g : Stage) (d : List ℕ) (h : Draft) (colon : Bool) (qs : List TokenAt)
     (rest : List Token) → tokens_of qs ++ rest ≡ tokens.Number false d ∷ spelled_colon colon
-    → (s : State) × (run (in_init_at g expectations.WantsEntry h) qs ≡ Ok s)
+    → (s : TextState) × (run (in_init_at g expectations.WantsEntry h) qs ≡ Ok s)
 entry_taken g d h colon [] rest e = (in_init_at g expectations.WantsEntry h, refl)
 entry_taken g d h colon (q ∷ qs) rest e =
     let same : q.token ≡ tokens.Number false d = same_first e in
@@ -230,7 +230,7 @@ entry_taken g d h colon (q ∷ qs) rest e =
 
 place_taken : (g : Stage) (d : List ℕ) (h : Draft) (colon : Bool) (qs : List TokenAt)
     (rest : List Token) → tokens_of qs ++ rest ≡ tokens.Number false d ∷ spelled_colon colon
-    → (s : State) × (run (in_init_at g (expectations.InPlace places.Begins) h) qs ≡ Ok s)
+    → (s : TextState) × (run (in_init_at g (expectations.InPlace places.Begins) h) qs ≡ Ok s)
 place_taken g d h colon [] rest e = (in_init_at g (expectations.InPlace places.Begins) h, refl)
 place_taken g d h colon (q ∷ qs) rest e =
     let same : q.token ≡ tokens.Number false d = same_first e in
@@ -242,11 +242,11 @@ place_taken g d h colon (q ∷ qs) rest e =
           (record { token = x; offset = q.offset } ∷ qs)) same ∙ r.1,
     )
 
-number_taken : (g : Stage) (expected : InitExpectation) (h : Draft) (z : State)
+number_taken : (g : Stage) (expected : InitExpectation) (h : Draft) (z : TextState)
     → run (in_init_at g expected h) (record { token = bracket; offset = 0 } ∷ []) ≡ Ok z
     → (d : List ℕ) (colon : Bool) (qs : List TokenAt) (rest : List Token)
     → tokens_of qs ++ rest ≡ tokens.Number false d ∷ spelled_colon colon
-    → (s : State) × (run (in_init_at g expected h) qs ≡ Ok s)
+    → (s : TextState) × (run (in_init_at g expected h) qs ≡ Ok s)
 number_taken g expectations.WantsOpen h z k d colon qs rest e = absurd (not_both _ _ k)
 number_taken g expectations.WantsEntry h z k d colon qs rest e = entry_taken g d h colon qs rest e
 number_taken g (expectations.InPlace expected) h z k d colon qs rest e = by_place expected k
@@ -254,7 +254,7 @@ number_taken g (expectations.InPlace expected) h z k d colon qs rest e = by_plac
     by_place : (expected : PlaceExpectation)
         → run (in_init_at g (expectations.InPlace expected) h)
         (record { token = bracket; offset = 0 } ∷ []) ≡ Ok z
-        → (s : State) × (run (in_init_at g (expectations.InPlace expected) h) qs ≡ Ok s)
+        → (s : TextState) × (run (in_init_at g (expectations.InPlace expected) h) qs ≡ Ok s)
     by_place places.Begins j = place_taken g d h colon qs rest e
     by_place places.WantsName j = absurd (not_both _ _ j)
     by_place (places.WantsBracket n) j = absurd (not_both _ _ j)
@@ -268,14 +268,14 @@ number_taken g expectations.HasEntry h z k d colon qs rest e = absurd (not_both 
 
 broken_taken : (ps : List TokenAt) (rest : List Token) → length ps < 18446744073709551616
     → IsBrokenOff IsText stages.Magic (tokens_of ps ++ rest)
-    → (s : State) × (run first_draft ps ≡ Ok s)
+    → (s : TextState) × (run first_draft ps ≡ Ok s)
 broken_taken ps rest few x = choose (cases_lt (length x.before) (length (tokens_of ps)))
   where
     number : List Token
     number = tokens.Number false x.thread ∷ spelled_colon x.colon
 
     within : (more : List Token) → tokens_of ps ++ more ≡ x.before
-        → (s : State) × (run first_draft ps ≡ Ok s)
+        → (s : TextState) × (run first_draft ps ≡ Ok s)
     within more e =
         let us = more ++ (bracket ∷ x.entry.rest) in
         let same : (x.before ++ bracket ∷ []) ++ x.entry.rest ≡ tokens_of ps ++ us =
@@ -284,29 +284,29 @@ broken_taken ps rest few x = choose (cases_lt (length x.before) (length (tokens_
         ∙ append_assoc (tokens_of ps) more (bracket ∷ x.entry.rest) in
         text_taken ps us few (subst IsText same x.entry.text)
 
-    behind : (front back : List TokenAt) → ps ≡ front ++ back → tokens_of front ≡ x.before
-        → tokens_of back ++ rest ≡ number → length front + 1 < 18446744073709551616
-        → (s : State) × (run first_draft ps ≡ Ok s)
-    behind front back whole are_front are_back short =
+    behind : (prefix back : List TokenAt) → ps ≡ prefix ++ back → tokens_of prefix ≡ x.before
+        → tokens_of back ++ rest ≡ number → length prefix + 1 < 18446744073709551616
+        → (s : TextState) × (run first_draft ps ≡ Ok s)
+    behind prefix back whole are_prefix are_back short =
         let one : List TokenAt = record { token = bracket; offset = 0 } ∷ [] in
-        let same : (x.before ++ bracket ∷ []) ++ x.entry.rest ≡ tokens_of (front ++ one) ++ x.entry.rest =
-        ap (λ (l : List Token). (l ++ bracket ∷ []) ++ x.entry.rest) (sym are_front)
-        ∙ ap (λ (l : List Token). l ++ x.entry.rest) (sym (tokens_of-append front one)) in
-        let many : length (front ++ one) ≡ length front + length one = length-append front one in
-        let r = text_taken (front ++ one) x.entry.rest (let h : length (front ++ one) < 18446744073709551616 = omega (arith, many, short) in h) (subst IsText same x.entry.text) in
-        let p = part_run first_draft front one r.0 r.1 in
-        let y = stood front p.0 p.1 in
-        let i : is_init (stage_after stages.Magic (tokens_of front)) ≡ true = ap (λ (l : List Token). is_init (stage_after stages.Magic l)) are_front ∙ x.in_init in
+        let same : (x.before ++ bracket ∷ []) ++ x.entry.rest ≡ tokens_of (prefix ++ one) ++ x.entry.rest =
+        ap (λ (l : List Token). (l ++ bracket ∷ []) ++ x.entry.rest) (sym are_prefix)
+        ∙ ap (λ (l : List Token). l ++ x.entry.rest) (sym (tokens_of-append prefix one)) in
+        let many : length (prefix ++ one) ≡ length prefix + length one = length-append prefix one in
+        let r = text_taken (prefix ++ one) x.entry.rest (let h : length (prefix ++ one) < 18446744073709551616 = omega (arith, many, short) in h) (subst IsText same x.entry.text) in
+        let p = part_run first_draft prefix one r.0 r.1 in
+        let y = stood prefix p.0 p.1 in
+        let i : is_init (stage_after stages.Magic (tokens_of prefix)) ≡ true = ap (λ (l : List Token). is_init (stage_after stages.Magic l)) are_prefix ∙ x.in_init in
         let q = in_init_part _ y.part y.draft.table.expected i y.agrees in
-        let there : p.0 ≡ in_init_at (stage_after stages.Magic (tokens_of front)) q.0 y.draft = y.same ∙ ap (λ (z : Part). test_at (stage_after stages.Magic (tokens_of front)) z y.draft) q.1 in
-        let n = number_taken (stage_after stages.Magic (tokens_of front)) q.0 y.draft r.0 (ap (λ (z : State). run z one) (sym there) ∙ p.2) x.thread x.colon back rest are_back in (
+        let there : p.0 ≡ in_init_at (stage_after stages.Magic (tokens_of prefix)) q.0 y.draft = y.same ∙ ap (λ (z : Part). test_at (stage_after stages.Magic (tokens_of prefix)) z y.draft) q.1 in
+        let n = number_taken (stage_after stages.Magic (tokens_of prefix)) q.0 y.draft r.0 (ap (λ (z : TextState). run z one) (sym there) ∙ p.2) x.thread x.colon back rest are_back in (
           n.0,
-          ap (run first_draft) whole ∙ run-append first_draft p.0 front back p.1
-              ∙ ap (λ (z : State). run z back) there ∙ n.1,
+          ap (run first_draft) whole ∙ run-append first_draft p.0 prefix back p.1
+              ∙ ap (λ (z : TextState). run z back) there ∙ n.1,
         )
 
     choose : (length x.before < length (tokens_of ps)) ⊎ (length (tokens_of ps) ≤ length x.before)
-        → (s : State) × (run first_draft ps ≡ Ok s)
+        → (s : TextState) × (run first_draft ps ≡ Ok s)
     choose (inr le) =
         let c = shorter (tokens_of ps) rest x.before number x.whole le in within c.0 c.1
     choose (inl lt) =
@@ -314,20 +314,20 @@ broken_taken ps rest few x = choose (cases_lt (length x.before) (length (tokens_
         let c = shorter x.before number (tokens_of ps) rest (sym x.whole) (let h : length x.before ≤ length (tokens_of ps) = omega (arith, lt) in h) in
         let cut = split ps x.before c.0 (sym c.1) in
         let left : c.0 ++ rest ≡ number = drop_same x.before (c.0 ++ rest) number (sym (append_assoc x.before c.0 rest) ∙ ap (λ (l : List Token). l ++ rest) c.1 ∙ x.whole) in
-        let front : length cut.before ≡ length x.before = sym (length-tokens cut.before) ∙ ap (λ (l : List Token). length l) cut.are_before in
+        let prefix : length cut.before ≡ length x.before = sym (length-tokens cut.before) ∙ ap (λ (l : List Token). length l) cut.are_before in
         behind cut.before cut.behind cut.whole cut.are_before
         (ap (λ (l : List Token). l ++ rest) cut.are_behind ∙ left) (
         let h : length cut.before + 1 < 18446744073709551616 =
-        omega (arith, front, lt, same, few) in
+        omega (arith, prefix, lt, same, few) in
         h)
 
 start_taken : (ps : List TokenAt) (rest : List Token) → length ps < 18446744073709551616
-    → IsBegun (tokens_of ps ++ rest) → (s : State) × (run first_draft ps ≡ Ok s)
+    → IsBegun (tokens_of ps ++ rest) → (s : TextState) × (run first_draft ps ≡ Ok s)
 start_taken ps rest few (IsWhole x) = text_taken ps rest few x
 start_taken ps rest few (BreaksOff x) = broken_taken ps rest few x
 
 -- a token that is refused cannot follow
-pub test_refused : (before : List TokenAt) (s : State) (p : TokenAt)
+pub test_refused : (before : List TokenAt) (s : TextState) (p : TokenAt)
     → length before + 1 < 18446744073709551616 → run first_draft before ≡ Ok s
     → part_step s.kind s.threads s.draft s.part p.token p.offset ≡ None
     → CanFollow IsBegun (tokens_of before) p.token → ⊥

@@ -24,7 +24,7 @@ use Rattle.litmus_grammar.specs.declared.parts.TextKind.TheVariants as kinds
 use Rattle.litmus_grammar.specs.Grammar.{Listed, EntryTree, spelled_entry, spelled_others, spelled_listed, spelled_init, members, AreEntryTrees, IsInitText, spelled_text, spelled_keylines}
 use Rattle.litmus_grammar.specs.InitMachine as init
 use Rattle.litmus_grammar.specs.TextMachine as text
-use Rattle.litmus_grammar.specs.TextMachine.{Part, Draft, Next, State, with_offset, and_then, stepped, part_step, start, run, rule_at}
+use Rattle.litmus_grammar.specs.TextMachine.{Part, Draft, Next, TextState, with_offset, and_then, stepped, part_step, start, run, rule_at}
 use Rattle.litmus_grammar.specs.Texts.{is_init, spelled_colon, IsBrokenOff, IsWhole, BreaksOff}
 use Rattle.litmus_grammar.proofs.Blocks.{IsBody, Opened, IsOne, IsBroken, brace_at, block_at, block_begins, body_of}
 use Rattle.litmus_grammar.proofs.Bodies.{any_header}
@@ -123,13 +123,13 @@ IsBrokenInit = IsBrokenOff IsInitText (stages.Init true false)
 abbrev IsBodyStart : List Token → Type 0
 IsBodyStart ts = IsBody ts ⊎ IsBrokenInit ts
 
-abbrev AnyState : State → Type 0
+abbrev AnyState : TextState → Type 0
 AnyState s = Unit {0}
 
 any_start : Begins IsBodyStart []
 any_start = record { rest = any_body.rest; text = inl any_body.text }
 
-start_from : (name : List ℕ) (ps : List TokenAt) (n : ℕ) (g : Stage) (s : State)
+start_from : (name : List ℕ) (ps : List TokenAt) (n : ℕ) (g : Stage) (s : TextState)
     → length ps + 1 < 18446744073709551616 → run (block_at name g) ps ≡ Ok s → AnyState s
     → Begins IsBodyStart (tokens_of (brace_at n ∷ ps))
 start_from name ps n g s few e q = by_opened (block_begins name ps n g s few e)
@@ -235,7 +235,7 @@ start_of ts x = by_body x.head.3
         (broken_of x.name x.is_name x.head.0 x.head.1 x.head.2 b))
 
 -- what is taken begins a test, or a text that is broken off
-pub test_begins : (ps : List TokenAt) (s : State) → length ps < 18446744073709551616
+pub test_begins : (ps : List TokenAt) (s : TextState) → length ps < 18446744073709551616
     → run first_draft ps ≡ Ok s → Begins IsBegun (tokens_of ps)
 test_begins ps s few e =
     let b = magic IsBodyStart AnyState any_start start_from ps stages.Magic s few e tt in
@@ -264,12 +264,12 @@ none_led : (h : Draft) (o : Option Part) → text.next_at h o ≡ None → o ≡
 none_led h None e = refl
 none_led h (Some p) e = absurd (none-some _ (sym e))
 
-none_result : (h : Draft) (o : Option table.State) → text.table_result h text.Rows o ≡ None
+none_result : (h : Draft) (o : Option table.TableState) → text.table_result h text.Rows o ≡ None
     → is_taken o ≡ false
 none_result h None e = refl
 none_result h (Some u) e = absurd (none-some _ (sym e))
 
-not_taken : (o : Option table.State) → is_taken o ≡ false → o ≡ None
+not_taken : (o : Option table.TableState) → is_taken o ≡ false → o ≡ None
 not_taken None e = refl
 not_taken (Some u) e = absurd (false≢true (sym e))
 
@@ -304,7 +304,7 @@ module _ (ps : List TokenAt) (few : length ps + 1 < 18446744073709551616) (g : S
   abbrev Can : Token → Type 0
   Can t = CanFollow IsBegun (tokens_of ps) t
 
-  abbrev there : State
+  abbrev there : TextState
   there = test_at g text.Rows h
 
   goes : (t : Token) (n : Next) → text.row_read h t 0 ≡ Some n → Can t
@@ -348,7 +348,7 @@ module _ (ps : List TokenAt) (few : length ps + 1 < 18446744073709551616) (g : S
       (table.rule_at false h.table t) can_by by_can
       (rules_given false h.table f t i (out t offset none))
 
-by_stage : (C : Token → Type 0) (u : table.State) (g : Stage) (t : Token) → IsInCell g
+by_stage : (C : Token → Type 0) (u : table.TableState) (g : Stage) (t : Token) → IsInCell g
     → RulingSays C g (cell_ruling g t) (table.rule_at false u t)
     → RulingSays C g (ruling g t) (rule_at kinds.Test u g t)
 by_stage C u stages.CellBegins (tokens.Broken rule) i x = refl
@@ -357,7 +357,7 @@ by_stage C u stages.InCell (tokens.Broken rule) i x = refl
 by_stage C u stages.InCell t i x = x
 by_stage C u g t i x = absurd i
 
-module _ (C : Token → Type 0) (u : table.State) where
+module _ (C : Token → Type 0) (u : table.TableState) where
   magic_says : (t : Token)
       → RulingSays C stages.Magic (ruling stages.Magic t) (rule_at kinds.Test u stages.Magic t)
   magic_says (tokens.Broken rule) = refl
@@ -427,7 +427,7 @@ module _ (ps : List TokenAt) (few : length ps + 1 < 18446744073709551616) (g : S
   all_say stages.InCell a none = rows_say stages.InCell tt a none
   all_say stages.Tail a none = tail_says Follows kinds.Test h.table t
 
-pub test_says : (ps : List TokenAt) (s : State) (t : Token) (offset : ℕ)
+pub test_says : (ps : List TokenAt) (s : TextState) (t : Token) (offset : ℕ)
     → length ps + 1 < 18446744073709551616 → run first_draft ps ≡ Ok s
     → part_step s.kind s.threads s.draft s.part t offset ≡ None
     → RulingSays (CanFollow IsBegun (tokens_of ps)) (stage_after stages.Magic (tokens_of ps))
@@ -436,17 +436,17 @@ pub test_says : (ps : List TokenAt) (s : State) (t : Token) (offset : ℕ)
 test_says ps s t offset few e none =
     let y = stood ps s e in
     let g = stage_after stages.Magic (tokens_of ps) in
-    let still : part_step kinds.Test 0 y.draft y.part t offset ≡ None = ap (λ (x : State). part_step x.kind x.threads x.draft x.part t offset) (sym y.same) ∙ none in
+    let still : part_step kinds.Test 0 y.draft y.part t offset ≡ None = ap (λ (x : TextState). part_step x.kind x.threads x.draft x.part t offset) (sym y.same) ∙ none in
     subst
-    (λ (x : State). RulingSays (CanFollow IsBegun (tokens_of ps)) g (ruling g t)
+    (λ (x : TextState). RulingSays (CanFollow IsBegun (tokens_of ps)) g (ruling g t)
     (rule_at x.kind x.draft.table x.stage t))
     (sym y.same)
-    (all_say ps few g y.part y.draft (e ∙ ap (λ (x : State). Ok x) y.same) t offset g y.agrees
+    (all_say ps few g y.part y.draft (e ∙ ap (λ (x : TextState). Ok x) y.same) t offset g y.agrees
     still)
 
 -- ---- the fault
 
-go : (before : List TokenAt) (s : State) (rest : List TokenAt) (r : LitmusRule) (n : ℕ)
+go : (before : List TokenAt) (s : TextState) (rest : List TokenAt) (r : LitmusRule) (n : ℕ)
     → length (before ++ rest) < 18446744073709551616 → run first_draft before ≡ Ok s
     → run s rest ≡ Err (r, n) → IsFault IsBegun stages.Magic (before ++ rest) r n
 go before s [] r n few reached e = absurd (not_both (r, n) s (sym e))
@@ -470,7 +470,7 @@ go before s (p ∷ rest) r n few reached e =
 
     by_next : (o : Option Next) → part_step s.kind s.threads s.draft s.part p.token p.offset ≡ o
         → and_then (with_offset p.offset (stepped s p.token o)) (λ x. run x rest) ≡ Err (r, n)
-        → ((x : State) → run first_draft (before ++ p ∷ []) ≡ Ok x → run x rest ≡ Err (r, n)
+        → ((x : TextState) → run first_draft (before ++ p ∷ []) ≡ Ok x → run x rest ≡ Err (r, n)
         → IsFault IsBegun stages.Magic (before ++ p ∷ rest) r n)
         → IsFault IsBegun stages.Magic (before ++ p ∷ rest) r n
     by_next (Some x) q h f = f (went s p.token x) (run_one first_draft s before p x reached q) h

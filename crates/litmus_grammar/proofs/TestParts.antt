@@ -18,7 +18,7 @@ use Rattle.litmus_tokens.specs.declared.place.PlaceExpectation.{PlaceExpectation
 use Rattle.litmus_tokens.specs.declared.place.PlaceExpectation.TheVariants as places
 use Rattle.litmus_tokens.specs.declared.place.PlaceStep.{PlaceStep}
 use Rattle.litmus_tokens.specs.declared.place.PlaceStep.TheVariants as place_steps
-use Rattle.litmus_tokens.specs.PlaceMachine.{place_step, is_there, value_read}
+use Rattle.litmus_tokens.specs.PlaceMachine.{place_step, has_thread, value_read}
 use Rattle.litmus_tokens.specs.ConditionMachine as condition
 use Rattle.litmus_tokens.specs.Conditions.{limits}
 use Rattle.text_values.specs.declared.test.Value as declared_value
@@ -31,7 +31,7 @@ use Rattle.litmus_grammar.specs.declared.parts.TextKind.TheVariants as kinds
 use Rattle.litmus_grammar.specs.InitMachine as init
 use Rattle.litmus_grammar.specs.InitMachine.{Block}
 use Rattle.litmus_grammar.specs.TextMachine as text
-use Rattle.litmus_grammar.specs.TextMachine.{Part, Draft, Next, State, with_offset, and_then, stepped, part_step, run}
+use Rattle.litmus_grammar.specs.TextMachine.{Part, Draft, Next, TextState, with_offset, and_then, stepped, part_step, run}
 use Rattle.litmus_grammar.proofs.Outcomes.{not_both}
 use Rattle.litmus_grammar.proofs.Passing.{test_at}
 use Rattle.litmus_grammar.proofs.Runs.{same_state}
@@ -47,12 +47,12 @@ in_tail text.Done = true
 in_tail p = false
 
 -- what stands in the rows of a table
-abbrev pub AgreesRows : Stage → Part → table.Expectation → Type 0
+abbrev pub AgreesRows : Stage → Part → table.CellExpectation → Type 0
 AgreesRows g text.Rows h = Matches g h
 AgreesRows g p h = ⊥
 
 -- the part where the reader stands, and that of the tokens, with where the table stands
-abbrev pub Agrees : Stage → Part → table.Expectation → Type 0
+abbrev pub Agrees : Stage → Part → table.CellExpectation → Type 0
 Agrees stages.Magic text.Magic h = h ≡ table.Begins
 Agrees stages.Title text.Title h = h ≡ table.Begins
 Agrees stages.TitleEnd text.TitleEnd h = h ≡ table.Begins
@@ -262,7 +262,7 @@ module _ (h : Draft) where
   item_result_tail None = tt
 
   item_start_tail : (n : ℕ) (t : Token) → NextAgrees stages.Tail (text.item_start n h t)
-  item_start_tail n t = choose (is_there n t)
+  item_start_tail n t = choose (has_thread n t)
     where
       choose : (b : Bool)
           → NextAgrees stages.Tail (if b then text.item_result h (place_step places.Begins t)
@@ -283,10 +283,10 @@ module _ (h : Draft) where
       → NextAgrees stages.Tail (text.item_read kinds.Test n h expected t)
   item_tail n items.WantsFirst t = item_start_tail n t
   item_tail n items.WantsNext t = next_item_tail n t
-  item_tail n (items.Within expected) t = item_result_tail (place_step expected t)
+  item_tail n (items.InItem expected) t = item_result_tail (place_step expected t)
   item_tail n items.HasItem t = leads_tail (text.item_ended kinds.Test t) (item_ended_tail t)
 
-  proposition_tail : (q : Quantifier) (f : condition.StepResult)
+  proposition_tail : (q : Quantifier) (f : condition.ConditionStepResult)
       → NextAgrees stages.Tail (text.proposition_result h q f)
   proposition_tail q (condition.Goes fs used expected) = refl
   proposition_tail q (condition.Ends a) = refl
@@ -308,22 +308,22 @@ module _ (h : Draft) where
 
   -- ---- the rows
 
-  taken_agrees : (g : Stage) (o : Option table.State) → IsMatched g o
+  taken_agrees : (g : Stage) (o : Option table.TableState) → IsMatched g o
       → NextAgrees g (text.table_result h text.Rows o)
   taken_agrees g None m = tt
   taken_agrees stages.CellBegins (Some u) m = m
   taken_agrees stages.InCell (Some u) m = m
   taken_agrees g (Some u) m = absurd m
 
-  begins_at : (x : table.Expectation) → table.is_begin x ≡ true → x ≡ table.Begins
+  begins_at : (x : table.CellExpectation) → table.is_begin x ≡ true → x ≡ table.Begins
   begins_at table.Begins e = refl
   begins_at x e = absurd (false≢true e)
 
-  only_begins : (g : Stage) (x : table.Expectation) → Matches g x → x ≡ table.Begins
+  only_begins : (g : Stage) (x : table.CellExpectation) → Matches g x → x ≡ table.Begins
       → g ≡ stages.CellBegins
   only_begins stages.CellBegins table.Begins m e = refl
   only_begins stages.InCell table.Labelled m e = absurd (false≢true (ap table.is_begin e))
-  only_begins stages.InCell (table.Within p) m e = absurd (false≢true (ap table.is_begin e))
+  only_begins stages.InCell (table.InInstruction p) m e = absurd (false≢true (ap table.is_begin e))
   only_begins stages.InCell (table.WantsLabel c) m e = absurd (false≢true (ap table.is_begin e))
   only_begins stages.InCell table.Whole m e = absurd (false≢true (ap table.is_begin e))
   only_begins g x m e = absurd m
@@ -374,13 +374,13 @@ step_agrees stages.Tail p h t offset a = tail_agrees h p t offset a
 step_agrees g p h t offset a = absurd a
 
 -- where the reader of a test stands behind some tokens
-pub record Stood (g : Stage) (s : State) : Type 0 where
+pub record Stood (g : Stage) (s : TextState) : Type 0 where
   pub part : Part
   pub draft : Draft
   pub same : s ≡ test_at g part draft
   pub agrees : Agrees g part draft.table.expected
 
-stood_on : (ps : List TokenAt) (g : Stage) (p : Part) (h : Draft) (s : State)
+stood_on : (ps : List TokenAt) (g : Stage) (p : Part) (h : Draft) (s : TextState)
     → Agrees g p h.table.expected → run (test_at g p h) ps ≡ Ok s
     → Stood (stage_after g (tokens_of ps)) s
 stood_on [] g p h s a e =
@@ -399,6 +399,6 @@ stood_on (q ∷ ps) g p h s a e =
     by_next None x k later = absurd (not_both _ _ k)
     by_next (Some n) x k later = later n x k
 
-pub stood : (ps : List TokenAt) (s : State) → run (text.start kinds.Test 0) ps ≡ Ok s
+pub stood : (ps : List TokenAt) (s : TextState) → run (text.start kinds.Test 0) ps ≡ Ok s
     → Stood (stage_after stages.Magic (tokens_of ps)) s
 stood ps s e = stood_on ps stages.Magic text.Magic (text.nothing kinds.Test) s refl e

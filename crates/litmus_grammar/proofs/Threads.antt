@@ -28,7 +28,7 @@ use Rattle.litmus_table.proofs.Tables.{thread_complete, thread_begins}
 use Rattle.litmus_grammar.specs.declared.parts.TextKind.TheVariants as kinds
 use Rattle.litmus_grammar.specs.Grammar.{IsThreadText}
 use Rattle.litmus_grammar.specs.TextMachine as text
-use Rattle.litmus_grammar.specs.TextMachine.{Part, Draft, Next, State, with_table, with_offset, and_then, stepped, part_step, nothing, start, run, rule_at}
+use Rattle.litmus_grammar.specs.TextMachine.{Part, Draft, Next, TextState, with_table, with_offset, and_then, stepped, part_step, nothing, start, run, rule_at}
 use Rattle.litmus_grammar.proofs.Ends.{no_cell}
 use Rattle.litmus_grammar.proofs.Inner.{AreInner}
 use Rattle.litmus_grammar.proofs.Outcomes.{ReadingWhere, refused, not_both}
@@ -40,19 +40,19 @@ use Rattle.std.proofs.lemmas.Option.{none-some, same_Some}
 
 -- ---- a cell begins in the text where one begins in the table
 
-abbrev pub Matches : Stage → table.Expectation → Type 0
+abbrev pub Matches : Stage → table.CellExpectation → Type 0
 Matches stages.CellBegins table.Begins = Unit {0}
 Matches stages.InCell table.Labelled = Unit {0}
-Matches stages.InCell (table.Within p) = Unit {0}
+Matches stages.InCell (table.InInstruction p) = Unit {0}
 Matches stages.InCell (table.WantsLabel condition) = Unit {0}
 Matches stages.InCell table.Whole = Unit {0}
 Matches g h = ⊥
 
-abbrev pub IsMatched : Stage → Option table.State → Type 0
+abbrev pub IsMatched : Stage → Option table.TableState → Type 0
 IsMatched g None = Unit {0}
 IsMatched g (Some u) = Matches g u.expected
 
-pub in_cell : (g : Stage) (h : table.Expectation) → Matches g h → IsInCell g
+pub in_cell : (g : Stage) (h : table.CellExpectation) → Matches g h → IsInCell g
 in_cell stages.CellBegins h m = tt
 in_cell stages.InCell h m = tt
 in_cell g h m = absurd m
@@ -158,31 +158,31 @@ module _ (threads : List table.ThreadSteps) (c offset : ℕ) where
   start_matches (tokens.Mark marks.Bar) = bar_matches (table.is_last threads c)
   start_matches t = tt
 
-  pub step_matches : (g : Stage) (h : table.Expectation) (t : Token) → Matches g h
+  pub step_matches : (g : Stage) (h : table.CellExpectation) (t : Token) → Matches g h
       → IsMatched (after g t) (table.expected_step threads c h t offset)
   step_matches stages.CellBegins table.Begins t m = start_matches t
   step_matches stages.InCell table.Labelled t m = labelled_matches t
-  step_matches stages.InCell (table.Within p) t m = within_matches p t
+  step_matches stages.InCell (table.InInstruction p) t m = within_matches p t
   step_matches stages.InCell (table.WantsLabel condition) t m = target_matches condition t
   step_matches stages.InCell table.Whole t m = whole_matches t
   step_matches g h t m = absurd m
 
 -- ---- tables on lists of tokens
 
-table_append : (ps qs : List TokenAt) (s : table.State)
+table_append : (ps qs : List TokenAt) (s : table.TableState)
     → laws.run s (ps ++ qs) ≡ then_on (λ u. laws.run u qs) (laws.run s ps)
 table_append [] qs s = refl
 table_append (p ∷ ps) qs s = by_step (table.step s p.token p.offset) (table_append ps qs)
   where
-    by_step : (o : Option table.State)
-        → ((u : table.State) → laws.run u (ps ++ qs) ≡ then_on (λ v. laws.run v qs) (laws.run u ps))
+    by_step : (o : Option table.TableState)
+        → ((u : table.TableState) → laws.run u (ps ++ qs) ≡ then_on (λ v. laws.run v qs) (laws.run u ps))
         → then_on (λ u. laws.run u (ps ++ qs)) o
         ≡ then_on (λ u. laws.run u qs) (then_on (λ u. laws.run u ps) o)
     by_step None later = refl
     by_step (Some u) later = later u
 
 -- a token more
-pub table_one : (ps : List TokenAt) (s u v : table.State) (p : TokenAt) → laws.run s ps ≡ Some u
+pub table_one : (ps : List TokenAt) (s u v : table.TableState) (p : TokenAt) → laws.run s ps ≡ Some u
     → table.step u p.token p.offset ≡ Some v → laws.run s (ps ++ p ∷ []) ≡ Some v
 table_one ps s u v p e m =
     table_append ps (p ∷ []) s ∙ ap (then_on (λ x. laws.run x (p ∷ []))) e
@@ -205,7 +205,7 @@ end_placed : (p : TokenAt) → is_end p.token ≡ true
 end_placed p e = ap (λ (t : Token). record { token = t; offset = p.offset }) (token_end p.token e)
 
 -- a token that the table takes ends no text
-pub cell_goes : (h : Draft) (t : Token) (offset : ℕ) (v : table.State)
+pub cell_goes : (h : Draft) (t : Token) (offset : ℕ) (v : table.TableState)
     → table.step h.table t offset ≡ Some v
     → text.cell_read h t offset ≡ Some (record { part = text.Cells; draft = with_table h v })
 cell_goes h t offset v e = choose (is_end t) refl
@@ -243,19 +243,19 @@ inner_no_end [] n i = i.0
 inner_no_end (q ∷ qs) n i = inner_no_end qs n i.1
 
 module _ (threads : ℕ) where
-  abbrev pub standing : Stage → Part → Draft → State
+  abbrev pub standing : Stage → Part → Draft → TextState
   standing g p h = record { kind = kinds.Thread; threads = threads; stage = g; part = p; draft = h }
 
   -- where a text that is taken so far stands
-  data Standing (g : Stage) (h : Draft) (ps : List TokenAt) (s : State) : Type 0 where
-    Inside : (u : table.State) → laws.run h.table ps ≡ Some u
+  data Standing (g : Stage) (h : Draft) (ps : List TokenAt) (s : TextState) : Type 0 where
+    Inside : (u : table.TableState) → laws.run h.table ps ≡ Some u
         → s ≡ standing (stage_after g (tokens_of ps)) text.Cells (with_table h u)
         → Matches (stage_after g (tokens_of ps)) u.expected → Standing g h ps s
-    Ended : (u : table.State) (qs : List TokenAt) (n : ℕ)
+    Ended : (u : table.TableState) (qs : List TokenAt) (n : ℕ)
         → ps ≡ qs ++ record { token = tokens.End; offset = n } ∷ [] → laws.run h.table qs ≡ Some u
         → is_whole u ≡ true → s.draft ≡ with_table h u → Standing g h ps s
 
-  prepend : (g : Stage) (h : Draft) (p : TokenAt) (ps : List TokenAt) (s : State) (u : table.State)
+  prepend : (g : Stage) (h : Draft) (p : TokenAt) (ps : List TokenAt) (s : TextState) (u : table.TableState)
       → table.step h.table p.token p.offset ≡ Some u
       → Standing (after g p.token) (with_table h u) ps s → Standing g h (p ∷ ps) s
   prepend g h p ps s u q (Inside v r e m) = Inside v (ap (then_on (λ x. laws.run x ps)) q ∙ r) e m
@@ -263,17 +263,17 @@ module _ (threads : ℕ) where
       Ended v (p ∷ qs) n (ap (λ (l : List TokenAt). p ∷ l) whole)
       (ap (then_on (λ x. laws.run x qs)) q ∙ r) ended draft
 
-  last : (g : Stage) (h : Draft) (p : TokenAt) (ps : List TokenAt) (s : State)
+  last : (g : Stage) (h : Draft) (p : TokenAt) (ps : List TokenAt) (s : TextState)
       → (table.can_end h.table.expected && is_end p.token) ≡ true
       → run (standing (after g p.token) text.Done h) ps ≡ Ok s → Standing g h (p ∷ ps) s
   last g h p [] s q e =
       let b = and_parts (table.can_end h.table.expected) (is_end p.token) q in
       let same : standing (after g p.token) text.Done h ≡ s = same_state _ _ e in
       Ended h.table [] p.offset (ap (λ (x : TokenAt). x ∷ []) (end_placed p b.1)) refl b.0
-      (ap (λ (x : State). x.draft) (sym same))
+      (ap (λ (x : TextState). x.draft) (sym same))
   last g h p (r ∷ ps) s q e = absurd (not_both _ _ e)
 
-  stands_there : (ps : List TokenAt) (g : Stage) (h : Draft) (s : State)
+  stands_there : (ps : List TokenAt) (g : Stage) (h : Draft) (s : TextState)
       → Matches g h.table.expected → run (standing g text.Cells h) ps ≡ Ok s → Standing g h ps s
   stands_there [] g h s m e =
       let same : standing g text.Cells h ≡ s = same_state _ _ e in
@@ -282,12 +282,12 @@ module _ (threads : ℕ) where
       by_end (table.can_end h.table.expected && is_end p.token) refl e
       (λ u k x. stands_there ps (after g p.token) (with_table h u) s k x)
     where
-      by_step : (o : Option table.State) → table.step h.table p.token p.offset ≡ o
+      by_step : (o : Option table.TableState) → table.step h.table p.token p.offset ≡ o
           → and_then
           (with_offset p.offset (stepped (standing g text.Cells h) p.token
           (text.table_result h text.Cells o)))
           (λ x. run x ps) ≡ Ok s
-          → ((u : table.State) → Matches (after g p.token) u.expected
+          → ((u : table.TableState) → Matches (after g p.token) u.expected
           → run (standing (after g p.token) text.Cells (with_table h u)) ps ≡ Ok s
           → Standing (after g p.token) (with_table h u) ps s) → Standing g h (p ∷ ps) s
       by_step None q k later = absurd (not_both _ _ k)
@@ -303,7 +303,7 @@ module _ (threads : ℕ) where
           else text.table_result h text.Cells
           (table.step h.table p.token p.offset))))
           (λ x. run x ps) ≡ Ok s
-          → ((u : table.State) → Matches (after g p.token) u.expected
+          → ((u : table.TableState) → Matches (after g p.token) u.expected
           → run (standing (after g p.token) text.Cells (with_table h u)) ps ≡ Ok s
           → Standing (after g p.token) (with_table h u) ps s) → Standing g h (p ∷ ps) s
       by_end true q k later = last g h p ps s q k
@@ -311,20 +311,20 @@ module _ (threads : ℕ) where
 
   -- ---- each text is taken
 
-  cells_run : (ps : List TokenAt) (g : Stage) (h : Draft) (u : table.State)
+  cells_run : (ps : List TokenAt) (g : Stage) (h : Draft) (u : table.TableState)
       → laws.run h.table ps ≡ Some u
       → run (standing g text.Cells h) ps
       ≡ Ok (standing (stage_after g (tokens_of ps)) text.Cells (with_table h u))
   cells_run [] g h u e =
       let same : h.table ≡ u = same_Some h.table u e in
-      ap (λ (x : table.State). Ok (standing g text.Cells (with_table h x))) same
+      ap (λ (x : table.TableState). Ok (standing g text.Cells (with_table h x))) same
   cells_run (p ∷ ps) g h u e =
       by_step (table.step h.table p.token p.offset) refl e
       (λ v k. cells_run ps (after g p.token) (with_table h v) u k)
     where
-      by_step : (o : Option table.State) → table.step h.table p.token p.offset ≡ o
+      by_step : (o : Option table.TableState) → table.step h.table p.token p.offset ≡ o
           → then_on (λ x. laws.run x ps) o ≡ Some u
-          → ((v : table.State) → laws.run v ps ≡ Some u
+          → ((v : table.TableState) → laws.run v ps ≡ Some u
           → run (standing (after g p.token) text.Cells (with_table h v)) ps
           ≡ Ok (standing (stage_after (after g p.token) (tokens_of ps)) text.Cells
           (with_table h u)))
@@ -343,7 +343,7 @@ module _ (threads : ℕ) where
 
   -- the machine behind a text, with what it keeps
   pub record TakesThread (ps : List TokenAt) (x : IsThreadText (tokens_of ps)) : Type 0 where
-    pub after : table.State
+    pub after : table.TableState
     pub stage : Stage
     pub by : run (start kinds.Thread threads) ps
         ≡ Ok (standing stage text.Done (with_table first_draft after))
@@ -382,14 +382,14 @@ module _ (threads : ℕ) where
       }
 
   takes : (ps : List TokenAt) → IsThreadText (tokens_of ps)
-      → (s : State) × (run (start kinds.Thread threads) ps ≡ Ok s)
+      → (s : TextState) × (run (start kinds.Thread threads) ps ≡ Ok s)
   takes ps x =
       let r = thread_taken ps x in
       (standing r.stage text.Done (with_table first_draft r.after), r.by)
 
   -- ---- what is taken begins a text
 
-  ended_text : (ps qs : List TokenAt) (n : ℕ) (u : table.State)
+  ended_text : (ps qs : List TokenAt) (n : ℕ) (u : table.TableState)
       → ps ≡ qs ++ record { token = tokens.End; offset = n } ∷ []
       → laws.run (laws.columns 0) qs ≡ Some u → is_whole u ≡ true → IsThreadText (tokens_of ps)
   ended_text ps qs n u whole r ended =
@@ -407,7 +407,7 @@ module _ (threads : ℕ) where
             (to_text (ts ++ b.rest) b.text);
       }
 
-  begins_by : (ps : List TokenAt) (s : State) → Standing stages.CellBegins first_draft ps s
+  begins_by : (ps : List TokenAt) (s : TextState) → Standing stages.CellBegins first_draft ps s
       → Begins IsThreadText (tokens_of ps)
   begins_by ps s (Inside u r e m) =
       begins_more (tokens_of ps) (thread_begins ps (record { after = u; by = r }))
@@ -423,26 +423,26 @@ module _ (threads : ℕ) where
   is_done text.Done = true
   is_done p = false
 
-  whole_by : (ps : List TokenAt) (s : State) → Standing stages.CellBegins first_draft ps s
+  whole_by : (ps : List TokenAt) (s : TextState) → Standing stages.CellBegins first_draft ps s
       → s.part ≡ text.Done → IsThreadText (tokens_of ps)
   whole_by ps s (Inside u r e m) d =
-      absurd (false≢true (ap (λ (x : State). is_done x.part) (sym e) ∙ ap is_done d))
+      absurd (false≢true (ap (λ (x : TextState). is_done x.part) (sym e) ∙ ap is_done d))
   whole_by ps s (Ended u qs n whole r ended draft) d = ended_text ps qs n u whole r ended
 
-  pub thread_whole : (ps : List TokenAt) (s : State) → run (start kinds.Thread threads) ps ≡ Ok s
+  pub thread_whole : (ps : List TokenAt) (s : TextState) → run (start kinds.Thread threads) ps ≡ Ok s
       → s.part ≡ text.Done → IsThreadText (tokens_of ps)
   thread_whole ps s e d = whole_by ps s (stands_there ps stages.CellBegins first_draft s tt e) d
 
   -- ---- the rule that another token breaks
 
-  module _ (ps : List TokenAt) (u : table.State) (by : laws.run (laws.columns 0) ps ≡ Some u)
+  module _ (ps : List TokenAt) (u : table.TableState) (by : laws.run (laws.columns 0) ps ≡ Some u)
       (g : Stage)
       (reached : run (start kinds.Thread threads) ps
       ≡ Ok (standing g text.Cells (with_table first_draft u))) where
     abbrev Can : Token → Type 0
     Can t = CanFollow IsThreadText (tokens_of ps) t
 
-    one_more : (t : Token) (v : table.State) → table.step u t 0 ≡ Some v → Can t
+    one_more : (t : Token) (v : table.TableState) → table.step u t 0 ≡ Some v → Can t
     one_more t v e =
         let p : TokenAt = record { token = t; offset = 0 } in
         subst (Begins IsThreadText) (tokens_of-append ps (p ∷ [])) (begins_more
@@ -462,7 +462,7 @@ module _ (threads : ℕ) where
     can_by : (t : Token) → stands true u t ≡ true → Can t
     can_by t e = choose (table.step u t 0) refl e
       where
-        choose : (o : Option table.State) → table.step u t 0 ≡ o
+        choose : (o : Option table.TableState) → table.step u t 0 ≡ o
             → (is_taken o || (is_whole u && is_end t)) ≡ true → Can t
         choose (Some v) q k = one_more t v q
         choose None q k = let b = and_parts (is_whole u) (is_end t) k in ends_here t b.0 b.1
@@ -471,7 +471,7 @@ module _ (threads : ℕ) where
         → text.cell_read (with_table first_draft u) t 0 ≡ None
     stuck t e = choose (table.step u t 0) refl e
       where
-        choose : (o : Option table.State) → table.step u t 0 ≡ o
+        choose : (o : Option table.TableState) → table.step u t 0 ≡ o
             → (is_taken o || (is_whole u && is_end t)) ≡ false
             → text.cell_read (with_table first_draft u) t 0 ≡ None
         choose (Some v) q k = absurd (false≢true (sym k))
@@ -511,7 +511,7 @@ module _ (threads : ℕ) where
         says_so (λ x. stands true u x ≡ true) Can g (cell_ruling g t) (table.rule_at true u t)
         can_by by_can (rules_given true u g t there (out t offset none))
 
-  by_stage : (C : Token → Type 0) (u : table.State) (g : Stage) (t : Token) → IsInCell g
+  by_stage : (C : Token → Type 0) (u : table.TableState) (g : Stage) (t : Token) → IsInCell g
       → RulingSays C g (cell_ruling g t) (table.rule_at true u t)
       → RulingSays C g (ruling g t) (rule_at kinds.Thread u g t)
   by_stage C u stages.CellBegins (tokens.Broken rule) i x = refl
@@ -520,7 +520,7 @@ module _ (threads : ℕ) where
   by_stage C u stages.InCell t i x = x
   by_stage C u g t i x = absurd i
 
-  says_by : (ps : List TokenAt) (s : State) (t : Token) (offset : ℕ) → AreInner (tokens_of ps)
+  says_by : (ps : List TokenAt) (s : TextState) (t : Token) (offset : ℕ) → AreInner (tokens_of ps)
       → run (start kinds.Thread threads) ps ≡ Ok s
       → part_step s.kind s.threads s.draft s.part t offset ≡ None
       → Standing stages.CellBegins first_draft ps s
@@ -530,13 +530,13 @@ module _ (threads : ℕ) where
   says_by ps s t offset fine e none (Inside u r same m) =
       let g = stage_after stages.CellBegins (tokens_of ps) in
       let there = in_cell g u.expected m in
-      let still : text.cell_read (with_table first_draft u) t offset ≡ None = ap (λ (x : State). part_step x.kind x.threads x.draft x.part t offset) (sym same) ∙ none in
+      let still : text.cell_read (with_table first_draft u) t offset ≡ None = ap (λ (x : TextState). part_step x.kind x.threads x.draft x.part t offset) (sym same) ∙ none in
       subst
-      (λ (x : State). RulingSays (CanFollow IsThreadText (tokens_of ps)) g (ruling g t)
+      (λ (x : TextState). RulingSays (CanFollow IsThreadText (tokens_of ps)) g (ruling g t)
       (rule_at x.kind x.draft.table x.stage t))
       (sym same)
       (by_stage (CanFollow IsThreadText (tokens_of ps)) u g t there (cell_says ps u r g
-      (e ∙ ap (λ (x : State). Ok x) same) t offset there still))
+      (e ∙ ap (λ (x : TextState). Ok x) same) t offset there still))
   says_by ps s t offset fine e none (Ended u qs n whole r ended draft) =
       absurd (inner_no_end qs n (subst (λ (l : List TokenAt). AreInner (tokens_of l)) whole fine))
 

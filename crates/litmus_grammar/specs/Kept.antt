@@ -1,6 +1,6 @@
 -- Where that stands which the later checks may blame, and which is refused.
 use Rattle.std.specs.Prelude.{ℕ, ◌≤◌, List, [], ◌∷◌, Ok, Err}
-use Rattle.litmus_table.specs.Within.{AreThreadsUpTo}
+use Rattle.litmus_table.specs.Bounds.{AreThreadsUpTo}
 use Rattle.litmus_grammar.specs.TextMachine.{Draft, TextResult}
 
 abbrev pub AreAtMost : ℕ → List ℕ → Type 0

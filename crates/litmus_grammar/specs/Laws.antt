@@ -15,13 +15,13 @@ use Rattle.litmus_table.specs.Late.{thread_notes, columns_notes}
 use Rattle.litmus_table.specs.Laws.{steps_of, AreNoted}
 use Rattle.litmus_grammar.specs.declared.parts.TextKind.{TextKind}
 use Rattle.litmus_grammar.specs.Grammar.{EntryTree, spelled_entry, members, TestTree}
-use Rattle.litmus_grammar.specs.TextMachine.{Draft, State, start, run}
+use Rattle.litmus_grammar.specs.TextMachine.{Draft, TextState, start, run}
 use Rattle.litmus_grammar.specs.Texts.{before_entries, before_rows}
 
 -- The machine takes these tokens, and what it holds then is this.
 pub record Takes (kind : TextKind) (threads : ℕ) (ps : List TokenAt) (Holds : Draft → Type 0)
     : Type 0 where
-  pub after : State
+  pub after : TextState
   pub by : run (start kind threads) ps ≡ Ok after
   pub holds : Holds after.draft
 

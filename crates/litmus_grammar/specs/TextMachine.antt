@@ -19,7 +19,7 @@ use Rattle.litmus_tokens.specs.declared.place.PlaceExpectation.TheVariants as pl
 use Rattle.litmus_tokens.specs.declared.place.PlaceStep.{PlaceStep}
 use Rattle.litmus_tokens.specs.declared.place.PlaceStep.TheVariants as place_steps
 use Rattle.litmus_tokens.specs.Conditions.{limits}
-use Rattle.litmus_tokens.specs.PlaceMachine.{place_step, place_of, is_there}
+use Rattle.litmus_tokens.specs.PlaceMachine.{place_step, place_of, has_thread}
 use Rattle.litmus_tokens.specs.ConditionMachine as condition
 use Rattle.litmus_table.specs.Machine as table
 use Rattle.litmus_grammar.specs.declared.parts.TextKind.{TextKind}
@@ -47,8 +47,8 @@ pub data Part : Type 0 where
   Item : (expected : ItemExpectation) → Part
   WantsQuantifier : Part
   AfterTilde : Part
-  Proposition : (quantifier : Quantifier) (frames : List condition.Frame) (used : ℕ)
-      (expected : condition.Expectation) → Part
+  Proposition : (quantifier : Quantifier) (frames : List condition.ConditionFrame) (used : ℕ)
+      (expected : condition.ConditionExpectation) → Part
   ListOrEnd : Part
   WantsEnd : Part
   Done : Part
@@ -57,7 +57,7 @@ pub data Part : Type 0 where
 pub record Draft : Type 0 where
   pub name : List ℕ
   pub init : init.Block
-  pub table : table.State
+  pub table : table.TableState
   pub observed : List Place
   pub quantifier : Quantifier
   pub formula : Formula
@@ -90,7 +90,7 @@ with_init h b =
       formula = h.formula;
     }
 
-abbrev pub with_table : Draft → table.State → Draft
+abbrev pub with_table : Draft → table.TableState → Draft
 with_table h t =
     record {
       name = h.name;
@@ -179,7 +179,7 @@ init_result kind h None = None
 
 -- ---- the table
 
-abbrev pub table_result : Draft → Part → Option table.State → Option Next
+abbrev pub table_result : Draft → Part → Option table.TableState → Option Next
 table_result h p (Some t) = at (with_table h t) p
 table_result h p None = None
 
@@ -209,7 +209,7 @@ exists_read (tokens.Word w) =
     if bytes_eq w (codes "exists") then Some (proposition NotExists) else None
 exists_read t = None
 
-abbrev pub proposition_result : Draft → Quantifier → condition.StepResult → Option Next
+abbrev pub proposition_result : Draft → Quantifier → condition.ConditionStepResult → Option Next
 proposition_result h q (condition.Goes fs used expected) = at h (Proposition q fs used expected)
 proposition_result h q (condition.Ends a) = at (with_condition h q a) Done
 proposition_result h q condition.Refuses = None
@@ -225,14 +225,14 @@ after_list kinds.Locations = WantsEnd
 after_list kind = WantsQuantifier
 
 abbrev pub item_result : Draft → Option PlaceStep → Option Next
-item_result h (Some (place_steps.Goes expected)) = at h (Item (items.Within expected))
+item_result h (Some (place_steps.Goes expected)) = at h (Item (items.InItem expected))
 item_result h (Some (place_steps.Ends written)) =
     at (with_place h (place_of written)) (Item items.HasItem)
 item_result h None = None
 
 abbrev pub item_start : ℕ → Draft → Token → Option Next
 item_start threads h t =
-    if is_there threads t then item_result h (place_step place_expectations.Begins t) else None
+    if has_thread threads t then item_result h (place_step place_expectations.Begins t) else None
 
 abbrev pub next_item : TextKind → ℕ → Draft → Token → Option Next
 next_item kind threads h (tokens.Mark marks.CloseBracket) = at h (after_list kind)
@@ -246,7 +246,7 @@ item_ended kind t = None
 abbrev pub item_read : TextKind → ℕ → Draft → ItemExpectation → Token → Option Next
 item_read kind threads h items.WantsFirst t = item_start threads h t
 item_read kind threads h items.WantsNext t = next_item kind threads h t
-item_read kind threads h (items.Within expected) t = item_result h (place_step expected t)
+item_read kind threads h (items.InItem expected) t = item_result h (place_step expected t)
 item_read kind threads h items.HasItem t = next_at h (item_ended kind t)
 
 -- behind the table
@@ -310,7 +310,7 @@ abbrev pub is_thread : TextKind → Bool
 is_thread kinds.Thread = true
 is_thread kind = false
 
-abbrev pub stage_rule : TextKind → table.State → Stage → Token → LitmusRule
+abbrev pub stage_rule : TextKind → table.TableState → Stage → Token → LitmusRule
 stage_rule kind rows stages.CellBegins t = table.rule_at (is_thread kind) rows t
 stage_rule kind rows stages.InCell t = table.rule_at (is_thread kind) rows t
 stage_rule kind rows (stages.Init alone true) t =
@@ -318,20 +318,20 @@ stage_rule kind rows (stages.Init alone true) t =
 stage_rule kind rows stages.Tail t = if is_filter_word t then rules.Filter else rules.Condition
 stage_rule kind rows s t = part_rule s
 
-abbrev pub rule_at : TextKind → table.State → Stage → Token → LitmusRule
+abbrev pub rule_at : TextKind → table.TableState → Stage → Token → LitmusRule
 rule_at kind rows s (tokens.Broken rule) = rule
 rule_at kind rows s t = stage_rule kind rows s t
 
 -- ---- a whole text
 
-pub record State : Type 0 where
+pub record TextState : Type 0 where
   pub kind : TextKind
   pub threads : ℕ
   pub stage : Stage
   pub part : Part
   pub draft : Draft
 
-abbrev pub stepped : State → Token → Option Next → Result State LitmusRule
+abbrev pub stepped : TextState → Token → Option Next → Result TextState LitmusRule
 stepped s t (Some n) =
     Ok (record {
       kind = s.kind;
@@ -342,7 +342,7 @@ stepped s t (Some n) =
     })
 stepped s t None = Err (rule_at s.kind s.draft.table s.stage t)
 
-abbrev pub step : State → Token → ℕ → Result State LitmusRule
+abbrev pub step : TextState → Token → ℕ → Result TextState LitmusRule
 step s t offset = stepped s t (part_step s.kind s.threads s.draft s.part t offset)
 
 abbrev pub first_stage : TextKind → Stage
@@ -360,7 +360,7 @@ first_part kinds.Condition = WantsQuantifier
 first_part kinds.Locations = ListOrEnd
 
 -- the text of a thread alone is a table of one column without a header
-abbrev pub first_table : TextKind → table.State
+abbrev pub first_table : TextKind → table.TableState
 first_table kinds.Thread = table.widened table.start
 first_table kind = table.start
 
@@ -374,7 +374,7 @@ nothing kind = record {
   formula = Constant true;
 }
 
-abbrev pub start : TextKind → ℕ → State
+abbrev pub start : TextKind → ℕ → TextState
 start kind threads =
     record {
       kind = kind;
@@ -385,17 +385,17 @@ start kind threads =
     }
 
 abbrev pub TextResult : Type 0
-TextResult = Result State (LitmusRule × ℕ)
+TextResult = Result TextState (LitmusRule × ℕ)
 
-abbrev pub with_offset : ℕ → Result State LitmusRule → TextResult
+abbrev pub with_offset : ℕ → Result TextState LitmusRule → TextResult
 with_offset offset (Ok s) = Ok s
 with_offset offset (Err r) = Err (r, offset)
 
-abbrev pub and_then : TextResult → (State → TextResult) → TextResult
+abbrev pub and_then : TextResult → (TextState → TextResult) → TextResult
 and_then (Ok s) f = f s
 and_then (Err e) f = Err e
 
 -- the tokens one after another, with the offset of the first that is refused
-abbrev pub run : State → List TokenAt → TextResult
+abbrev pub run : TextState → List TokenAt → TextResult
 run s [] = Ok s
 run s (p ∷ ps) = and_then (with_offset p.offset (step s p.token p.offset)) (λ s'. run s' ps)

@@ -19,9 +19,7 @@ use Rattle.litmus_tokens.specs.Conditions.{PlaceTree, Location, Register, limits
 use Rattle.litmus_table.specs.Grammar.{spelled_header, thread_meaning}
 use Rattle.litmus_table.specs.Late.{Late, or_else, late_notes, late_columns, thread_notes}
 use Rattle.litmus_grammar.specs.Grammar.{EntryTree, spelled_entry, spelled_init, spelled_head, members, entry_meaning, TestTree, test_meaning, IsTestText, IsInitText, IsThreadText, IsLocationsText}
-
-abbrev pub most_bytes : ℕ
-most_bytes = 65536
+use Rattle.text_values.specs.Layout.{most_bytes}
 
 -- ---- what the later checks find in a text that is one
 

@@ -14,15 +14,15 @@ ghost use Rattle.litmus_grammar.specs.declared.parts.TextKind.TheVariants.{Test,
 ghost use Rattle.litmus_grammar.specs.Grammar.{members, IsTestText, IsInitText, IsThreadText, IsLocationsText};
 ghost use Rattle.litmus_grammar.specs.Kept.{StandsUpTo};
 ghost use Rattle.litmus_grammar.specs.Laws.{Takes, HoldsCondition, HoldsPlaces, HoldsEntries, HoldsThread, HoldsTest};
-ghost use Rattle.litmus_grammar.specs.TextMachine.{State, Done, start, first_stage, run};
+ghost use Rattle.litmus_grammar.specs.TextMachine.{TextState, Done, start, first_stage, run};
 ghost use Rattle.litmus_grammar.specs.Texts.{IsStart};
 
 /// The machine that goes from token to token reads just the conditions of the grammar, within its
 /// limits.
 pub fn reads_conditions()
     // What it takes to the end is a condition.
-    ensures found { (threads : ℕ) (ps : List TokenAt) (s : State) → threads < 18446744073709551616
-        → run (start Condition threads) ps ≡ Ok s → s.part ≡ Done
+    ensures found { (threads : ℕ) (ps : List TokenAt) (s : TextState)
+        → threads < 18446744073709551616 → run (start Condition threads) ps ≡ Ok s → s.part ≡ Done
         → IsConditionText limits threads (tokens_of ps) }
     // It takes each condition, and holds what it means.
     ensures complete { (threads : ℕ) (ps : List TokenAt)
@@ -36,7 +36,7 @@ pub fn reads_conditions()
 
 /// The same for lists of places.
 pub fn reads_lists()
-    ensures found { (threads : ℕ) (ps : List TokenAt) (s : State)
+    ensures found { (threads : ℕ) (ps : List TokenAt) (s : TextState)
         → run (start Locations threads) ps ≡ Ok s → s.part ≡ Done
         → IsLocationsText threads (tokens_of ps) }
     ensures complete { (threads : ℕ) (ps : List TokenAt)
@@ -49,7 +49,7 @@ pub fn reads_lists()
 
 /// The same for init blocks. It keeps the byte that each entry begins at.
 pub fn reads_init_blocks()
-    ensures found { (threads : ℕ) (ps : List TokenAt) (s : State)
+    ensures found { (threads : ℕ) (ps : List TokenAt) (s : TextState)
         → run (start Init threads) ps ≡ Ok s → s.part ≡ Done → IsInitText (tokens_of ps) }
     ensures complete { (threads : ℕ) (ps : List TokenAt) (x : IsInitText (tokens_of ps))
         → Takes Init threads ps (HoldsEntries ps (tokens.Mark OpenBrace ∷ []) (members x.entries)) }
@@ -62,7 +62,7 @@ pub fn reads_init_blocks()
 /// The same for threads, whose faults are those of the tokens of bytes. It keeps the bytes of the
 /// labels.
 pub fn reads_threads()
-    ensures found { (threads : ℕ) (ps : List TokenAt) (s : State)
+    ensures found { (threads : ℕ) (ps : List TokenAt) (s : TextState)
         → run (start Thread threads) ps ≡ Ok s → s.part ≡ Done → IsThreadText (tokens_of ps) }
     ensures complete { (threads : ℕ) (ps : List TokenAt) (x : IsThreadText (tokens_of ps))
         → Takes Thread threads ps (HoldsThread ps x.tree) }
@@ -73,7 +73,7 @@ pub fn reads_threads()
 
 /// The same for tests. It keeps the bytes of the entries and of the labels.
 pub fn reads_tests()
-    ensures found { (ps : List TokenAt) (s : State) → length ps < 18446744073709551616
+    ensures found { (ps : List TokenAt) (s : TextState) → length ps < 18446744073709551616
         → run (start Test 0) ps ≡ Ok s → s.part ≡ Done → IsTestText limits (tokens_of ps) }
     ensures complete { (ps : List TokenAt) (x : IsTestText limits (tokens_of ps))
         → length ps < 18446744073709551616 → Takes Test 0 ps (HoldsTest ps x.tree) }

@@ -52,7 +52,7 @@ pub enum ItemExpectation {
     /// An observable or `]`, behind `;`.
     WantsNext,
     /// The next token of an observable.
-    Within(PlaceExpectation),
+    InItem(PlaceExpectation),
     /// `;` or `]`, behind an observable.
     HasItem,
 }

@@ -10,8 +10,8 @@ use Rattle.litmus_tokens.specs.declared.stage.Stage.TheVariants.{Tail}
 use Rattle.litmus_tokens.specs.declared.token.Token.{Token}
 use Rattle.litmus_tokens.specs.declared.token.Token.TheVariants as tokens
 use Rattle.litmus_tokens.specs.declared.token.Mark.TheVariants as marks
-use Rattle.litmus_tokens.specs.declared.lexer.Front.TheVariants.{Lexeme}
-use Rattle.litmus_tokens.specs.Lexer.{is_word_byte, comment_front, front}
+use Rattle.litmus_tokens.specs.declared.lexer.NextLexeme.TheVariants.{Lexeme}
+use Rattle.litmus_tokens.specs.Lexer.{is_word_byte, comment_lexeme, first_lexeme}
 use Rattle.litmus_tokens.specs.Stage.{after}
 use Rattle.litmus_tokens.specs.Texts.{tokens_from}
 use Rattle.text_values.specs.declared.test.Place.{Place}
@@ -26,8 +26,9 @@ use Rattle.litmus_tokens.specs.Conditions.{FormulaTree, Word, Atom, Prefix, Pair
 use Rattle.litmus_printing.specs.Printing.{place_text, value_text, connective_text, is_loose, formula_text, condition_text}
 use Rattle.text_values.specs.Joined.{bracketed}
 use Rattle.litmus_grammar.specs.Texts.{ReadsCondition}
-use Rattle.litmus_laws.specs.Written.{begins_word, IsWord, IsPlace, IsFormula, IsTextOfCondition, one_where, nesting, joins, IsFormulaWithinLimits}
-use Rattle.litmus_laws.proofs.Read.{Within, Entries, Operands, Condition, part, core, free, inner, inner_turn}
+use Rattle.litmus_laws.specs.Written.{begins_word, IsWord, IsPlace, IsFormula, IsTextOfCondition, nesting, joins, IsFormulaWithinLimits}
+use Rattle.text_laws.specs.Counts.{one_where}
+use Rattle.litmus_laws.proofs.Read.{InnerPart, Entries, Operands, Condition, part, core, free, inner, inner_turn}
 use Rattle.litmus_laws.proofs.Numbers.{digits_first, word, are_back}
 use Rattle.litmus_laws.proofs.Places.{equals, Stops, value, value_tree, value_back, value_fine, value_first, place_tree, square_place, place_back, place_fine, place_there}
 use Rattle.litmus_tokens.proofs.Branches.{level-le}
@@ -49,39 +50,39 @@ each_of (c ∷ cs) h (suc k) lt =
 pub is_word : (n : List ℕ) → begins_word (slice_index n 0) ≡ true → all_of_word n ≡ true → IsWord n
 is_word n f h = record { first = f; each = each_of n h }
 
-pub blank : (w : Within) (bs : List ℕ) → inner w (32 ∷ bs) ≡ inner w bs
-unfolding tokens_from front
+pub blank : (w : InnerPart) (bs : List ℕ) → inner w (32 ∷ bs) ≡ inner w bs
+unfolding tokens_from first_lexeme
 blank Entries bs = free (part Entries) _ 0 1 bs refl
 blank Operands bs = free (part Operands) _ 0 1 bs refl
 blank Condition bs = free (part Condition) _ 0 1 bs refl
 
-pub line_end : (w : Within) (bs : List ℕ) → inner w (10 ∷ bs) ≡ inner w bs
-unfolding tokens_from front
+pub line_end : (w : InnerPart) (bs : List ℕ) → inner w (10 ∷ bs) ≡ inner w bs
+unfolding tokens_from first_lexeme
 line_end Entries bs = free (part Entries) _ 0 1 bs refl
 line_end Operands bs = free (part Operands) _ 0 1 bs refl
 line_end Condition bs = free (part Condition) _ 0 1 bs refl
 
 open_here : (bs : List ℕ) → (slice_index bs 0 ≡ 42 → ⊥)
-    → front Tail false (40 ∷ bs) ≡ Lexeme (tokens.Mark marks.Open) 1
-unfolding front
+    → first_lexeme Tail false (40 ∷ bs) ≡ Lexeme (tokens.Mark marks.Open) 1
+unfolding first_lexeme
 open_here bs h =
     ap
-    (λ (b : Bool). if b then comment_front (length (40 ∷ bs)) (comment_of (40 ∷ bs))
+    (λ (b : Bool). if b then comment_lexeme (length (40 ∷ bs)) (comment_of (40 ∷ bs))
     else Lexeme (tokens.Mark marks.Open) 1)
     (other (slice_index bs 0) 42 h)
 
-open_stays : (w : Within) → core (after (part w) (tokens.Mark marks.Open)) ≡ part w
+open_stays : (w : InnerPart) → core (after (part w) (tokens.Mark marks.Open)) ≡ part w
 open_stays Entries = refl
 open_stays Operands = refl
 open_stays Condition = refl
 
-pub open_round : (w : Within) (bs : List ℕ) → (slice_index bs 0 ≡ 42 → ⊥)
+pub open_round : (w : InnerPart) (bs : List ℕ) → (slice_index bs 0 ≡ 42 → ⊥)
     → inner w (40 ∷ bs) ≡ tokens.Mark marks.Open ∷ inner w bs
 open_round w bs h = inner_turn w 40 [] bs (tokens.Mark marks.Open) (open_stays w) (open_here bs h)
 
-pub close_round : (w : Within) (bs : List ℕ)
+pub close_round : (w : InnerPart) (bs : List ℕ)
     → inner w (41 ∷ bs) ≡ tokens.Mark marks.Close ∷ inner w bs
-unfolding tokens_from front
+unfolding tokens_from first_lexeme
 close_round Entries bs =
     ap (λ (ts : List Token). tokens.Mark marks.Close ∷ ts) (free (part Entries) _ 0 1 bs refl)
 close_round Operands bs =
@@ -90,12 +91,12 @@ close_round Condition bs =
     ap (λ (ts : List Token). tokens.Mark marks.Close ∷ ts) (free (part Condition) _ 0 1 bs refl)
 
 tilde : (bs : List ℕ) → inner Condition (126 ∷ bs) ≡ tokens.Mark marks.Tilde ∷ inner Condition bs
-unfolding tokens_from front
+unfolding tokens_from first_lexeme
 tilde bs = ap (λ (ts : List Token). tokens.Mark marks.Tilde ∷ ts) (free Tail _ 0 1 bs refl)
 
 connective : (op : Connective) (bs : List ℕ)
     → inner Condition (connective_text op ++ bs) ≡ connective_token op ∷ inner Condition bs
-unfolding tokens_from front
+unfolding tokens_from first_lexeme
 connective connectives.And bs =
     ap (λ (ts : List Token). tokens.Mark marks.And ∷ ts) (free Tail _ 0 4 bs refl)
 connective connectives.Or bs =

@@ -12,7 +12,7 @@ use Rattle.litmus_tokens.specs.declared.token.Token.TheVariants as tokens
 use Rattle.litmus_tokens.specs.declared.token.Mark.TheVariants as marks
 use Rattle.litmus_tokens.specs.Words as words
 use Rattle.litmus_tokens.specs.Words.{register_of, or_zero, column_name}
-use Rattle.litmus_tokens.specs.Lexer.{is_word_byte, ends_word, front}
+use Rattle.litmus_tokens.specs.Lexer.{is_word_byte, ends_word, first_lexeme}
 use Rattle.litmus_tokens.specs.Texts.{tokens_from}
 use Rattle.text_values.specs.declared.test.Place.{Place}
 use Rattle.text_values.specs.declared.test.Place.TheVariants as places
@@ -44,12 +44,12 @@ members_listed (x ∷ xs) = refl
 
 pub semicolon : (bs : List ℕ)
     → inner Condition (59 ∷ bs) ≡ tokens.Mark marks.Semicolon ∷ inner Condition bs
-unfolding tokens_from front
+unfolding tokens_from first_lexeme
 semicolon bs = ap (λ (ts : List Token). tokens.Mark marks.Semicolon ∷ ts) (free Tail _ 0 1 bs refl)
 
 entry_ends : (bs : List ℕ)
     → inner Entries (59 ∷ 10 ∷ bs) ≡ tokens.Mark marks.Semicolon ∷ inner Entries bs
-unfolding tokens_from front
+unfolding tokens_from first_lexeme
 entry_ends bs =
     ap (λ (ts : List Token). tokens.Mark marks.Semicolon ∷ ts)
     (free (Init false false) _ 0 2 bs refl)
@@ -178,13 +178,13 @@ module _ (threads : ℕ) (few : threads < 18446744073709551616) where
 
 pub block_ends : (bs : List ℕ)
     → inner Entries (125 ∷ 10 ∷ bs) ≡ tokens.Mark marks.CloseBrace ∷ read (Header 8) bs
-unfolding tokens_from front
+unfolding tokens_from first_lexeme
 block_ends bs =
     ap (λ (ts : List Token). tokens.Mark marks.CloseBrace ∷ ts) (free (Header 8) _ 0 2 bs refl)
 
-header_front : (n : ℕ) (bs : List ℕ) → front (Header (suc n)) false bs ≡ front Tail false bs
-unfolding front
-header_front n bs = refl
+header_lexeme : (n : ℕ) (bs : List ℕ) → first_lexeme (Header (suc n)) false bs ≡ first_lexeme Tail false bs
+unfolding first_lexeme
+header_lexeme n bs = refl
 
 digit_byte : (k : ℕ) → k < 10 → is_word_byte (48 + k) ≡ true
 digit_byte k h = grind (arith, nat_tests)
@@ -198,11 +198,11 @@ column : (n k : ℕ) (bs : List ℕ) → k < 10 → ends_word (slice_index bs 0)
 column n k bs h e =
     ap (λ (l : List ℕ). read (Header (suc n)) ((80 ∷ l) ++ bs)) (decimal_digit k h)
     ∙ turn (Header (suc n)) 80 ((48 + k) ∷ []) bs (tokens.Word (column_name k)) refl
-    (header_front n (80 ∷ (48 + k) ∷ bs) ∙ word_here 80 ((48 + k) ∷ []) bs (column_word k h) e)
+    (header_lexeme n (80 ∷ (48 + k) ∷ bs) ∙ word_here 80 ((48 + k) ∷ []) bs (column_word k h) e)
 
 header_bar : (n : ℕ) (bs : List ℕ)
     → read (Header (suc n)) (32 ∷ 124 ∷ 32 ∷ bs) ≡ tokens.Mark marks.Bar ∷ read (Header n) bs
-unfolding tokens_from front
+unfolding tokens_from first_lexeme
 header_bar n bs =
     let less : suc n - 1 ≡ n = omega arith in
     ap (λ (ts : List Token). tokens.Mark marks.Bar ∷ ts) (free (Header (suc n - 1)) _ 0 3 bs refl)
@@ -210,7 +210,7 @@ header_bar n bs =
 
 header_ends : (n : ℕ) (bs : List ℕ)
     → read (Header n) (32 ∷ 59 ∷ 10 ∷ bs) ≡ tokens.Mark marks.Semicolon ∷ read CellBegins bs
-unfolding tokens_from front
+unfolding tokens_from first_lexeme
 header_ends n bs =
     ap (λ (ts : List Token). tokens.Mark marks.Semicolon ∷ ts) (free CellBegins _ 0 3 bs refl)
 

@@ -10,12 +10,12 @@ use Rattle.litmus_tokens.specs.declared.stage.Stage.TheVariants.{Magic, Title, T
 use Rattle.litmus_tokens.specs.declared.token.Token.{Token}
 use Rattle.litmus_tokens.specs.declared.token.Token.TheVariants as tokens
 use Rattle.litmus_tokens.specs.declared.token.Mark.TheVariants as marks
-use Rattle.litmus_tokens.specs.declared.lexer.Front.{Front}
-use Rattle.litmus_tokens.specs.declared.lexer.Front.TheVariants.{Layout, Lexeme}
+use Rattle.litmus_tokens.specs.declared.lexer.NextLexeme.{NextLexeme}
+use Rattle.litmus_tokens.specs.declared.lexer.NextLexeme.TheVariants.{Layout, Lexeme}
 use Rattle.litmus_tokens.specs.Words.{is_printable, are_printable, is_test_name, is_empty}
-use Rattle.litmus_tokens.specs.Lexer.{is_space, is_not_ascii, begins_comment, comment_front, ends_raw, raw_from, raw_front, front}
+use Rattle.litmus_tokens.specs.Lexer.{is_space, is_not_ascii, begins_comment, comment_lexeme, ends_raw, raw_from, raw_lexeme, first_lexeme}
 use Rattle.litmus_tokens.specs.Stage.{after}
-use Rattle.litmus_tokens.specs.Texts.{TokenAt, tokens_of, ends_line, after_front, tokens_from}
+use Rattle.litmus_tokens.specs.Texts.{TokenAt, tokens_of, ends_line, after_lexeme, tokens_from}
 use Rattle.litmus_laws.specs.Written.{holds_comment}
 use Rattle.litmus_grammar.proofs.Lexed.{tokens_skip}
 use Rattle.litmus_laws.proofs.Read.{three_tests, Entries, free, inner}
@@ -54,8 +54,8 @@ raw_len m (b ∷ bs) rest p c =
 
 name_here : (c : ℕ) (cs rest : List ℕ) → are_printable (c ∷ cs) ≡ true
     → holds_comment (c ∷ cs) ≡ false
-    → front Title false (c ∷ (cs ++ 10 ∷ rest)) ≡ Lexeme (tokens.Word (c ∷ cs)) (length (c ∷ cs))
-unfolding front
+    → first_lexeme Title false (c ∷ (cs ++ 10 ∷ rest)) ≡ Lexeme (tokens.Word (c ∷ cs)) (length (c ∷ cs))
+unfolding first_lexeme
 name_here c cs rest p h =
     let whole = (c ∷ cs) ++ 10 ∷ rest in
     let one = printable c (and_parts (is_printable c) (are_printable cs) p).0 in
@@ -63,10 +63,10 @@ name_here c cs rest p h =
     let none = or_parts (begins_comment (c ∷ cs)) (holds_comment cs) h in
     let from_none : 0 + length (c ∷ cs) ≡ length (c ∷ cs) = omega arith in
     three_tests (is_not_ascii c) (is_blank c) (begins_comment whole) (Lexeme (tokens.Broken _) 1)
-    (Layout 1) (comment_front (length whole) (comment_of whole))
-    (raw_front whole (raw_from 0 whole))
+    (Layout 1) (comment_lexeme (length whole) (comment_of whole))
+    (raw_lexeme whole (raw_from 0 whole))
     one.1 blank.0 (no_star c cs rest none.0)
-    ∙ ap (raw_front whole) (raw_len 0 (c ∷ cs) rest p h ∙ from_none)
+    ∙ ap (raw_lexeme whole) (raw_len 0 (c ∷ cs) rest p h ∙ from_none)
     ∙ ap
     (λ (t : Bool). if t then Layout 1
     else Lexeme (tokens.Word (take (length (c ∷ cs)) whole)) (length (c ∷ cs))) blank.1
@@ -75,15 +75,15 @@ name_here c cs rest p h =
 
 -- a token, wherever it stands
 turn : (s : Stage) (f : Bool) (p b : ℕ) (word rest : List ℕ) (t : Token)
-    → front s f (b ∷ (word ++ rest)) ≡ Lexeme t (length (b ∷ word))
+    → first_lexeme s f (b ∷ (word ++ rest)) ≡ Lexeme t (length (b ∷ word))
     → tokens_of (tokens_from s f 0 p (b ∷ (word ++ rest)))
     ≡ t ∷ tokens_of (tokens_from (after s t) (ends_line t) 0 (p + 1 + length word) rest)
 unfolding tokens_from
 turn s f p b word rest t e =
     let l = length-append word rest in
     ap
-    (λ (x : Front).
-    tokens_of (after_front s f p b x (λ u g k. tokens_from u g k (p + 1) (word ++ rest)))) e
+    (λ (x : NextLexeme).
+    tokens_of (after_lexeme s f p b x (λ u g k. tokens_from u g k (p + 1) (word ++ rest)))) e
     ∙ ap (λ (k : ℕ). t ∷ tokens_of (tokens_from (after s t) (ends_line t) k (p + 1) (word ++ rest)))
     (omega arith)
     ∙ ap (λ (ps : List TokenAt). t ∷ tokens_of ps) (tokens_skip (after s t) (ends_line t)
@@ -96,13 +96,13 @@ turn s f p b word rest t e =
 magic : (bs : List ℕ)
     → tokens_of (tokens_from Magic false 0 0 (codes "PPC " ++ bs))
     ≡ tokens.Word (codes "PPC") ∷ tokens_of (tokens_from Title false 0 4 bs)
-unfolding tokens_from front raw_from
+unfolding tokens_from first_lexeme raw_from
 magic bs = refl
 
 block_begins : (p : ℕ) (bs : List ℕ)
     → tokens_of (tokens_from TitleEnd false 0 p (10 ∷ 123 ∷ 10 ∷ bs))
     ≡ tokens.LineEnd ∷ tokens.Mark marks.OpenBrace ∷ inner Entries bs
-unfolding tokens_from front
+unfolding tokens_from first_lexeme
 block_begins p bs =
     ap (λ (ts : List Token). tokens.LineEnd ∷ tokens.Mark marks.OpenBrace ∷ ts)
     (free (Init false false) _ 0 _ bs refl)

@@ -13,11 +13,11 @@ use Rattle.litmus_tokens.specs.declared.stage.Stage.TheVariants.{CellBegins, InC
 use Rattle.litmus_tokens.specs.declared.token.Token.{Token}
 use Rattle.litmus_tokens.specs.declared.token.Token.TheVariants as tokens
 use Rattle.litmus_tokens.specs.declared.token.Mark.TheVariants as marks
-use Rattle.litmus_tokens.specs.declared.lexer.Front.{Front}
-use Rattle.litmus_tokens.specs.declared.lexer.Front.TheVariants.{Layout, Lexeme}
+use Rattle.litmus_tokens.specs.declared.lexer.NextLexeme.{NextLexeme}
+use Rattle.litmus_tokens.specs.declared.lexer.NextLexeme.TheVariants.{Layout, Lexeme}
 use Rattle.litmus_tokens.specs.Words.{ends_table, is_register, is_known, register_of, or_zero}
 use Rattle.text_values.specs.Letters.{is_letter}
-use Rattle.litmus_tokens.specs.Lexer.{is_space, ends_word, significant, begins_comment, gap_from, label_front, front}
+use Rattle.litmus_tokens.specs.Lexer.{is_space, ends_word, significant, begins_comment, gap_from, label_lexeme, first_lexeme}
 use Rattle.litmus_tokens.specs.Stage.{after}
 use Rattle.litmus_tokens.specs.Texts.{tokens_from}
 use Rattle.text_values.specs.declared.instruction.Instruction.{Instruction}
@@ -77,32 +77,32 @@ at_behind : (w : List ℕ) (b : ℕ) (bs : List ℕ)
 at_behind [] b bs = refl
 at_behind (c ∷ cs) b bs = at_behind cs b bs
 
-abbrev cell_front : List ℕ → ℕ → Front
-cell_front bs n = label_front bs n (gap_from 0 0 (drop n bs))
+abbrev cell_lexeme : List ℕ → ℕ → NextLexeme
+cell_lexeme bs n = label_lexeme bs n (gap_from 0 0 (drop n bs))
 
 begins_here : (c : ℕ) (cs bs : List ℕ) → IsWord (c ∷ cs) → ends_word (slice_index bs 0) ≡ true
-    → front CellBegins false (c ∷ (cs ++ bs))
-    ≡ label_front ((c ∷ cs) ++ bs) (length (c ∷ cs)) (gap_from 0 0 bs)
+    → first_lexeme CellBegins false (c ∷ (cs ++ bs))
+    ≡ label_lexeme ((c ∷ cs) ++ bs) (length (c ∷ cs)) (gap_from 0 0 bs)
 begins_here c cs bs h e =
     let o = first_of c h.first in
     let l = o.low in
     let whole = (c ∷ cs) ++ bs in
     word_byte CellBegins c (cs ++ bs) o
     ∙ second_test (c == 10) (is_letter c || c == 95) (Layout 1)
-    (cell_front whole (position_or_len ends_word whole)) _
+    (cell_lexeme whole (position_or_len ends_word whole)) _
     (other c 10 (λ x. absurd (omega arith))) h.first
-    ∙ ap (cell_front whole) (word_len (c ∷ cs) bs h e)
-    ∙ ap (λ (x : List ℕ). label_front whole (length (c ∷ cs)) (gap_from 0 0 x))
+    ∙ ap (cell_lexeme whole) (word_len (c ∷ cs) bs h e)
+    ∙ ap (λ (x : List ℕ). label_lexeme whole (length (c ∷ cs)) (gap_from 0 0 x))
     (drop_at (c ∷ cs) bs (length (c ∷ cs)) refl)
 
 word_here : (c : ℕ) (cs bs : List ℕ) → IsWord (c ∷ cs) → NoColon bs
-    → front CellBegins false (c ∷ (cs ++ 32 ∷ bs)) ≡ Lexeme (tokens.Word (c ∷ cs)) (length (c ∷ cs))
+    → first_lexeme CellBegins false (c ∷ (cs ++ 32 ∷ bs)) ≡ Lexeme (tokens.Word (c ∷ cs)) (length (c ∷ cs))
 word_here c cs bs h e =
     let whole = (c ∷ cs) ++ 32 ∷ bs in
     let n = length (c ∷ cs) in
     let next : n + 1 ≡ suc n = omega arith in
     begins_here c cs (32 ∷ bs) h refl
-    ∙ ap (label_front whole n) (gap_one bs e)
+    ∙ ap (label_lexeme whole n) (gap_one bs e)
     ∙ ap
     (λ (k : ℕ). if slice_index whole k == 58 then Lexeme (tokens.Label (take n whole))
     (n + 1 + 1)
@@ -125,7 +125,7 @@ cell_word (c ∷ cs) bs h e =
     turn CellBegins c cs (32 ∷ bs) (tokens.Word (c ∷ cs)) refl (word_here c cs bs h e)
 
 label_here : (c : ℕ) (cs bs : List ℕ) → IsWord (c ∷ cs)
-    → front CellBegins false (c ∷ (cs ++ 58 ∷ bs))
+    → first_lexeme CellBegins false (c ∷ (cs ++ 58 ∷ bs))
     ≡ Lexeme (tokens.Label (c ∷ cs)) (length (c ∷ (cs ++ 58 ∷ [])))
 label_here c cs bs h =
     let whole = (c ∷ cs) ++ 58 ∷ bs in
@@ -134,7 +134,7 @@ label_here c cs bs h =
     let here : n + 0 ≡ n = omega arith in
     let behind : n + 1 ≡ length (c ∷ (cs ++ 58 ∷ [])) = omega arith in
     begins_here c cs (58 ∷ bs) h refl
-    ∙ ap (label_front whole n) (no_gap bs)
+    ∙ ap (label_lexeme whole n) (no_gap bs)
     ∙ ap
     (λ (k : ℕ). if slice_index whole k == 58 then Lexeme (tokens.Label (take n whole)) (k + 1)
     else Lexeme (tokens.Word (take n whole)) n) here
@@ -153,7 +153,7 @@ cell_label (c ∷ cs) bs h =
     let whole : c ∷ ((cs ++ 58 ∷ []) ++ bs) ≡ (c ∷ cs) ++ 58 ∷ bs = ap (λ (x : List ℕ). c ∷ x) (append_assoc cs (58 ∷ []) bs) in
     ap (read CellBegins) (sym whole)
     ∙ turn CellBegins c (cs ++ 58 ∷ []) bs (tokens.Label (c ∷ cs)) refl
-    (ap (front CellBegins false) whole ∙ label_here c cs bs h)
+    (ap (first_lexeme CellBegins false) whole ∙ label_here c cs bs h)
 
 -- a word that goes on with the table
 pub opcode_back : (w bs : List ℕ) → IsWord w → ends_table w ≡ false → NoColon bs
@@ -201,7 +201,7 @@ ArePieces [] = Unit {0}
 ArePieces (p ∷ ps) = IsPiece p × ArePieces ps
 
 comma : (bs : List ℕ) → inner Operands (44 ∷ bs) ≡ tokens.Mark marks.Comma ∷ inner Operands bs
-unfolding tokens_from front
+unfolding tokens_from first_lexeme
 comma bs = ap (λ (ts : List Token). tokens.Mark marks.Comma ∷ ts) (free InCell _ 0 1 bs refl)
 
 nought : (bs : List ℕ)

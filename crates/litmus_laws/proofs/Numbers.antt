@@ -11,15 +11,15 @@ use Rattle.std.proofs.lemmas.Fmt.{digits_decimal, digits_value-decimal, decimal_
 use Rattle.std.proofs.lemmas.Str.Parse.{IsNumeralModel, numerals_by_fold}
 use Rattle.litmus_tokens.specs.declared.stage.Stage.TheVariants.{Tail}
 use Rattle.litmus_tokens.specs.declared.token.Token.TheVariants as tokens
-use Rattle.litmus_tokens.specs.declared.lexer.Front.TheVariants.{Layout, Lexeme}
+use Rattle.litmus_tokens.specs.declared.lexer.NextLexeme.TheVariants.{Layout, Lexeme}
 use Rattle.litmus_tokens.specs.Words as words
 use Rattle.litmus_tokens.specs.Words.{are_digits, is_plain, is_empty, decimal_from, signed, is_int, register_of}
 use Rattle.text_values.specs.Letters.{is_letter, is_digit}
-use Rattle.litmus_tokens.specs.Lexer.{is_word_byte, ends_word, ends_digits, significant, front, word_front, number_front, minus_front, sign_front}
+use Rattle.litmus_tokens.specs.Lexer.{is_word_byte, ends_word, ends_digits, significant, first_lexeme, word_lexeme, number_lexeme, minus_lexeme, sign_lexeme}
 use Rattle.litmus_printing.specs.Printing.{register_text}
 use Rattle.text_laws.proofs.Runs.{seam, other}
 use Rattle.litmus_laws.specs.Written.{IsWord, IsNumber}
-use Rattle.litmus_laws.proofs.Read.{Within, inner, inner_turn, word_stays, number_stays, first_of, digit_of, word_byte}
+use Rattle.litmus_laws.proofs.Read.{InnerPart, inner, inner_turn, word_stays, number_stays, first_of, digit_of, word_byte}
 
 -- ---- words
 
@@ -38,19 +38,19 @@ second_test x y a b z p q =
     ∙ ap (λ (t : Bool). if t then b else z) q
 
 pub word_here : (c : ℕ) (cs bs : List ℕ) → IsWord (c ∷ cs) → ends_word (slice_index bs 0) ≡ true
-    → front Tail false (c ∷ (cs ++ bs)) ≡ Lexeme (tokens.Word (c ∷ cs)) (length (c ∷ cs))
+    → first_lexeme Tail false (c ∷ (cs ++ bs)) ≡ Lexeme (tokens.Word (c ∷ cs)) (length (c ∷ cs))
 word_here c cs bs h e =
     let o = first_of c h.first in
     let l = o.low in
     word_byte Tail c (cs ++ bs) o
     ∙ second_test (c == 10) (is_letter c || c == 95) (Layout 1)
-    (word_front Tail ((c ∷ cs) ++ bs) (position_or_len ends_word ((c ∷ cs) ++ bs))) _
+    (word_lexeme Tail ((c ∷ cs) ++ bs) (position_or_len ends_word ((c ∷ cs) ++ bs))) _
     (other c 10 (λ x. absurd (omega arith))) h.first
-    ∙ ap (word_front Tail ((c ∷ cs) ++ bs)) (word_len (c ∷ cs) bs h e)
+    ∙ ap (word_lexeme Tail ((c ∷ cs) ++ bs)) (word_len (c ∷ cs) bs h e)
     ∙ ap (λ (t : List ℕ). Lexeme (tokens.Word t) (length (c ∷ cs)))
     (take_at (c ∷ cs) bs (length (c ∷ cs)) refl)
 
-pub word : (w : Within) (n bs : List ℕ) → IsWord n → ends_word (slice_index bs 0) ≡ true
+pub word : (w : InnerPart) (n bs : List ℕ) → IsWord n → ends_word (slice_index bs 0) ≡ true
     → inner w (n ++ bs) ≡ tokens.Word n ∷ inner w bs
 word w [] bs h e = let bad : false ≡ true = h.first in absurd cc
 word w (c ∷ cs) bs h e =
@@ -94,7 +94,7 @@ no_letter d h = grind (arith, nat_tests)
 
 digits_here : (d : ℕ) (ds bs : List ℕ) → are_digits (d ∷ ds) ≡ true
     → ends_digits (slice_index bs 0) ≡ true
-    → front Tail false (d ∷ (ds ++ bs))
+    → first_lexeme Tail false (d ∷ (ds ++ bs))
     ≡ Lexeme (tokens.Number false (significant (d ∷ ds))) (length (d ∷ ds))
 digits_here d ds bs h e =
     let one = (and_parts (is_digit d) (are_digits ds) h).0 in
@@ -103,14 +103,14 @@ digits_here d ds bs h e =
     let whole = (d ∷ ds) ++ bs in
     word_byte Tail d (ds ++ bs) o
     ∙ third_test (d == 10) (is_letter d || d == 95) (is_digit d) (Layout 1)
-    (word_front Tail whole (position_or_len ends_word whole))
-    (number_front whole (position_or_len ends_digits whole)) _
+    (word_lexeme Tail whole (position_or_len ends_word whole))
+    (number_lexeme whole (position_or_len ends_digits whole)) _
     (other d 10 (λ x. absurd (omega arith))) (no_letter d one) one
-    ∙ ap (number_front whole) (digits_len (d ∷ ds) bs h e)
+    ∙ ap (number_lexeme whole) (digits_len (d ∷ ds) bs h e)
     ∙ ap (λ (t : List ℕ). Lexeme (tokens.Number false (significant t)) (length (d ∷ ds)))
     (take_at (d ∷ ds) bs (length (d ∷ ds)) refl)
 
-digits : (w : Within) (ds bs : List ℕ) → 0 < length ds → are_digits ds ≡ true
+digits : (w : InnerPart) (ds bs : List ℕ) → 0 < length ds → are_digits ds ≡ true
     → ends_digits (slice_index bs 0) ≡ true
     → inner w (ds ++ bs) ≡ tokens.Number false (significant ds) ∷ inner w bs
 digits w [] bs some h e = absurd (omega arith)
@@ -118,30 +118,30 @@ digits w (d ∷ ds) bs some h e =
     inner_turn w d ds bs (tokens.Number false (significant (d ∷ ds)))
     (number_stays w false (significant (d ∷ ds))) (digits_here d ds bs h e)
 
-pub number : (w : Within) (n : ℕ) (bs : List ℕ) → n < 2 ^ 64 → ends_digits (slice_index bs 0) ≡ true
+pub number : (w : InnerPart) (n : ℕ) (bs : List ℕ) → n < 2 ^ 64 → ends_digits (slice_index bs 0) ≡ true
     → inner w (decimal n ++ bs) ≡ tokens.Number false (significant (decimal n)) ∷ inner w bs
 number w n bs h e = digits w (decimal n) bs (decimal_nonempty n h) (are_back n h) e
 
 -- a sign and digits
 minus_here : (ds bs : List ℕ) → 0 < length ds → are_digits ds ≡ true
     → ends_digits (slice_index bs 0) ≡ true
-    → front Tail false (45 ∷ (ds ++ bs))
+    → first_lexeme Tail false (45 ∷ (ds ++ bs))
     ≡ Lexeme (tokens.Number true (significant ds)) (length (45 ∷ ds))
-unfolding front
+unfolding first_lexeme
 minus_here [] bs some h e = absurd (omega arith)
 minus_here (d ∷ ds) bs some h e =
     let whole = (d ∷ ds) ++ bs in
     ap
     (λ (t : Bool).
-    if t then minus_front whole (position_or_len ends_digits whole) else sign_front 45 d)
+    if t then minus_lexeme whole (position_or_len ends_digits whole) else sign_lexeme 45 d)
     (and_parts (is_digit d) (are_digits ds) h).0
-    ∙ ap (minus_front whole) (digits_len (d ∷ ds) bs h e)
+    ∙ ap (minus_lexeme whole) (digits_len (d ∷ ds) bs h e)
     ∙ ap (λ (n : ℕ). Lexeme (tokens.Number true (significant (take (length (d ∷ ds)) whole))) n)
     (omega arith)
     ∙ ap (λ (t : List ℕ). Lexeme (tokens.Number true (significant t)) (length (45 ∷ d ∷ ds)))
     (take_at (d ∷ ds) bs (length (d ∷ ds)) refl)
 
-pub negative : (w : Within) (n : ℕ) (bs : List ℕ) → n < 2 ^ 64
+pub negative : (w : InnerPart) (n : ℕ) (bs : List ℕ) → n < 2 ^ 64
     → ends_digits (slice_index bs 0) ≡ true
     → inner w (45 ∷ (decimal n ++ bs)) ≡ tokens.Number true (significant (decimal n)) ∷ inner w bs
 negative w n bs h e =
@@ -192,7 +192,7 @@ is_int_back (negsuc n) h =
     ap (λ (k : ℕ). nat_le k 2147483648) (number_back (suc n) (omega arith))
     ∙ grind (arith, nat_tests)
 
-pub signed_number : (w : Within) (z : ℤ) (bs : List ℕ) → IsNumber z
+pub signed_number : (w : InnerPart) (z : ℤ) (bs : List ℕ) → IsNumber z
     → ends_digits (slice_index bs 0) ≡ true
     → inner w (signed_decimal z ++ bs) ≡ tokens.Number (is_negative z) (digits_of z) ∷ inner w bs
 signed_number w (pos n) bs h e = number w n bs (omega arith) e

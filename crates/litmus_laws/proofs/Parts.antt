@@ -414,17 +414,17 @@ steps_walk (c ∷ cs) h =
     let x = cell_walk c.label c.instruction (spelled_steps cs (tokens.End ∷ [])) stages.InCell h.0 (steps_walk cs h.1) in
     record { begins = (refl, x); within = (refl, x) }
 
-front_stands : (s : Stage) (before rest : List Token) → InRow s stages.InCell (before ++ rest)
+first_stands : (s : Stage) (before rest : List Token) → InRow s stages.InCell (before ++ rest)
     → part_rule (stage_after s before) ≡ rules.Instruction
-front_stands s [] [] w = ap part_rule w
-front_stands s [] (t ∷ ts) w = w.0
-front_stands s (t ∷ ts) rest w = front_stands (after s t) ts rest w.1
+first_stands s [] [] w = ap part_rule w
+first_stands s [] (t ∷ ts) w = w.0
+first_stands s (t ∷ ts) rest w = first_stands (after s t) ts rest w.1
 
 thread_stays : (before rest : List Token) (t : ThreadTree) → AreCells (t.first ∷ t.others)
     → before ++ rest ≡ spelled_thread t (tokens.End ∷ [])
     → part_rule (stage_after stages.CellBegins before) ≡ rules.Instruction
 thread_stays before rest t h e =
-    front_stands stages.CellBegins before rest (subst (InRow stages.CellBegins stages.InCell)
+    first_stands stages.CellBegins before rest (subst (InRow stages.CellBegins stages.InCell)
     (sym e)
     (cell_walk t.first.label t.first.instruction (spelled_steps t.others (tokens.End ∷ []))
     stages.InCell h.0 (steps_walk t.others h.1)))

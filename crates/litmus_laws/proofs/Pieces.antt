@@ -18,19 +18,19 @@ use Rattle.litmus_tokens.specs.declared.token.Mark as mark
 use Rattle.litmus_tokens.specs.declared.token.Mark.TheVariants.{And, Or, Implies}
 use Rattle.litmus_tokens.specs.declared.token.Token.{Token}
 use Rattle.litmus_tokens.specs.declared.token.Token.TheVariants as tokens
-use Rattle.litmus_tokens.specs.declared.lexer.Front.{Front}
-use Rattle.litmus_tokens.specs.declared.lexer.Front.TheVariants as fronts
-use Rattle.litmus_tokens.specs.Lexer.{is_not_ascii, is_word_byte, ends_word, ends_digits, is_equals, is_space, begins_comment, gap_from, comment_front, ends_raw, raw_from, raw_front, quoted_front, line_front, word_token, word_front, significant, number_front, minus_front, mark_of, mark_front, sign_front, plain_front, head_front, stage_front, front}
+use Rattle.litmus_tokens.specs.declared.lexer.NextLexeme.{NextLexeme}
+use Rattle.litmus_tokens.specs.declared.lexer.NextLexeme.TheVariants as lexemes
+use Rattle.litmus_tokens.specs.Lexer.{is_not_ascii, is_word_byte, ends_word, ends_digits, is_equals, is_space, begins_comment, gap_from, comment_lexeme, ends_raw, raw_from, raw_lexeme, quoted_lexeme, line_lexeme, word_token, word_lexeme, significant, number_lexeme, minus_lexeme, mark_of, mark_lexeme, sign_lexeme, plain_lexeme, head_lexeme, stage_lexeme, first_lexeme}
 use Rattle.litmus_tokens.specs.Stage.{after}
-use Rattle.litmus_tokens.specs.Texts.{TokenAt, ends_line, fresh_after, after_front, tokens_from, lexing}
+use Rattle.litmus_tokens.specs.Texts.{TokenAt, ends_line, fresh_after, after_lexeme, tokens_from, lexing}
 use Rattle.litmus_laws.specs.Tokens.{IsTestGap, Blank, LineEnd, Comment, begins_gap, IsByteRun, IsWordLexeme, gaps_text, AreGaps, IsLabelLexeme, IsLine, IsKeyline, is_first, is_plain, double_of, IsTestLexeme, FirstWord, NameEnd, Keyline, Quoted, Word, Label, Number, Negative, Double, Single, NotAscii, OpenComment, NoNameEnd, NoKeyline, NoQuoted, NoToken, TestPiece, Gap, Lexeme, text_of, ArePieces, tokens_at, IsTestCut, AreTestRising}
 use Rattle.litmus_grammar.proofs.Lexed.{tokens_skip}
 use Rattle.litmus_laws.proofs.Gaps.{gaps_of, all_gaps}
 
-abbrev IsPiece : Stage → Bool → List ℕ → Front → Type 0
-IsPiece s fresh text (fronts.Layout n) =
+abbrev IsPiece : Stage → Bool → List ℕ → NextLexeme → Type 0
+IsPiece s fresh text (lexemes.Layout n) =
     (0 < n) × (n ≤ length text) × IsTestGap s (take n text) (drop n text)
-IsPiece s fresh text (fronts.Lexeme t n) =
+IsPiece s fresh text (lexemes.Lexeme t n) =
     (0 < n) × (n ≤ length text) × IsTestLexeme s fresh t (take n text) (drop n text)
 
 -- ---- runs
@@ -113,20 +113,20 @@ raw_run n (b ∷ bs) = by_test (ends_raw b (slice_index bs 0)) refl (raw_run (n 
 -- ---- what every part has
 
 ascii_piece : (s : Stage) (fresh : Bool) (b : ℕ) (bs : List ℕ) → is_not_ascii b ≡ true
-    → IsPiece s fresh (b ∷ bs) (fronts.Lexeme (tokens.Broken rules.NotAscii) 1)
+    → IsPiece s fresh (b ∷ bs) (lexemes.Lexeme (tokens.Broken rules.NotAscii) 1)
 ascii_piece s fresh b bs e = (omega arith, omega arith, NotAscii b e refl refl)
 
 blank_piece : (s : Stage) (fresh : Bool) (b : ℕ) (bs : List ℕ) → is_blank b ≡ true
-    → IsPiece s fresh (b ∷ bs) (fronts.Layout 1)
+    → IsPiece s fresh (b ∷ bs) (lexemes.Layout 1)
 blank_piece s fresh b bs e = (omega arith, omega arith, Blank b e refl)
 
 line_end_piece : (s : Stage) (fresh : Bool) (b : ℕ) (bs : List ℕ) → (s ≡ TitleEnd → ⊥)
-    → is_line_end b ≡ true → IsPiece s fresh (b ∷ bs) (fronts.Layout 1)
+    → is_line_end b ≡ true → IsPiece s fresh (b ∷ bs) (lexemes.Layout 1)
 line_end_piece s fresh b bs apart e = (omega arith, omega arith, LineEnd apart b e refl)
 
 comment_piece : (s : Stage) (fresh : Bool) (b : ℕ) (bs : List ℕ) → begins_comment (b ∷ bs) ≡ true
     → (o : Option ℕ) → comment_of (b ∷ bs) ≡ o
-    → IsPiece s fresh (b ∷ bs) (comment_front (length (b ∷ bs)) o)
+    → IsPiece s fresh (b ∷ bs) (comment_lexeme (length (b ∷ bs)) o)
 comment_piece s fresh b bs begins (Some n) e =
     let c = nesting.found (b ∷ bs) n begins e in
     let l = length-take n (b ∷ bs) in
@@ -161,12 +161,12 @@ no_gap b bs o = or_from (is_blank b) (begins_comment (b ∷ bs)) o.blank o.comme
 
 raw_piece : (s : Stage) (fresh : Bool) (b : ℕ) (bs : List ℕ) → (s ≡ TitleEnd → ⊥)
     → is_first s ≡ true → IsOpen b bs
-    → IsPiece s fresh (b ∷ bs) (raw_front (b ∷ bs) (raw_from 0 (b ∷ bs)))
+    → IsPiece s fresh (b ∷ bs) (raw_lexeme (b ∷ bs) (raw_from 0 (b ∷ bs)))
 raw_piece s fresh b bs apart first o =
     tested (IsPiece s fresh (b ∷ bs)) (is_line_end b) _ _ (line_end_piece s fresh b bs apart) word
   where
     word : is_line_end b ≡ false
-        → IsPiece s fresh (b ∷ bs) (fronts.Lexeme
+        → IsPiece s fresh (b ∷ bs) (lexemes.Lexeme
         (tokens.Word (take (raw_from 0 (b ∷ bs)) (b ∷ bs))) (raw_from 0 (b ∷ bs)))
     word line =
         let r = raw_run 0 (b ∷ bs) in
@@ -181,7 +181,7 @@ raw_piece s fresh b bs apart first o =
         let d = length-drop m (b ∷ bs) in
         let whole = take-append-drop m (b ∷ bs) in
         subst
-        (λ (n : ℕ). IsPiece s fresh (b ∷ bs) (fronts.Lexeme (tokens.Word (take n (b ∷ bs))) n))
+        (λ (n : ℕ). IsPiece s fresh (b ∷ bs) (lexemes.Lexeme (tokens.Word (take n (b ∷ bs))) n))
         (sym same) (
           some m r goes,
           le,
@@ -215,8 +215,8 @@ raw_piece s fresh b bs apart first o =
                 (slice_index (b ∷ bs) (k + 1)) ≡ true) none end) goes)
 
 name_end_piece : (fresh : Bool) (b : ℕ) (bs : List ℕ) → IsOpen b bs
-    → IsPiece TitleEnd fresh (b ∷ bs) (if is_line_end b then fronts.Lexeme tokens.LineEnd 1
-    else fronts.Lexeme tokens.Bad 1)
+    → IsPiece TitleEnd fresh (b ∷ bs) (if is_line_end b then lexemes.Lexeme tokens.LineEnd 1
+    else lexemes.Lexeme tokens.Bad 1)
 name_end_piece fresh b bs o =
     tested (IsPiece TitleEnd fresh (b ∷ bs)) (is_line_end b) _ _ (λ e.
     (omega arith, omega arith, NameEnd refl b e refl refl))
@@ -254,7 +254,7 @@ module _ (s : Stage) (fresh : Bool) (b : ℕ) (bs : List ℕ) (apart : s ≡ Tit
         → IsLabelLexeme (take (position_or_len ends_word (b ∷ bs)) (b ∷ bs)) label others → ⊥
 
     word_piece : NoLabel
-        → IsPiece s fresh (b ∷ bs) (fronts.Lexeme
+        → IsPiece s fresh (b ∷ bs) (lexemes.Lexeme
         (word_token s (take (position_or_len ends_word (b ∷ bs)) (b ∷ bs)))
         (position_or_len ends_word (b ∷ bs)))
     word_piece none = (
@@ -264,7 +264,7 @@ module _ (s : Stage) (fresh : Bool) (b : ℕ) (bs : List ℕ) (apart : s ≡ Tit
     )
 
   number_piece : is_digit b ≡ true
-      → IsPiece s fresh (b ∷ bs) (number_front (b ∷ bs) (position_or_len ends_digits (b ∷ bs)))
+      → IsPiece s fresh (b ∷ bs) (number_lexeme (b ∷ bs) (position_or_len ends_digits (b ∷ bs)))
   number_piece digit =
       let n = position_or_len ends_digits (b ∷ bs) in
       let some : 0 < n = pos_some ends_digits b bs (ap not digit) in
@@ -273,7 +273,7 @@ module _ (s : Stage) (fresh : Bool) (b : ℕ) (bs : List ℕ) (apart : s ≡ Tit
       (some, le, Number (plain_take n some) (omega arith) (run_of is_digit (b ∷ bs)) refl)
 
   minus_piece : (b == 45 && is_digit (slice_index bs 0)) ≡ true
-      → IsPiece s fresh (b ∷ bs) (minus_front bs (position_or_len ends_digits bs))
+      → IsPiece s fresh (b ∷ bs) (minus_lexeme bs (position_or_len ends_digits bs))
   minus_piece minus =
       let x = nesting.both (b == 45) (is_digit (slice_index bs 0)) minus in
       let first : b ≡ 45 = nesting.equal b 45 x.0 in
@@ -283,7 +283,7 @@ module _ (s : Stage) (fresh : Bool) (b : ℕ) (bs : List ℕ) (apart : s ≡ Tit
       let more : n + 1 ≡ suc n = omega arith in
       let some : 0 < n = digits_some bs x.1 in
       subst
-      (λ (k : ℕ). IsPiece s fresh (b ∷ bs) (fronts.Lexeme
+      (λ (k : ℕ). IsPiece s fresh (b ∷ bs) (lexemes.Lexeme
       (tokens.Number true (significant (take n bs))) k))
       (sym more) (
         omega arith,
@@ -298,7 +298,7 @@ module _ (s : Stage) (fresh : Bool) (b : ℕ) (bs : List ℕ) (apart : s ≡ Tit
       digits_some (c ∷ cs) e = pos_some ends_digits c cs (ap not e)
 
   double_piece : (a c : ℕ) (m : mark.Mark) → (b == a && slice_index bs 0 == suc c) ≡ true
-      → double_of a (suc c) ≡ Some m → IsPiece s fresh (b ∷ bs) (fronts.Lexeme (tokens.Mark m) 2)
+      → double_of a (suc c) ≡ Some m → IsPiece s fresh (b ∷ bs) (lexemes.Lexeme (tokens.Mark m) 2)
   double_piece a c m e is =
       let are = nesting.two_bytes a c b bs e in
       let l = ap length are.1 in
@@ -311,7 +311,7 @@ module _ (s : Stage) (fresh : Bool) (b : ℕ) (bs : List ℕ) (apart : s ≡ Tit
 
   mark_piece : is_line_end b ≡ false → is_word_byte b ≡ false
       → (b == 45 && is_digit (slice_index bs 0)) ≡ false → double_of b (slice_index bs 0) ≡ None
-      → (m : Option mark.Mark) → mark_of b ≡ m → IsPiece s fresh (b ∷ bs) (mark_front m)
+      → (m : Option mark.Mark) → mark_of b ≡ m → IsPiece s fresh (b ∷ bs) (mark_lexeme m)
   mark_piece line word minus double (Some m) e =
       (omega arith, omega arith, Single b m plain (no_gap b bs o) double e refl refl)
   mark_piece line word minus double None e = (
@@ -335,7 +335,7 @@ module _ (s : Stage) (fresh : Bool) (b : ℕ) (bs : List ℕ) (apart : s ≡ Tit
 
   sign_piece : is_line_end b ≡ false → is_word_byte b ≡ false
       → (b == 45 && is_digit (slice_index bs 0)) ≡ false
-      → IsPiece s fresh (b ∷ bs) (sign_front b (slice_index bs 0))
+      → IsPiece s fresh (b ∷ bs) (sign_lexeme b (slice_index bs 0))
   sign_piece line word minus =
       tested (IsPiece s fresh (b ∷ bs)) (b == 47 && slice_index bs 0 == 92) _ _
       (λ e. double_piece 47 91 And e refl) (λ x.
@@ -354,8 +354,8 @@ module _ (s : Stage) (fresh : Bool) (b : ℕ) (bs : List ℕ) (apart : s ≡ Tit
   -- by the piece of a word, which rests on the part
   plain_piece : ((is_letter b || b == 95) ≡ true
       → IsPiece s fresh (b ∷ bs)
-      (word_front s (b ∷ bs) (position_or_len ends_word (b ∷ bs))))
-      → IsPiece s fresh (b ∷ bs) (plain_front s (b ∷ bs))
+      (word_lexeme s (b ∷ bs) (position_or_len ends_word (b ∷ bs))))
+      → IsPiece s fresh (b ∷ bs) (plain_lexeme s (b ∷ bs))
   plain_piece words =
       tested (IsPiece s fresh (b ∷ bs)) (is_line_end b) _ _ (line_end_piece s fresh b bs apart) (λ
       line.
@@ -379,9 +379,9 @@ module _ (fresh : Bool) (b : ℕ) (bs : List ℕ) (o : IsOpen b bs)
   label_piece : (n gap : ℕ) → n ≡ position_or_len ends_word (b ∷ bs)
       → gap ≡ gap_from 0 0 (drop n (b ∷ bs)) → (x : Bool)
       → (slice_index (b ∷ bs) (n + gap) == 58) ≡ x
-      → IsPiece CellBegins fresh (b ∷ bs) (if x then fronts.Lexeme (tokens.Label (take n (b ∷ bs)))
+      → IsPiece CellBegins fresh (b ∷ bs) (if x then lexemes.Lexeme (tokens.Label (take n (b ∷ bs)))
       (n + gap + 1)
-      else fronts.Lexeme (tokens.Word (take n (b ∷ bs))) n)
+      else lexemes.Lexeme (tokens.Word (take n (b ∷ bs))) n)
   label_piece n gap size gaps true e =
       let f = gaps_of (drop n (b ∷ bs)) in
       let g = gaps_text f.gaps in
@@ -405,7 +405,7 @@ module _ (fresh : Bool) (b : ℕ) (bs : List ℕ) (o : IsOpen b bs)
       let a3 = length-append (W ++ (g ++ 58 ∷ [])) others in
       let a4 = ap length whole in
       let long : length (W ++ (g ++ 58 ∷ [])) ≡ n + gap + 1 = omega arith in
-      let spelled_front : take (n + gap + 1) (b ∷ bs) ≡ W ++ (g ++ 58 ∷ []) = ap (take (n + gap + 1)) whole ∙ take_at (W ++ (g ++ 58 ∷ [])) others (n + gap + 1) long in
+      let spelled_lexeme : take (n + gap + 1) (b ∷ bs) ≡ W ++ (g ++ 58 ∷ []) = ap (take (n + gap + 1)) whole ∙ take_at (W ++ (g ++ 58 ∷ [])) others (n + gap + 1) long in
       let dropped : drop (n + gap + 1) (b ∷ bs) ≡ others = ap (drop (n + gap + 1)) whole ∙ drop_at (W ++ (g ++ 58 ∷ [])) others (n + gap + 1) long in
       let behind : drop n (b ∷ bs) ≡ g ++ 58 ∷ others = f.whole ∙ ap (λ (xs : List ℕ). g ++ xs) rest in
       let word : IsWordLexeme W (drop n (b ∷ bs)) = subst (λ (k : ℕ). IsWordLexeme (take k (b ∷ bs)) (drop k (b ∷ bs))) (sym size) (is_word CellBegins fresh b bs (λ k. absurd cc) refl o starts) in (
@@ -416,7 +416,7 @@ module _ (fresh : Bool) (b : ℕ) (bs : List ℕ) (o : IsOpen b bs)
               gaps = f.gaps;
               is_word = subst (IsWordLexeme W) behind word;
               between = subst (AreGaps f.gaps) rest f.are;
-              whole = spelled_front;
+              whole = spelled_lexeme;
             })) refl,
       )
   label_piece n gap size gaps false e =
@@ -434,14 +434,14 @@ module _ (fresh : Bool) (b : ℕ) (bs : List ℕ) (o : IsOpen b bs)
       opposite (slice_index (b ∷ bs) (n + gap) == 58) (equals _ 58 there) e) in
       subst
       (λ (k : ℕ).
-      IsPiece CellBegins fresh (b ∷ bs) (fronts.Lexeme (tokens.Word (take k (b ∷ bs))) k))
+      IsPiece CellBegins fresh (b ∷ bs) (lexemes.Lexeme (tokens.Word (take k (b ∷ bs))) k))
       (sym size)
       (word_piece CellBegins fresh b bs (λ k. absurd cc) refl o starts (λ _. subst
       (λ (k : ℕ). (label others : List ℕ)
       → label ++ others ≡ take k (b ∷ bs) ++ drop k (b ∷ bs)
       → IsLabelLexeme (take k (b ∷ bs)) label others → ⊥) size none))
 
-  cell_words : IsPiece CellBegins fresh (b ∷ bs) (word_front CellBegins (b ∷ bs)
+  cell_words : IsPiece CellBegins fresh (b ∷ bs) (word_lexeme CellBegins (b ∷ bs)
       (position_or_len ends_word (b ∷ bs)))
   cell_words =
       label_piece (position_or_len ends_word (b ∷ bs))
@@ -470,8 +470,8 @@ module _ (b : ℕ) (bs : List ℕ) (o : IsOpen b bs) (letter : is_letter b ≡ t
   keyline_piece : (n m : ℕ) → n ≡ position_or_len is_line_end (b ∷ bs)
       → m ≡ position_or_len is_not_ascii (take n (b ∷ bs)) → (x : Bool)
       → (position_or_len is_equals (take n (b ∷ bs)) == length (take n (b ∷ bs))) ≡ x
-      → IsPiece Head true (b ∷ bs) (if x then fronts.Lexeme tokens.Bad 1
-      else fronts.Lexeme tokens.Keyline m)
+      → IsPiece Head true (b ∷ bs) (if x then lexemes.Lexeme tokens.Bad 1
+      else lexemes.Lexeme tokens.Keyline m)
   keyline_piece n m size ascii true e =
       let line = take n (b ∷ bs) in
       let all = nesting.equal (position_or_len is_equals line) (length line) e in
@@ -519,16 +519,16 @@ module _ (b : ℕ) (bs : List ℕ) (o : IsOpen b bs) (letter : is_letter b ≡ t
       ascii_some [] e lt = absurd (omega arith)
       ascii_some (c ∷ cs) e lt = pos_some is_not_ascii c cs (ap is_not_ascii e ∙ o.ascii)
 
-  line_piece : IsPiece Head true (b ∷ bs) (line_front
+  line_piece : IsPiece Head true (b ∷ bs) (line_lexeme
       (take (position_or_len is_line_end (b ∷ bs)) (b ∷ bs)))
   line_piece = keyline_piece (position_or_len is_line_end (b ∷ bs)) _ refl refl _ refl
 
 quoted_piece : (fresh : Bool) (bs : List ℕ)
-    → IsPiece Head fresh (34 ∷ bs) (quoted_front (quoted_from (34 ∷ bs)))
+    → IsPiece Head fresh (34 ∷ bs) (quoted_lexeme (quoted_from (34 ∷ bs)))
 quoted_piece fresh bs = by_end (position_or_len is_quote bs == length bs) refl
   where
     by_end : (x : Bool) → (position_or_len is_quote bs == length bs) ≡ x
-        → IsPiece Head fresh (34 ∷ bs) (quoted_front
+        → IsPiece Head fresh (34 ∷ bs) (quoted_lexeme
         (if x then None else Some (position_or_len is_quote bs + 2)))
     by_end true e =
         let same = nesting.equal (position_or_len is_quote bs) (length bs) e in (
@@ -546,20 +546,20 @@ quoted_piece fresh bs = by_end (position_or_len is_quote bs == length bs) refl
         )
 
 quote_piece : (fresh : Bool) (b : ℕ) (bs : List ℕ) → (b == 34) ≡ true
-    → IsPiece Head fresh (b ∷ bs) (quoted_front (quoted_from (b ∷ bs)))
+    → IsPiece Head fresh (b ∷ bs) (quoted_lexeme (quoted_from (b ∷ bs)))
 quote_piece fresh b bs e =
-    subst (λ (x : ℕ). IsPiece Head fresh (x ∷ bs) (quoted_front (quoted_from (x ∷ bs))))
+    subst (λ (x : ℕ). IsPiece Head fresh (x ∷ bs) (quoted_lexeme (quoted_from (x ∷ bs))))
     (sym (nesting.equal b 34 e)) (quoted_piece fresh bs)
 
 head_plain : (fresh : Bool) (b : ℕ) (bs : List ℕ) → IsOpen b bs → (fresh && is_letter b) ≡ false
-    → (b == 34) ≡ false → IsPiece Head fresh (b ∷ bs) (plain_front Head (b ∷ bs))
+    → (b == 34) ≡ false → IsPiece Head fresh (b ∷ bs) (plain_lexeme Head (b ∷ bs))
 head_plain fresh b bs o letter quote =
     let plain : is_plain Head fresh b ≡ true = ap not (or_from (fresh && is_letter b) (b == 34) letter quote) in
     plain_piece Head fresh b bs (λ k. absurd cc) plain o (λ starts.
     word_piece Head fresh b bs (λ k. absurd cc) plain o starts (λ k. absurd cc))
 
 head_piece : (fresh : Bool) (b : ℕ) (bs : List ℕ) → IsOpen b bs
-    → IsPiece Head fresh (b ∷ bs) (head_front fresh (b ∷ bs))
+    → IsPiece Head fresh (b ∷ bs) (head_lexeme fresh (b ∷ bs))
 head_piece true b bs o =
     tested (IsPiece Head true (b ∷ bs)) (is_letter b) _ _ (line_piece b bs o) (λ letter.
     tested (IsPiece Head true (b ∷ bs)) (b == 34) _ _ (quote_piece true b bs)
@@ -571,7 +571,7 @@ head_piece false b bs o =
 -- ---- any part
 
 stage_piece : (s : Stage) (fresh : Bool) (b : ℕ) (bs : List ℕ) → IsOpen b bs
-    → IsPiece s fresh (b ∷ bs) (stage_front s fresh (b ∷ bs))
+    → IsPiece s fresh (b ∷ bs) (stage_lexeme s fresh (b ∷ bs))
 stage_piece Magic fresh b bs o = raw_piece Magic fresh b bs (λ k. absurd cc) refl o
 stage_piece Title fresh b bs o = raw_piece Title fresh b bs (λ k. absurd cc) refl o
 stage_piece TitleEnd fresh b bs o = name_end_piece fresh b bs o
@@ -591,10 +591,10 @@ stage_piece Tail fresh b bs o =
     plain_piece Tail fresh b bs (λ k. absurd cc) refl o (λ starts.
     word_piece Tail fresh b bs (λ k. absurd cc) refl o starts (λ k. absurd cc))
 
-front_piece : (s : Stage) (fresh : Bool) (b : ℕ) (bs : List ℕ)
-    → IsPiece s fresh (b ∷ bs) (front s fresh (b ∷ bs))
-unfolding front
-front_piece s fresh b bs =
+first_piece : (s : Stage) (fresh : Bool) (b : ℕ) (bs : List ℕ)
+    → IsPiece s fresh (b ∷ bs) (first_lexeme s fresh (b ∷ bs))
+unfolding first_lexeme
+first_piece s fresh b bs =
     tested (IsPiece s fresh (b ∷ bs)) (is_not_ascii b) _ _ (ascii_piece s fresh b bs) (λ ascii.
     tested (IsPiece s fresh (b ∷ bs)) (is_blank b) _ _ (blank_piece s fresh b bs) (λ blank.
     tested (IsPiece s fresh (b ∷ bs)) (begins_comment (b ∷ bs)) _ _
@@ -617,15 +617,15 @@ skipped s fresh j n bs le =
     ∙ ap (λ (k : ℕ). tokens_from s fresh 0 k (drop j bs))
     (let e : n + 1 + j ≡ n + suc j = omega arith in e)
 
-after_piece : (s : Stage) (fresh : Bool) (n b : ℕ) (bs : List ℕ) (f : Front)
+after_piece : (s : Stage) (fresh : Bool) (n b : ℕ) (bs : List ℕ) (f : NextLexeme)
     → IsPiece s fresh (b ∷ bs) f
     → ((s' : Stage) (fresh' : Bool) (k : ℕ) (xs : List ℕ) → length xs ≤ length bs
     → CutAt s' fresh' k xs (tokens_from s' fresh' 0 k xs))
-    → CutAt s fresh n (b ∷ bs) (after_front s fresh n b f
+    → CutAt s fresh n (b ∷ bs) (after_lexeme s fresh n b f
     (λ s' fresh' skip. tokens_from s' fresh' skip (n + 1) bs))
-after_piece s fresh n b bs (fronts.Layout zero) h ih = let bad = h.0 in absurd (omega arith)
-after_piece s fresh n b bs (fronts.Lexeme t zero) h ih = let bad = h.0 in absurd (omega arith)
-after_piece s fresh n b bs (fronts.Layout (suc j)) h ih =
+after_piece s fresh n b bs (lexemes.Layout zero) h ih = let bad = h.0 in absurd (omega arith)
+after_piece s fresh n b bs (lexemes.Lexeme t zero) h ih = let bad = h.0 in absurd (omega arith)
+after_piece s fresh n b bs (lexemes.Layout (suc j)) h ih =
     let le = h.1 in
     let l = length-drop j bs in
     let m = length-take (suc j) (b ∷ bs) in
@@ -641,7 +641,7 @@ after_piece s fresh n b bs (fronts.Layout (suc j)) h ih =
           ap (λ (k : ℕ). tokens_at k c.pieces) size ∙ c.tokens
           ∙ sym (skipped s (fresh_after fresh b) j n bs (omega arith));
     }
-after_piece s fresh n b bs (fronts.Lexeme t (suc j)) h ih =
+after_piece s fresh n b bs (lexemes.Lexeme t (suc j)) h ih =
     let le = h.1 in
     let l = length-drop j bs in
     let m = length-take (suc j) (b ∷ bs) in
@@ -665,7 +665,7 @@ unfolding tokens_from
 cut_at most s fresh n [] le = record { pieces = []; fine = tt; whole = refl; tokens = refl }
 cut_at zero s fresh n (b ∷ bs) le = absurd (omega arith)
 cut_at (suc most) s fresh n (b ∷ bs) le =
-    after_piece s fresh n b bs (front s fresh (b ∷ bs)) (front_piece s fresh b bs)
+    after_piece s fresh n b bs (first_lexeme s fresh (b ∷ bs)) (first_piece s fresh b bs)
     (λ s' fresh' k xs short. cut_at most s' fresh' k xs (omega arith))
 
 pub is_cut : (s : Stage) (bytes : List ℕ) → IsTestCut s bytes (lexing s bytes)

@@ -8,9 +8,9 @@ use Rattle.litmus_tokens.specs.declared.stage.Stage.TheVariants.{InCell, Tail}
 use Rattle.litmus_tokens.specs.declared.token.Token.{Token}
 use Rattle.litmus_tokens.specs.declared.token.Token.TheVariants as tokens
 use Rattle.litmus_tokens.specs.declared.token.Mark.TheVariants as marks
-use Rattle.litmus_tokens.specs.declared.lexer.Front.TheVariants.{Lexeme}
+use Rattle.litmus_tokens.specs.declared.lexer.NextLexeme.TheVariants.{Lexeme}
 use Rattle.litmus_tokens.specs.Words.{register_of, is_known, or_zero}
-use Rattle.litmus_tokens.specs.Lexer.{ends_word, ends_digits, significant, front}
+use Rattle.litmus_tokens.specs.Lexer.{ends_word, ends_digits, significant, first_lexeme}
 use Rattle.litmus_tokens.specs.Stage.{after}
 use Rattle.litmus_tokens.specs.Texts.{tokens_from}
 use Rattle.text_values.specs.declared.test.Place.{Place}
@@ -21,14 +21,14 @@ use Rattle.litmus_tokens.specs.Conditions as grammar
 use Rattle.litmus_tokens.specs.Conditions.{PlaceTree, Location, Register, ValueTree, Number, Address, spelled_place, spelled_value, place_meaning, value_meaning, HasThread}
 use Rattle.litmus_printing.specs.Printing.{register_text, value_text, bare_text, place_text}
 use Rattle.litmus_laws.specs.Written.{begins_word, IsWord, IsValue, IsPlace}
-use Rattle.litmus_laws.proofs.Read.{Within, Entries, Operands, Condition, part, core, free, inner, inner_turn}
+use Rattle.litmus_laws.proofs.Read.{InnerPart, Entries, Operands, Condition, part, core, free, inner, inner_turn}
 use Rattle.litmus_laws.proofs.Numbers.{digits_first, word, number, are_back, signed_number, number_back, is_negative, digits_of, signed_back, is_int_back, register_back, register_word}
 use Rattle.text_laws.proofs.Runs.{other}
 
 -- ---- signs
 
-pub colon : (w : Within) (bs : List ℕ) → inner w (58 ∷ bs) ≡ tokens.Mark marks.Colon ∷ inner w bs
-unfolding tokens_from front
+pub colon : (w : InnerPart) (bs : List ℕ) → inner w (58 ∷ bs) ≡ tokens.Mark marks.Colon ∷ inner w bs
+unfolding tokens_from first_lexeme
 colon Entries bs =
     ap (λ (ts : List Token). tokens.Mark marks.Colon ∷ ts) (free (part Entries) _ 0 1 bs refl)
 colon Operands bs =
@@ -38,31 +38,31 @@ colon Condition bs =
 
 pub open_square : (bs : List ℕ)
     → inner Condition (91 ∷ bs) ≡ tokens.Mark marks.OpenBracket ∷ inner Condition bs
-unfolding tokens_from front
+unfolding tokens_from first_lexeme
 open_square bs =
     ap (λ (ts : List Token). tokens.Mark marks.OpenBracket ∷ ts) (free Tail _ 0 1 bs refl)
 
 pub close_square : (bs : List ℕ)
     → inner Condition (93 ∷ bs) ≡ tokens.Mark marks.CloseBracket ∷ inner Condition bs
-unfolding tokens_from front
+unfolding tokens_from first_lexeme
 close_square bs =
     ap (λ (ts : List Token). tokens.Mark marks.CloseBracket ∷ ts) (free Tail _ 0 1 bs refl)
 
 equals_here : (bs : List ℕ) → (slice_index bs 0 ≡ 62 → ⊥)
-    → front Tail false (61 ∷ bs) ≡ Lexeme (tokens.Mark marks.Equals) 1
-unfolding front
+    → first_lexeme Tail false (61 ∷ bs) ≡ Lexeme (tokens.Mark marks.Equals) 1
+unfolding first_lexeme
 equals_here bs h =
     ap
     (λ (b : Bool).
     if b then Lexeme (tokens.Mark marks.Implies) 2 else Lexeme (tokens.Mark marks.Equals) 1)
     (other (slice_index bs 0) 62 h)
 
-equals_stays : (w : Within) → core (after (part w) (tokens.Mark marks.Equals)) ≡ part w
+equals_stays : (w : InnerPart) → core (after (part w) (tokens.Mark marks.Equals)) ≡ part w
 equals_stays Entries = refl
 equals_stays Operands = refl
 equals_stays Condition = refl
 
-pub equals : (w : Within) (bs : List ℕ) → (slice_index bs 0 ≡ 62 → ⊥)
+pub equals : (w : InnerPart) (bs : List ℕ) → (slice_index bs 0 ≡ 62 → ⊥)
     → inner w (61 ∷ bs) ≡ tokens.Mark marks.Equals ∷ inner w bs
 equals w bs h = inner_turn w 61 [] bs (tokens.Mark marks.Equals) (equals_stays w) (equals_here bs h)
 
@@ -77,7 +77,7 @@ pub record Stops (bs : List ℕ) : Type 0 where
   pub no_word : ends_word (slice_index bs 0) ≡ true
   pub no_digits : ends_digits (slice_index bs 0) ≡ true
 
-pub value : (w : Within) (v : declared_value.Value) (bs : List ℕ) → IsValue v → Stops bs
+pub value : (w : InnerPart) (v : declared_value.Value) (bs : List ℕ) → IsValue v → Stops bs
     → inner w (value_text v ++ bs) ≡ spelled_value (value_tree v) (inner w bs)
 value w (values.Number z) bs h e = signed_number w z bs h e.no_digits
 value w (values.Address x) bs h e = word w x bs h e.no_word
@@ -113,7 +113,7 @@ abbrev pub place_tree : Bool → Place → PlaceTree
 place_tree bracketed (places.Location x) = Location bracketed x
 place_tree bracketed (places.Register t r) = Register (significant (decimal t)) (register_text r)
 
-register : (w : Within) (t r : ℕ) (bs : List ℕ) → t < 2 ^ 64 → r < 32
+register : (w : InnerPart) (t r : ℕ) (bs : List ℕ) → t < 2 ^ 64 → r < 32
     → ends_word (slice_index bs 0) ≡ true
     → inner w ((decimal t ++ (58 ∷ register_text r)) ++ bs)
     ≡ spelled_place (Register (significant (decimal t)) (register_text r)) (inner w bs)

@@ -10,13 +10,13 @@ use Rattle.litmus_tokens.specs.declared.stage.Stage.TheVariants.{Magic, Title, T
 use Rattle.litmus_tokens.specs.declared.token.Token.{Token}
 use Rattle.litmus_tokens.specs.declared.token.Token.TheVariants as tokens
 use Rattle.litmus_tokens.specs.declared.token.Mark.TheVariants as marks
-use Rattle.litmus_tokens.specs.declared.lexer.Front.{Front}
-use Rattle.litmus_tokens.specs.declared.lexer.Front.TheVariants.{Layout, Lexeme}
+use Rattle.litmus_tokens.specs.declared.lexer.NextLexeme.{NextLexeme}
+use Rattle.litmus_tokens.specs.declared.lexer.NextLexeme.TheVariants.{Layout, Lexeme}
 use Rattle.litmus_tokens.specs.Words.{ends_table}
 use Rattle.text_values.specs.Letters.{is_digit}
-use Rattle.litmus_tokens.specs.Lexer.{front, begins_comment, stage_front}
+use Rattle.litmus_tokens.specs.Lexer.{first_lexeme, begins_comment, stage_lexeme}
 use Rattle.litmus_tokens.specs.Stage.{after, after_brace}
-use Rattle.litmus_tokens.specs.Texts.{TokenAt, tokens_of, ends_line, fresh_after, after_front, tokens_from}
+use Rattle.litmus_tokens.specs.Texts.{TokenAt, tokens_of, ends_line, fresh_after, after_lexeme, tokens_from}
 use Rattle.litmus_grammar.proofs.Lexed.{tokens_skip}
 use Rattle.litmus_laws.specs.Written.{begins_word}
 use Rattle.text_laws.proofs.Runs.{other}
@@ -224,25 +224,25 @@ core_after CellBegins t = refl
 core_after InCell t = refl
 core_after Tail t = refl
 
-core_front : (s : Stage) (f : Bool) (bs : List ℕ) → is_past s ≡ true
-    → front s f bs ≡ front (core s) false bs
-unfolding front
-core_front Magic f bs h = absurd cc
-core_front Title f bs h = absurd cc
-core_front TitleEnd f bs h = absurd cc
-core_front Head f bs h = absurd cc
-core_front (Init a w) f bs h = refl
-core_front (Header n) f bs h = refl
-core_front CellBegins f bs h = refl
-core_front InCell f bs h = refl
-core_front Tail f bs h = refl
+core_lexeme : (s : Stage) (f : Bool) (bs : List ℕ) → is_past s ≡ true
+    → first_lexeme s f bs ≡ first_lexeme (core s) false bs
+unfolding first_lexeme
+core_lexeme Magic f bs h = absurd cc
+core_lexeme Title f bs h = absurd cc
+core_lexeme TitleEnd f bs h = absurd cc
+core_lexeme Head f bs h = absurd cc
+core_lexeme (Init a w) f bs h = refl
+core_lexeme (Header n) f bs h = refl
+core_lexeme CellBegins f bs h = refl
+core_lexeme InCell f bs h = refl
+core_lexeme Tail f bs h = refl
 
-after_free : (s : Stage) (f g : Bool) (p q b : ℕ) (x : Front)
+after_free : (s : Stage) (f g : Bool) (p q b : ℕ) (x : NextLexeme)
     (later other : Stage → Bool → ℕ → List TokenAt)
     → ((u v : Bool) (k : ℕ) → tokens_of (later s u k) ≡ tokens_of (other (core s) v k))
     → ((t : Token) (v : Bool) (k : ℕ)
     → tokens_of (later (after s t) v k) ≡ tokens_of (other (after (core s) t) v k))
-    → tokens_of (after_front s f p b x later) ≡ tokens_of (after_front (core s) g q b x other)
+    → tokens_of (after_lexeme s f p b x later) ≡ tokens_of (after_lexeme (core s) g q b x other)
 after_free s f g p q b (Layout n) later other same next =
     same (fresh_after f b) (fresh_after g b) (n - 1)
 after_free s f g p q b (Lexeme t n) later other same next =
@@ -258,9 +258,9 @@ free s f (suc k) p (b ∷ bs) h =
     ∙ sym (free (core s) false k 1 bs (past_core s h)
     ∙ ap (λ (u : Stage). tokens_of (tokens_from u false k 0 bs)) (core_core s))
 free s f zero p (b ∷ bs) h =
-    ap (λ (x : Front). tokens_of (after_front s f p b x (λ u g k. tokens_from u g k (p + 1) bs)))
-    (core_front s f (b ∷ bs) h)
-    ∙ after_free s f false p 0 b (front (core s) false (b ∷ bs))
+    ap (λ (x : NextLexeme). tokens_of (after_lexeme s f p b x (λ u g k. tokens_from u g k (p + 1) bs)))
+    (core_lexeme s f (b ∷ bs) h)
+    ∙ after_free s f false p 0 b (first_lexeme (core s) false (b ∷ bs))
     (λ u g k. tokens_from u g k (p + 1) bs) (λ u g k. tokens_from u g k 1 bs)
     (λ u v k. free s u k (p + 1) bs h
     ∙ sym (free (core s) v k 1 bs (past_core s h)
@@ -271,14 +271,14 @@ free s f zero p (b ∷ bs) h =
 
 -- a token, in a part from the init block on
 pub turn : (s : Stage) (b : ℕ) (word rest : List ℕ) (t : Token) → is_past s ≡ true
-    → front s false (b ∷ (word ++ rest)) ≡ Lexeme t (length (b ∷ word))
+    → first_lexeme s false (b ∷ (word ++ rest)) ≡ Lexeme t (length (b ∷ word))
     → read s (b ∷ (word ++ rest)) ≡ t ∷ read (core (after s t)) rest
 unfolding tokens_from
 turn s b word rest t h e =
     let l = length-append word rest in
     ap
-    (λ (x : Front).
-    tokens_of (after_front s false 0 b x (λ u g k. tokens_from u g k 1 (word ++ rest)))) e
+    (λ (x : NextLexeme).
+    tokens_of (after_lexeme s false 0 b x (λ u g k. tokens_from u g k 1 (word ++ rest)))) e
     ∙ ap (λ (k : ℕ). t ∷ tokens_of (tokens_from (after s t) (ends_line t) k 1 (word ++ rest)))
     (omega arith)
     ∙ ap (λ (ps : List TokenAt). t ∷ tokens_of ps) (tokens_skip (after s t) (ends_line t)
@@ -292,46 +292,46 @@ turn s b word rest t h e =
 
 -- ---- three parts that a token of their own does not end
 
-pub data Within : Type 0 where
-  Entries : Within
-  Operands : Within
-  Condition : Within
+pub data InnerPart : Type 0 where
+  Entries : InnerPart
+  Operands : InnerPart
+  Condition : InnerPart
 
-abbrev pub part : Within → Stage
+abbrev pub part : InnerPart → Stage
 part Entries = Init false false
 part Operands = InCell
 part Condition = Tail
 
 -- what is read there
-abbrev pub inner : Within → List ℕ → List Token
+abbrev pub inner : InnerPart → List ℕ → List Token
 inner w bs = read (part w) bs
 
-past_part : (w : Within) → is_past (part w) ≡ true
+past_part : (w : InnerPart) → is_past (part w) ≡ true
 past_part Entries = refl
 past_part Operands = refl
 past_part Condition = refl
 
-part_front : (w : Within) (bs : List ℕ) → front (part w) false bs ≡ front Tail false bs
-unfolding front
-part_front Entries bs = refl
-part_front Operands bs = refl
-part_front Condition bs = refl
+part_lexeme : (w : InnerPart) (bs : List ℕ) → first_lexeme (part w) false bs ≡ first_lexeme Tail false bs
+unfolding first_lexeme
+part_lexeme Entries bs = refl
+part_lexeme Operands bs = refl
+part_lexeme Condition bs = refl
 
 -- a token that ends no part
-pub inner_turn : (w : Within) (b : ℕ) (word rest : List ℕ) (t : Token)
+pub inner_turn : (w : InnerPart) (b : ℕ) (word rest : List ℕ) (t : Token)
     → core (after (part w) t) ≡ part w
-    → front Tail false (b ∷ (word ++ rest)) ≡ Lexeme t (length (b ∷ word))
+    → first_lexeme Tail false (b ∷ (word ++ rest)) ≡ Lexeme t (length (b ∷ word))
     → inner w (b ∷ (word ++ rest)) ≡ t ∷ inner w rest
 inner_turn w b word rest t stays e =
-    turn (part w) b word rest t (past_part w) (part_front w (b ∷ (word ++ rest)) ∙ e)
+    turn (part w) b word rest t (past_part w) (part_lexeme w (b ∷ (word ++ rest)) ∙ e)
     ∙ ap (λ (s : Stage). t ∷ read s rest) stays
 
-pub word_stays : (w : Within) (n : List ℕ) → core (after (part w) (tokens.Word n)) ≡ part w
+pub word_stays : (w : InnerPart) (n : List ℕ) → core (after (part w) (tokens.Word n)) ≡ part w
 word_stays Entries n = refl
 word_stays Operands n = refl
 word_stays Condition n = refl
 
-pub number_stays : (w : Within) (b : Bool) (n : List ℕ)
+pub number_stays : (w : InnerPart) (b : Bool) (n : List ℕ)
     → core (after (part w) (tokens.Number b n)) ≡ part w
 number_stays Entries b n = refl
 number_stays Operands b n = refl
@@ -365,8 +365,8 @@ three_tests x y z a b c d e f g =
 
 -- what such a byte begins is looked at as in every part
 pub word_byte : (s : Stage) (b : ℕ) (bs : List ℕ) → IsOfWord b
-    → front s false (b ∷ bs) ≡ stage_front s false (b ∷ bs)
-unfolding front
+    → first_lexeme s false (b ∷ bs) ≡ stage_lexeme s false (b ∷ bs)
+unfolding first_lexeme
 word_byte s b bs h =
     let l = h.low in
     three_tests (nat_le 128 b) (is_blank b) (begins_comment (b ∷ bs)) _ _ _ _ (ascii b h)

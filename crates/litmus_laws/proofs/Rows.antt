@@ -6,7 +6,7 @@ use Rattle.litmus_tokens.specs.declared.stage.Stage.TheVariants.{CellBegins}
 use Rattle.litmus_tokens.specs.declared.token.Token.{Token}
 use Rattle.litmus_tokens.specs.declared.token.Token.TheVariants as tokens
 use Rattle.litmus_tokens.specs.declared.token.Mark.TheVariants as marks
-use Rattle.litmus_tokens.specs.Lexer.{front}
+use Rattle.litmus_tokens.specs.Lexer.{first_lexeme}
 use Rattle.litmus_tokens.specs.Texts.{tokens_from}
 use Rattle.text_values.specs.declared.instruction.Instruction.{Instruction}
 use Rattle.text_values.specs.declared.test.Step.{Step}
@@ -29,7 +29,7 @@ pub record Closes (bs : List ℕ) (ts : List Token) : Type 0 where
   pub no_colon : NoColon bs
 
 bar_closes : (bs : List ℕ) → Closes (124 ∷ 32 ∷ bs) (tokens.Mark marks.Bar ∷ read CellBegins bs)
-unfolding tokens_from front
+unfolding tokens_from first_lexeme
 bar_closes bs = record {
   begins = ap (λ (ts : List Token). tokens.Mark marks.Bar ∷ ts) (free CellBegins _ 0 3 bs refl);
   inside = ap (λ (ts : List Token). tokens.Mark marks.Bar ∷ ts) (free CellBegins _ 0 3 bs refl);
@@ -38,7 +38,7 @@ bar_closes bs = record {
 
 semicolon_closes : (bs : List ℕ)
     → Closes (59 ∷ 10 ∷ bs) (tokens.Mark marks.Semicolon ∷ read CellBegins bs)
-unfolding tokens_from front
+unfolding tokens_from first_lexeme
 semicolon_closes bs = record {
   begins =
       ap (λ (ts : List Token). tokens.Mark marks.Semicolon ∷ ts) (free CellBegins _ 0 3 bs refl);

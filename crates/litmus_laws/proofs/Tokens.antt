@@ -12,13 +12,13 @@ use Rattle.litmus_tokens.specs.declared.stage.Stage.TheVariants.{Magic, Title, T
 use Rattle.litmus_tokens.specs.declared.token.Token.{Token}
 use Rattle.litmus_tokens.specs.declared.token.Token.TheVariants as tokens
 use Rattle.litmus_tokens.specs.declared.token.Mark as mark
-use Rattle.litmus_tokens.specs.declared.lexer.Front.{Front}
-use Rattle.litmus_tokens.specs.declared.lexer.Front.TheVariants.{Layout, Lexeme}
+use Rattle.litmus_tokens.specs.declared.lexer.NextLexeme.{NextLexeme}
+use Rattle.litmus_tokens.specs.declared.lexer.NextLexeme.TheVariants.{Layout, Lexeme}
 use Rattle.litmus_tokens.specs.Words.{are_digits}
 use Rattle.text_values.specs.Letters.{is_digit, is_letter}
-use Rattle.litmus_tokens.specs.Lexer.{is_word_byte, is_space, is_not_ascii, ends_word, ends_digits, is_equals, begins_comment, gap_from, comment_front, ends_raw, raw_from, raw_front, quoted_front, line_front, word_token, word_front, significant, number_front, minus_front, mark_of, mark_front, sign_front, plain_front, stage_front, front}
+use Rattle.litmus_tokens.specs.Lexer.{is_word_byte, is_space, is_not_ascii, ends_word, ends_digits, is_equals, begins_comment, gap_from, comment_lexeme, ends_raw, raw_from, raw_lexeme, quoted_lexeme, line_lexeme, word_token, word_lexeme, significant, number_lexeme, minus_lexeme, mark_of, mark_lexeme, sign_lexeme, plain_lexeme, stage_lexeme, first_lexeme}
 use Rattle.litmus_tokens.specs.Stage.{after}
-use Rattle.litmus_tokens.specs.Texts.{TokenAt, tokens_of, ends_line, fresh_after, after_front, tokens_from}
+use Rattle.litmus_tokens.specs.Texts.{TokenAt, tokens_of, ends_line, fresh_after, after_lexeme, tokens_from}
 use Rattle.litmus_laws.specs.Written.{begins_word, IsWord, holds_comment}
 use Rattle.litmus_laws.proofs.Read.{is_past, past_after}
 use Rattle.litmus_laws.proofs.Conditions.{all_of_word, is_word}
@@ -60,9 +60,9 @@ abbrev pub AreFine : Stage → List Token → Type 0
 AreFine s [] = Unit {0}
 AreFine s (t ∷ ts) = FineIn s t × AreFine (after s t) ts
 
-abbrev FrontFine : Stage → Front → Type 0
-FrontFine s (Layout n) = Unit {0}
-FrontFine s (Lexeme t n) = FineIn s t
+abbrev LexemeFine : Stage → NextLexeme → Type 0
+LexemeFine s (Layout n) = Unit {0}
+LexemeFine s (Lexeme t n) = FineIn s t
 
 abbrev is_raw : Stage → Bool
 is_raw Magic = true
@@ -136,7 +136,7 @@ significant_digits (d ∷ ds) h =
     leading (d == 48) d ds refl h (significant_digits ds
     (and_parts (is_digit d) (are_digits ds) h).1)
 
--- ---- the front of a text
+-- ---- what a text begins with
 
 raw_taken : (m : ℕ) (bs : List ℕ)
     → (n : ℕ) × (raw_from m bs ≡ m + n) × (holds_comment (take n bs) ≡ false)
@@ -178,19 +178,19 @@ raw_word bs =
     let same : 0 + r.0 ≡ r.0 = omega arith in
     ap (λ (k : ℕ). holds_comment (take k bs)) (r.1 ∙ same) ∙ r.2
 
-comment_fine : (s : Stage) (n : ℕ) (o : Option ℕ) → FrontFine s (comment_front n o)
+comment_fine : (s : Stage) (n : ℕ) (o : Option ℕ) → LexemeFine s (comment_lexeme n o)
 comment_fine s n (Some k) = tt
 comment_fine s n None = fine_in s (tokens.Broken rules.OpenComment) tt tt tt
 
-mark_fine : (s : Stage) (o : Option mark.Mark) → FrontFine s (mark_front o)
+mark_fine : (s : Stage) (o : Option mark.Mark) → LexemeFine s (mark_lexeme o)
 mark_fine s (Some m) = fine_in s (tokens.Mark m) tt tt tt
 mark_fine s None = fine_in s tokens.Bad tt tt tt
 
-sign_fine : (s : Stage) (b next : ℕ) → FrontFine s (sign_front b next)
+sign_fine : (s : Stage) (b next : ℕ) → LexemeFine s (sign_lexeme b next)
 sign_fine s b next =
-    tested (FrontFine s) (b == 47 && next == 92) _ _ (λ _. fine_in s (tokens.Mark _) tt tt tt)
-    (λ _. tested (FrontFine s) (b == 92 && next == 47) _ _ (λ _. fine_in s (tokens.Mark _) tt tt tt)
-    (λ _. tested (FrontFine s) (b == 61 && next == 62) _ _ (λ _. fine_in s (tokens.Mark _) tt tt tt)
+    tested (LexemeFine s) (b == 47 && next == 92) _ _ (λ _. fine_in s (tokens.Mark _) tt tt tt)
+    (λ _. tested (LexemeFine s) (b == 92 && next == 47) _ _ (λ _. fine_in s (tokens.Mark _) tt tt tt)
+    (λ _. tested (LexemeFine s) (b == 61 && next == 62) _ _ (λ _. fine_in s (tokens.Mark _) tt tt tt)
     (λ _. mark_fine s (mark_of b))))
 
 ninth_fine : (w : List ℕ) → IsWord w → FineIn (Header zero) (word_token (Header zero) w)
@@ -199,7 +199,7 @@ ninth_fine w h =
     (tokens.Word w) (λ _. (tt, tt)) (λ e. (h, e))
 
 word_fine : (s : Stage) (bs : List ℕ) (n : ℕ) → is_raw s ≡ false → IsWord (take n bs)
-    → FrontFine s (word_front s bs n)
+    → LexemeFine s (word_lexeme s bs n)
 word_fine Magic bs n r h = absurd cc
 word_fine Title bs n r h = absurd cc
 word_fine TitleEnd bs n r h = h
@@ -209,7 +209,7 @@ word_fine (Header zero) bs n r h = ninth_fine (take n bs) h
 word_fine (Header (suc k)) bs n r h = h
 word_fine CellBegins bs n r h =
     let gap = gap_from 0 0 (drop n bs) in
-    tested (FrontFine CellBegins) (slice_index bs (n + gap) == 58)
+    tested (LexemeFine CellBegins) (slice_index bs (n + gap) == 58)
     (Lexeme (tokens.Label (take n bs)) (n + gap + 1)) (Lexeme (tokens.Word (take n bs)) n)
     (λ _. h) (λ _. h)
 word_fine InCell bs n r h = h
@@ -220,50 +220,50 @@ number_fine : (s : Stage) (negative : Bool) (ds : List ℕ) → is_raw s ≡ fal
 number_fine s negative ds r h = fine_in s (tokens.Number negative ds) h tt tt
 
 plain_fine : (s : Stage) (b : ℕ) (bs : List ℕ) → is_raw s ≡ false
-    → FrontFine s (plain_front s (b ∷ bs))
+    → LexemeFine s (plain_lexeme s (b ∷ bs))
 plain_fine s b bs r =
-    tested (FrontFine s) (is_line_end b) (Layout 1) _ (λ _. tt)
-    (λ _. tested (FrontFine s) (begins_word b)
-    (word_front s (b ∷ bs) (position_or_len ends_word (b ∷ bs))) _
+    tested (LexemeFine s) (is_line_end b) (Layout 1) _ (λ _. tt)
+    (λ _. tested (LexemeFine s) (begins_word b)
+    (word_lexeme s (b ∷ bs) (position_or_len ends_word (b ∷ bs))) _
     (λ e. word_fine s (b ∷ bs) (position_or_len ends_word (b ∷ bs)) r (word_taken b bs e))
-    (λ _. tested (FrontFine s) (is_digit b)
-    (number_front (b ∷ bs) (position_or_len ends_digits (b ∷ bs))) _ (λ _. number_fine s false
+    (λ _. tested (LexemeFine s) (is_digit b)
+    (number_lexeme (b ∷ bs) (position_or_len ends_digits (b ∷ bs))) _ (λ _. number_fine s false
     (significant (take (position_or_len ends_digits (b ∷ bs)) (b ∷ bs))) r
     (significant_digits (take (position_or_len ends_digits (b ∷ bs)) (b ∷ bs))
     (digit_span (b ∷ bs))))
-    (λ _. tested (FrontFine s) (b == 45 && is_digit (slice_index bs 0))
-    (minus_front bs (position_or_len ends_digits bs)) (sign_front b (slice_index bs 0))
+    (λ _. tested (LexemeFine s) (b == 45 && is_digit (slice_index bs 0))
+    (minus_lexeme bs (position_or_len ends_digits bs)) (sign_lexeme b (slice_index bs 0))
     (λ _. number_fine s true (significant (take (position_or_len ends_digits bs) bs)) r
     (significant_digits (take (position_or_len ends_digits bs) bs) (digit_span bs)))
     (λ _. sign_fine s b (slice_index bs 0)))))
 
-line_fine : (line : List ℕ) → FrontFine Head (line_front line)
+line_fine : (line : List ℕ) → LexemeFine Head (line_lexeme line)
 line_fine line =
-    tested (FrontFine Head) (position_or_len is_equals line == length line) (Lexeme tokens.Bad 1)
+    tested (LexemeFine Head) (position_or_len is_equals line == length line) (Lexeme tokens.Bad 1)
     (Lexeme tokens.Keyline (position_or_len is_not_ascii line)) (λ _. tt) (λ _. tt)
 
-quoted_fine : (o : Option ℕ) → FrontFine Head (quoted_front o)
+quoted_fine : (o : Option ℕ) → LexemeFine Head (quoted_lexeme o)
 quoted_fine (Some n) = tt
 quoted_fine None = tt
 
 raw_fine : (s : Stage) (bs : List ℕ) → IsRaw (tokens.Word (take (raw_from 0 bs) bs))
-    → ((t : Token) → IsRaw t → FineIn s t) → FrontFine s (raw_front bs (raw_from 0 bs))
+    → ((t : Token) → IsRaw t → FineIn s t) → LexemeFine s (raw_lexeme bs (raw_from 0 bs))
 raw_fine s bs h is =
-    tested (FrontFine s) (is_line_end (slice_index bs 0)) (Layout 1)
+    tested (LexemeFine s) (is_line_end (slice_index bs 0)) (Layout 1)
     (Lexeme (tokens.Word (take (raw_from 0 bs) bs)) (raw_from 0 bs)) (λ _. tt)
     (λ _. is (tokens.Word (take (raw_from 0 bs) bs)) h)
 
-stage_fine : (s : Stage) (f : Bool) (b : ℕ) (bs : List ℕ) → FrontFine s (stage_front s f (b ∷ bs))
+stage_fine : (s : Stage) (f : Bool) (b : ℕ) (bs : List ℕ) → LexemeFine s (stage_lexeme s f (b ∷ bs))
 stage_fine Magic f b bs = raw_fine Magic (b ∷ bs) (raw_word (b ∷ bs)) (λ t h. h)
 stage_fine Title f b bs = raw_fine Title (b ∷ bs) (raw_word (b ∷ bs)) (λ t h. h)
 stage_fine TitleEnd f b bs =
-    tested (FrontFine TitleEnd) (is_line_end b) (Lexeme tokens.LineEnd 1) (Lexeme tokens.Bad 1)
+    tested (LexemeFine TitleEnd) (is_line_end b) (Lexeme tokens.LineEnd 1) (Lexeme tokens.Bad 1)
     (λ _. tt) (λ _. tt)
 stage_fine Head f b bs =
-    tested (FrontFine Head) (f && is_letter b) _ _ (λ _.
+    tested (LexemeFine Head) (f && is_letter b) _ _ (λ _.
     line_fine (take (position_or_len is_line_end (b ∷ bs)) (b ∷ bs)))
-    (λ _. tested (FrontFine Head) (b == 34) (quoted_front (quoted_from (b ∷ bs)))
-    (plain_front Head (b ∷ bs)) (λ _. quoted_fine (quoted_from (b ∷ bs)))
+    (λ _. tested (LexemeFine Head) (b == 34) (quoted_lexeme (quoted_from (b ∷ bs)))
+    (plain_lexeme Head (b ∷ bs)) (λ _. quoted_fine (quoted_from (b ∷ bs)))
     (λ _. plain_fine Head b bs refl))
 stage_fine (Init a w) f b bs = plain_fine (Init a w) b bs refl
 stage_fine (Header n) f b bs = plain_fine (Header n) b bs refl
@@ -271,19 +271,19 @@ stage_fine CellBegins f b bs = plain_fine CellBegins b bs refl
 stage_fine InCell f b bs = plain_fine InCell b bs refl
 stage_fine Tail f b bs = plain_fine Tail b bs refl
 
-front_fine : (s : Stage) (f : Bool) (b : ℕ) (bs : List ℕ) → FrontFine s (front s f (b ∷ bs))
-unfolding front
-front_fine s f b bs =
-    tested (FrontFine s) (is_not_ascii b) (Lexeme (tokens.Broken rules.NotAscii) 1) _
+first_fine : (s : Stage) (f : Bool) (b : ℕ) (bs : List ℕ) → LexemeFine s (first_lexeme s f (b ∷ bs))
+unfolding first_lexeme
+first_fine s f b bs =
+    tested (LexemeFine s) (is_not_ascii b) (Lexeme (tokens.Broken rules.NotAscii) 1) _
     (λ _. fine_in s (tokens.Broken rules.NotAscii) tt tt tt)
-    (λ _. tested (FrontFine s) (is_blank b) (Layout 1) _ (λ _. tt)
-    (λ _. tested (FrontFine s) (begins_comment (b ∷ bs))
-    (comment_front (length (b ∷ bs)) (comment_of (b ∷ bs))) (stage_front s f (b ∷ bs))
+    (λ _. tested (LexemeFine s) (is_blank b) (Layout 1) _ (λ _. tt)
+    (λ _. tested (LexemeFine s) (begins_comment (b ∷ bs))
+    (comment_lexeme (length (b ∷ bs)) (comment_of (b ∷ bs))) (stage_lexeme s f (b ∷ bs))
     (λ _. comment_fine s _ (comment_of (b ∷ bs))) (λ _. stage_fine s f b bs)))
 
-after_fine : (s : Stage) (f : Bool) (p b : ℕ) (x : Front) (later : Stage → Bool → ℕ → List TokenAt)
-    → FrontFine s x → ((u : Stage) (g : Bool) (k : ℕ) → AreFine u (tokens_of (later u g k)))
-    → AreFine s (tokens_of (after_front s f p b x later))
+after_fine : (s : Stage) (f : Bool) (p b : ℕ) (x : NextLexeme) (later : Stage → Bool → ℕ → List TokenAt)
+    → LexemeFine s x → ((u : Stage) (g : Bool) (k : ℕ) → AreFine u (tokens_of (later u g k)))
+    → AreFine s (tokens_of (after_lexeme s f p b x later))
 after_fine s f p b (Layout n) later h all = all s (fresh_after f b) (n - 1)
 after_fine s f p b (Lexeme t n) later h all = (h, all (after s t) (ends_line t) (n - 1))
 
@@ -294,8 +294,8 @@ unfolding tokens_from
 tokens_fine s f k p [] = (fine_in s tokens.End tt tt tt, tt)
 tokens_fine s f (suc k) p (b ∷ bs) = tokens_fine s f k (p + 1) bs
 tokens_fine s f zero p (b ∷ bs) =
-    after_fine s f p b (front s f (b ∷ bs)) (λ u g k. tokens_from u g k (p + 1) bs)
-    (front_fine s f b bs) (λ u g k. tokens_fine u g k (p + 1) bs)
+    after_fine s f p b (first_lexeme s f (b ∷ bs)) (λ u g k. tokens_from u g k (p + 1) bs)
+    (first_fine s f b bs) (λ u g k. tokens_fine u g k (p + 1) bs)
 
 -- ---- from the init block on
 

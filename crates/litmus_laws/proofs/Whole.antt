@@ -5,7 +5,7 @@ use Rattle.litmus_tokens.specs.declared.stage.Stage.TheVariants.{Magic, Header, 
 use Rattle.litmus_tokens.specs.declared.token.Token.{Token}
 use Rattle.litmus_tokens.specs.declared.token.Token.TheVariants as tokens
 use Rattle.litmus_tokens.specs.declared.token.Mark.TheVariants as marks
-use Rattle.litmus_tokens.specs.Lexer.{front}
+use Rattle.litmus_tokens.specs.Lexer.{first_lexeme}
 use Rattle.litmus_tokens.specs.Texts.{tokens_of, lexing, tokens_from}
 use Rattle.text_values.specs.declared.test.Place.{Place}
 use Rattle.text_values.specs.declared.test.InitEntry.{InitEntry}
@@ -38,7 +38,7 @@ use Rattle.text_laws.proofs.Runs.{other}
 
 cell_tilde : (bs : List ℕ)
     → read CellBegins (126 ∷ bs) ≡ tokens.Mark marks.Tilde ∷ inner Condition bs
-unfolding tokens_from front
+unfolding tokens_from first_lexeme
 cell_tilde bs = ap (λ (ts : List Token). tokens.Mark marks.Tilde ∷ ts) (free Tail _ 0 1 bs refl)
 
 module _ (threads : ℕ) (few : threads < 18446744073709551616) where

@@ -19,8 +19,10 @@ use Rattle.text_values.specs.TestValue.{Formula, Constant, Holds, Not, Join, Con
 use Rattle.litmus_tokens.specs.Conditions.{Limits, limits, IsConditionText, formula_meaning}
 use Rattle.litmus_table.specs.Late.{is_in}
 use Rattle.litmus_grammar.specs.Grammar.{IsTestText, test_meaning}
-use Rattle.litmus_grammar.specs.Texts.{most_bytes, late_test}
+use Rattle.litmus_grammar.specs.Texts.{late_test}
+use Rattle.text_values.specs.Layout.{most_bytes}
 use Rattle.litmus_printing.specs.Printing.{is_loose}
+use Rattle.text_laws.specs.Counts.{one_where}
 
 abbrev pub begins_word : ℕ → Bool
 begins_word b = is_letter b || b == 95
@@ -158,10 +160,6 @@ pub record IsTextOfTest (bytes : List ℕ) (v : Content) : Type 0 where
   pub meant : test_meaning text.tree ≡ v
 
 -- ---- the limits of the format
-
-abbrev pub one_where : Bool → ℕ
-one_where true = 1
-one_where false = 0
 
 -- how many parentheses and `not` are open at once in what is printed
 abbrev pub nesting : Formula → ℕ

@@ -23,7 +23,7 @@ use Rattle.litmus_grammar.specs.declared.parts.TextKind.{TextKind}
 use Rattle.litmus_grammar.specs.declared.parts.TextKind.TheVariants as kinds
 use Rattle.litmus_grammar.specs.Grammar.{EntryTree, spelled_entry, members, entry_meaning, IsInitText}
 use Rattle.litmus_grammar.specs.InitMachine.{lacks_thread, missing}
-use Rattle.litmus_grammar.specs.TextMachine.{State, TextResult, run, start, threads_in}
+use Rattle.litmus_grammar.specs.TextMachine.{TextState, TextResult, run, start, threads_in}
 use Rattle.litmus_ppc.specs.TextReading.{FailsAt}
 use Rattle.litmus_grammar.specs.Texts as texts
 use Rattle.litmus_grammar.specs.Texts.{late_entries, late_of_init, ReadsInit, IsInitFault}
@@ -134,18 +134,18 @@ module _ (threads : ℕ) (few : threads < 18446744073709551616) where
     abbrev made : TextResult
     made = run (start kinds.Init threads) text_tokens
 
-    abbrev missing_in : State → Option ℕ
+    abbrev missing_in : TextState → Option ℕ
     missing_in s =
         missing (threads_in s.kind s.threads s.draft) s.draft.init.entries s.draft.init.starts
 
-    text_of : (s : State) → made ≡ Ok s → IsInitText (tokens_of text_tokens)
+    text_of : (s : TextState) → made ≡ Ok s → IsInitText (tokens_of text_tokens)
     text_of s e =
         let l = ends_last (Init true false) false 0 0 bytes in
         init_whole threads text_tokens s e (ends_done (start kinds.Init threads) s l.0 l.1
         (ap (run (start kinds.Init threads)) (sym l.2) ∙ e))
 
     -- what the machine holds behind a text
-    holds : (s : State) → made ≡ Ok s → (x : IsInitText (tokens_of text_tokens))
+    holds : (s : TextState) → made ≡ Ok s → (x : IsInitText (tokens_of text_tokens))
         → (s.draft.init.entries ≡ map entry_kept (members x.entries))
         × AreStarts text_tokens (tokens.Mark marks.OpenBrace ∷ []) (members x.entries)
         s.draft.init.starts
@@ -153,12 +153,12 @@ module _ (threads : ℕ) (few : threads < 18446744073709551616) where
         let t = init_taken threads x.entries text_tokens x.fine x.whole in
         let same : t.state ≡ s = same_state t.state s (sym t.by ∙ e) in
         subst
-        (λ (y : State). (y.draft.init.entries ≡ map entry_kept (members x.entries))
+        (λ (y : TextState). (y.draft.init.entries ≡ map entry_kept (members x.entries))
         × AreStarts text_tokens (tokens.Mark marks.OpenBrace ∷ []) (members x.entries)
         y.draft.init.starts) same
         (t.entries, t.stand)
 
-    matches : (s : State) → made ≡ Ok s → (x : IsInitText (tokens_of text_tokens))
+    matches : (s : TextState) → made ≡ Ok s → (x : IsInitText (tokens_of text_tokens))
         → Matches text_tokens (late_of_init threads (tokens_of text_tokens) x) (missing_in s)
     matches s e x =
         let f = follows (start kinds.Init threads) s text_tokens e in
@@ -177,7 +177,7 @@ module _ (threads : ℕ) (few : threads < 18446744073709551616) where
     in_time (Some l) None m e = absurd m
     in_time (Some l) (Some n) m e = absurd cc
 
-    pub init_found : (s : State) → (length bytes ≤ 65536 → made ≡ Ok s) → (65536 < length bytes → ⊥)
+    pub init_found : (s : TextState) → (length bytes ≤ 65536 → made ≡ Ok s) → (65536 < length bytes → ⊥)
         → missing_in s ≡ None → ReadsInit threads bytes s.draft.init.entries
     init_found s h bounded none =
         let le = is_short bytes bounded in
@@ -185,7 +185,7 @@ module _ (threads : ℕ) (few : threads < 18446744073709551616) where
         let late = in_time (late_of_init threads (tokens_of text_tokens) x) (missing_in s) (matches s (h le) x) none in
         record { short = le; text = x; in_time = late; meant = sym (kept_means (tokens.Mark marks.OpenBrace ∷ []) (members x.entries) late) ∙ sym (holds s (h le) x).0 }
 
-    pub init_only : (s : State) → (length bytes ≤ 65536 → made ≡ Ok s) → (v : List InitEntry)
+    pub init_only : (s : TextState) → (length bytes ≤ 65536 → made ≡ Ok s) → (v : List InitEntry)
         → ReadsInit threads bytes v → s.draft.init.entries ≡ v
     init_only s h v r =
         (holds s (h r.short) r.text).0
@@ -198,7 +198,7 @@ module _ (threads : ℕ) (few : threads < 18446744073709551616) where
         no_fault (texts.IsStart IsInitText (Init true false)) kinds.Init threads
         (init_reading threads) text_tokens rule offset (texts.IsWhole r.text) (h r.short)
 
-    pub init_only_there : (s : State) (d : LitmusFault) → (length bytes ≤ 65536 → made ≡ Ok s)
+    pub init_only_there : (s : TextState) (d : LitmusFault) → (length bytes ≤ 65536 → made ≡ Ok s)
         → faults_of.IsMissingFound (Err d) (missing_in s) → (v : List InitEntry)
         → ReadsInit threads bytes v → faults_of.IsLitmusMemory d
     init_only_there s (faults.OutOfMemory e) h found v r = absurd found
@@ -226,7 +226,7 @@ module _ (threads : ℕ) (few : threads < 18446744073709551616) where
         record { text = texts.IsWhole x; found = l; is_found = e; rule_is = m.0; stands = m.1 }
     later_fault x None offset e m = absurd m
 
-    pub init_missing : (s : State) (d : LitmusFault) → (length bytes ≤ 65536 → made ≡ Ok s)
+    pub init_missing : (s : TextState) (d : LitmusFault) → (length bytes ≤ 65536 → made ≡ Ok s)
         → (65536 < length bytes → ⊥) → faults_of.IsMissingFound (Err d) (missing_in s)
         → IsLitmusFaultOf (IsInitFault threads bytes) d
     init_missing s (faults.OutOfMemory e) h bounded found = tt

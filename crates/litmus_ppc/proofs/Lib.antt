@@ -7,4 +7,4 @@ pub mod TestReader
 pub mod TextReaders
 pub mod ThreadReader
 pub mod Turns
-pub mod Within
+pub mod Bounds

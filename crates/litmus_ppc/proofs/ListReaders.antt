@@ -9,7 +9,7 @@ use Rattle.litmus_ppc.specs.declared.fault.LitmusFault.{LitmusFault}
 use Rattle.litmus_ppc.specs.declared.fault.LitmusFault.TheVariants as faults
 use Rattle.litmus_grammar.specs.declared.parts.TextKind.TheVariants as kinds
 use Rattle.litmus_grammar.specs.Grammar.{members, IsLocationsText}
-use Rattle.litmus_grammar.specs.TextMachine.{State, TextResult, run, start, nothing}
+use Rattle.litmus_grammar.specs.TextMachine.{TextState, TextResult, run, start, nothing}
 use Rattle.litmus_ppc.specs.TextReading.{FailsAt}
 use Rattle.litmus_grammar.specs.Texts as texts
 use Rattle.litmus_grammar.specs.Texts.{ReadsLocations, IsLocationsFault}
@@ -26,29 +26,29 @@ module _ (threads : ℕ) (few : threads < 18446744073709551616) (bytes : List �
   abbrev made : TextResult
   made = run (start kinds.Locations threads) (lexing Tail bytes)
 
-  text_of : (s : State) → made ≡ Ok s → IsLocationsText threads (tokens_of (lexing Tail bytes))
+  text_of : (s : TextState) → made ≡ Ok s → IsLocationsText threads (tokens_of (lexing Tail bytes))
   text_of s e =
       let l = ends_last Tail false 0 0 bytes in
       list_whole threads (lexing Tail bytes) Tail (nothing kinds.Locations) s e (ends_done
       (start kinds.Locations threads) s l.0 l.1
       (ap (run (start kinds.Locations threads)) (sym l.2) ∙ e))
 
-  meant_by : (s : State) → made ≡ Ok s
+  meant_by : (s : TextState) → made ≡ Ok s
       → (x : IsLocationsText threads (tokens_of (lexing Tail bytes)))
       → map place_meaning (members x.items) ≡ s.draft.observed
   meant_by s e x =
       let t = list_taken threads few (lexing Tail bytes) x in
       let same : t.0 ≡ s = same_state t.0 s (sym t.1 ∙ e) in
-      sym t.2 ∙ ap (λ (y : State). y.draft.observed) same
+      sym t.2 ∙ ap (λ (y : TextState). y.draft.observed) same
 
-  pub locations_found : (s : State) → (length bytes ≤ 65536 → made ≡ Ok s)
+  pub locations_found : (s : TextState) → (length bytes ≤ 65536 → made ≡ Ok s)
       → (65536 < length bytes → ⊥) → ReadsLocations threads bytes s.draft.observed
   locations_found s h bounded =
       let le = is_short bytes bounded in
       let x = text_of s (h le) in
       record { short = le; text = x; in_time = refl; meant = meant_by s (h le) x }
 
-  pub locations_only : (s : State) → (length bytes ≤ 65536 → made ≡ Ok s) → (v : List Place)
+  pub locations_only : (s : TextState) → (length bytes ≤ 65536 → made ≡ Ok s) → (v : List Place)
       → ReadsLocations threads bytes v → s.draft.observed ≡ v
   locations_only s h v r = sym (meant_by s (h r.short) r.text) ∙ r.meant
 

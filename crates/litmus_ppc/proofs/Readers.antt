@@ -9,7 +9,7 @@ use Rattle.litmus_tokens.specs.Conditions.{limits, formula_meaning, IsConditionT
 use Rattle.litmus_ppc.specs.declared.fault.LitmusFault.{LitmusFault}
 use Rattle.litmus_ppc.specs.declared.fault.LitmusFault.TheVariants as faults
 use Rattle.litmus_grammar.specs.declared.parts.TextKind.TheVariants as kinds
-use Rattle.litmus_grammar.specs.TextMachine.{State, TextResult, run, start}
+use Rattle.litmus_grammar.specs.TextMachine.{TextState, TextResult, run, start}
 use Rattle.litmus_ppc.specs.TextReading.{FailsAt}
 use Rattle.litmus_grammar.specs.Texts as texts
 use Rattle.litmus_grammar.specs.Texts.{ReadsCondition, IsConditionFault}
@@ -28,25 +28,25 @@ module _ (threads : ℕ) (few : threads < 18446744073709551616) (bytes : List �
   abbrev made : TextResult
   made = run (start kinds.Condition threads) (lexing Tail bytes)
 
-  text_of : (s : State) → made ≡ Ok s
+  text_of : (s : TextState) → made ≡ Ok s
       → IsConditionText limits threads (tokens_of (lexing Tail bytes))
   text_of s e =
       let l = ends_last Tail false 0 0 bytes in
       condition_whole threads few (lexing Tail bytes) s e (ends_done (start kinds.Condition threads)
       s l.0 l.1 (ap (run (start kinds.Condition threads)) (sym l.2) ∙ e))
 
-  meant_by : (s : State) → made ≡ Ok s
+  meant_by : (s : TextState) → made ≡ Ok s
       → (x : IsConditionText limits threads (tokens_of (lexing Tail bytes)))
       → pair x.quantifier (formula_meaning x.condition) ≡ pair s.draft.quantifier s.draft.formula
   meant_by s e x =
       let t = condition_taken threads few (lexing Tail bytes) x in
       let same : t.0 ≡ s = same_state t.0 s (sym t.1 ∙ e) in
       ap (λ (q : Quantifier). pair q (formula_meaning x.condition))
-      (sym t.2 ∙ ap (λ (y : State). y.draft.quantifier) same)
+      (sym t.2 ∙ ap (λ (y : TextState). y.draft.quantifier) same)
       ∙ ap (λ (a : Formula). pair s.draft.quantifier a)
-      (sym t.3 ∙ ap (λ (y : State). y.draft.formula) same)
+      (sym t.3 ∙ ap (λ (y : TextState). y.draft.formula) same)
 
-  pub condition_found : (s : State) → (length bytes ≤ 65536 → made ≡ Ok s)
+  pub condition_found : (s : TextState) → (length bytes ≤ 65536 → made ≡ Ok s)
       → (65536 < length bytes → ⊥)
       → ReadsCondition threads bytes (s.draft.quantifier, s.draft.formula)
   condition_found s h bounded =
@@ -54,7 +54,7 @@ module _ (threads : ℕ) (few : threads < 18446744073709551616) (bytes : List �
       let x = text_of s (h le) in
       record { short = le; text = x; in_time = refl; meant = meant_by s (h le) x }
 
-  pub condition_only : (s : State) → (length bytes ≤ 65536 → made ≡ Ok s)
+  pub condition_only : (s : TextState) → (length bytes ≤ 65536 → made ≡ Ok s)
       → (v : Quantifier × Formula) → ReadsCondition threads bytes v
       → pair s.draft.quantifier s.draft.formula ≡ v
   condition_only s h v r = sym (meant_by s (h r.short) r.text) ∙ r.meant

@@ -14,7 +14,7 @@ use Rattle.litmus_ppc.specs.declared.fault.LitmusFault.TheVariants as faults
 use Rattle.litmus_grammar.specs.declared.parts.TextKind.TheVariants as kinds
 use Rattle.litmus_grammar.specs.Grammar.{members, entry_meaning, TestTree, test_meaning, IsTestText}
 use Rattle.litmus_grammar.specs.InitMachine.{missing}
-use Rattle.litmus_grammar.specs.TextMachine.{State, TextResult, threads_in, run, start, first_stage}
+use Rattle.litmus_grammar.specs.TextMachine.{TextState, TextResult, threads_in, run, start, first_stage}
 use Rattle.litmus_grammar.specs.TextMachine as text
 use Rattle.litmus_ppc.specs.TextReading.{FailsAt, test_of}
 use Rattle.litmus_grammar.specs.Texts as texts
@@ -32,12 +32,12 @@ use Rattle.litmus_grammar.proofs.Tails.{with_all}
 use Rattle.litmus_grammar.proofs.TestFaults.{test_fault_where}
 use Rattle.litmus_grammar.proofs.Runs.{same_state}
 
-abbrev pub missing_in : State → Option ℕ
+abbrev pub missing_in : TextState → Option ℕ
 missing_in s =
     missing (threads_in s.kind s.threads s.draft) s.draft.init.entries s.draft.init.starts
 
 -- what the check of labels answered
-abbrev pub Answered : State → Result (Unit {0}) LitmusFault → Type 0
+abbrev pub Answered : TextState → Result (Unit {0}) LitmusFault → Type 0
 Answered s r =
     (given : List TokenAt) (notes : List (List Note)) → AreNoted given notes s.draft.table.threads
     → IsLateFound given r (first_late notes)
@@ -86,7 +86,7 @@ module _ (bytes : List ℕ) where
   few_tokens : length bytes ≤ 65536 → length ps < 18446744073709551616
   few_tokens le = let h = lexed_length (first_stage kinds.Test) bytes in omega (arith, h, le)
 
-  text_of : (s : State) → length bytes ≤ 65536 → made ≡ Ok s → IsTestText limits (tokens_of ps)
+  text_of : (s : TextState) → length bytes ≤ 65536 → made ≡ Ok s → IsTestText limits (tokens_of ps)
   text_of s le e =
       let l = lexed_ends (first_stage kinds.Test) bytes in
       let d = ends_done (start kinds.Test 0) s l.inner l.offset (ap (run (start kinds.Test 0)) (sym l.split) ∙ e) in
@@ -94,7 +94,7 @@ module _ (bytes : List ℕ) where
       record { tree = x.tree; fine = x.fine; whole = x.whole }
 
   -- what the machine keeps of a test
-  record Keeps (s : State) (t : TestTree) : Type 0 where
+  record Keeps (s : TextState) (t : TestTree) : Type 0 where
     matches : Matches ps (late_init t) (missing_in s)
     labels : AreNoted ps (columns_notes 0 (t.others + 1) (before_rows t) t.rows)
         s.draft.table.threads
@@ -134,15 +134,15 @@ module _ (bytes : List ℕ) where
             condition = formula_meaning t.condition;
           }
 
-  keeps : (s : State) → length bytes ≤ 65536 → made ≡ Ok s → (x : IsTestText limits (tokens_of ps))
+  keeps : (s : TextState) → length bytes ≤ 65536 → made ≡ Ok s → (x : IsTestText limits (tokens_of ps))
       → Keeps s x.tree
   keeps s le e x =
       let few = few_of x.tree ps x.whole (few_tokens le) in
       let r = test_led x.tree x.fine few ps x.whole in
       let same = same_state _ s (sym r.by ∙ e) in
-      subst (λ (y : State). Keeps y x.tree) same (keeps_by x.tree few r)
+      subst (λ (y : TextState). Keeps y x.tree) same (keeps_by x.tree few r)
 
-  pub test_found : (s : State) (u : Unit {0}) → (length bytes ≤ 65536 → made ≡ Ok s)
+  pub test_found : (s : TextState) (u : Unit {0}) → (length bytes ≤ 65536 → made ≡ Ok s)
       → (65536 < length bytes → ⊥) → missing_in s ≡ None → Answered s (Ok u)
       → ReadsTest bytes (test_of s.draft)
   test_found s u h bounded none answered =
@@ -153,7 +153,7 @@ module _ (bytes : List ℕ) where
       let b = nothing_found ps (late_labels x.tree) (answered ps (columns_notes 0 (x.tree.others + 1) (before_rows x.tree) x.tree.rows) k.labels) in
       record { short = le; text = x; in_time = none_both (late_init x.tree) (late_labels x.tree) a b; meant = sym (k.content a) }
 
-  pub test_only : (s : State) → (length bytes ≤ 65536 → made ≡ Ok s) → (v : Content)
+  pub test_only : (s : TextState) → (length bytes ≤ 65536 → made ≡ Ok s) → (v : Content)
       → ReadsTest bytes v → test_of s.draft ≡ v
   test_only s h v r =
       (keeps s r.short (h r.short) r.text).content (none_first (late_init r.text.tree)
@@ -167,7 +167,7 @@ module _ (bytes : List ℕ) where
       let t = test_led x.tree x.fine (few_of x.tree ps x.whole (few_tokens r.short)) ps x.whole in
       absurd (not_both (rule, offset) _ (sym (h r.short) ∙ t.by))
 
-  pub test_only_missing : (s : State) (d : LitmusFault) → (length bytes ≤ 65536 → made ≡ Ok s)
+  pub test_only_missing : (s : TextState) (d : LitmusFault) → (length bytes ≤ 65536 → made ≡ Ok s)
       → IsMissingFound (Err d) (missing_in s) → (v : Content) → ReadsTest bytes v → IsLitmusMemory d
   test_only_missing s (faults.OutOfMemory e) h f v r = tt
   test_only_missing s (faults.Refused rule offset) h f v r =
@@ -175,7 +175,7 @@ module _ (bytes : List ℕ) where
       (keeps s r.short (h r.short) r.text).matches f.1 (none_first (late_init r.text.tree)
       (late_labels r.text.tree) r.in_time)
 
-  pub test_only_labels : (s : State) (d : LitmusFault) → (length bytes ≤ 65536 → made ≡ Ok s)
+  pub test_only_labels : (s : TextState) (d : LitmusFault) → (length bytes ≤ 65536 → made ≡ Ok s)
       → Answered s (Err d) → (v : Content) → ReadsTest bytes v → IsLitmusMemory d
   test_only_labels s (faults.OutOfMemory e) h answered v r = tt
   test_only_labels s (faults.Refused rule offset) h answered v r =
@@ -196,7 +196,7 @@ module _ (bytes : List ℕ) where
       choose (inl lt) = texts.IsTooLong lt (long lt).0 (long lt).1
       choose (inr le) = texts.IsGrammar le (test_fault_where ps rule offset (few_tokens le) (h le))
 
-  pub test_fault_missing : (s : State) (d : LitmusFault) → (length bytes ≤ 65536 → made ≡ Ok s)
+  pub test_fault_missing : (s : TextState) (d : LitmusFault) → (length bytes ≤ 65536 → made ≡ Ok s)
       → (65536 < length bytes → ⊥) → IsMissingFound (Err d) (missing_in s)
       → IsLitmusFaultOf (IsTestFault bytes) d
   test_fault_missing s (faults.OutOfMemory e) h bounded f = tt
@@ -222,7 +222,7 @@ module _ (bytes : List ℕ) where
             stands = m.1;
           })
 
-  pub test_fault_labels : (s : State) (d : LitmusFault) → (length bytes ≤ 65536 → made ≡ Ok s)
+  pub test_fault_labels : (s : TextState) (d : LitmusFault) → (length bytes ≤ 65536 → made ≡ Ok s)
       → (65536 < length bytes → ⊥) → missing_in s ≡ None → Answered s (Err d)
       → IsLitmusFaultOf (IsTestFault bytes) d
   test_fault_labels s (faults.OutOfMemory e) h bounded none answered = tt

@@ -8,7 +8,7 @@ use Rattle.litmus_table.specs.Late.{Late}
 use Rattle.litmus_ppc.specs.declared.fault.LitmusFault.{LitmusFault}
 use Rattle.litmus_ppc.specs.declared.fault.LitmusFault.TheVariants as faults
 use Rattle.litmus_grammar.specs.declared.parts.TextKind.{TextKind}
-use Rattle.litmus_grammar.specs.TextMachine.{State, TextResult, run, start, first_stage}
+use Rattle.litmus_grammar.specs.TextMachine.{TextState, TextResult, run, start, first_stage}
 use Rattle.litmus_grammar.specs.TextMachine as text
 use Rattle.litmus_ppc.specs.TextReading.{FailsAt}
 use Rattle.litmus_grammar.specs.Texts as texts
@@ -26,10 +26,10 @@ refusal d = Err d
 module _ (IsText : List Token → Type 0) (kind : TextKind) (threads : ℕ) (V : Type 0)
     (late : (ts : List Token) → IsText ts → Option Late) (value : (ts : List Token) → IsText ts → V)
     (known : ReadingWhere AreInner IsText kind threads)
-    (whole : (ps : List TokenAt) (s : State) → run (start kind threads) ps ≡ Ok s
+    (whole : (ps : List TokenAt) (s : TextState) → run (start kind threads) ps ≡ Ok s
     → s.part ≡ text.Done → IsText (tokens_of ps))
-    (draft : State → V)
-    (holds : (ps : List TokenAt) (s : State) (x : IsText (tokens_of ps))
+    (draft : TextState → V)
+    (holds : (ps : List TokenAt) (s : TextState) (x : IsText (tokens_of ps))
     → run (start kind threads) ps ≡ Ok s → draft s ≡ value (tokens_of ps) x)
     (bytes : List ℕ) where
   abbrev ps : List TokenAt
@@ -42,7 +42,7 @@ module _ (IsText : List Token → Type 0) (kind : TextKind) (threads : ℕ) (V :
       → AreInner (tokens_of before)
   fine = lexed_inner (first_stage kind) bytes
 
-  text_of : (s : State) → made ≡ Ok s → IsText (tokens_of ps)
+  text_of : (s : TextState) → made ≡ Ok s → IsText (tokens_of ps)
   text_of s e =
       let l = lexed_ends (first_stage kind) bytes in
       whole ps s e (ends_done (start kind threads) s l.inner l.offset
@@ -56,7 +56,7 @@ module _ (IsText : List Token → Type 0) (kind : TextKind) (threads : ℕ) (V :
   nothing_found None f = refl
   nothing_found (Some l) f = absurd f
 
-  pub text_found : (s : State) (u : Unit {0}) → (length bytes ≤ 65536 → made ≡ Ok s)
+  pub text_found : (s : TextState) (u : Unit {0}) → (length bytes ≤ 65536 → made ≡ Ok s)
       → (65536 < length bytes → ⊥) → (length bytes ≤ 65536 → Finds (Ok u))
       → Reads IsText (first_stage kind) late value bytes (draft s)
   text_found s u h bounded finds =
@@ -64,7 +64,7 @@ module _ (IsText : List Token → Type 0) (kind : TextKind) (threads : ℕ) (V :
       let x = text_of s (h le) in
       record { short = le; text = x; in_time = nothing_found (late (tokens_of ps) x) (finds le x); meant = sym (holds ps s x (h le)) }
 
-  pub text_only : (s : State) → (length bytes ≤ 65536 → made ≡ Ok s) → (v : V)
+  pub text_only : (s : TextState) → (length bytes ≤ 65536 → made ≡ Ok s) → (v : V)
       → Reads IsText (first_stage kind) late value bytes v → draft s ≡ v
   text_only s h v r = holds ps s r.text (h r.short) ∙ r.meant
 
@@ -96,7 +96,7 @@ module _ (IsText : List Token → Type 0) (kind : TextKind) (threads : ℕ) (V :
           texts.IsGrammar le (fault_where AreInner IsText kind threads known ps fine rule offset
           (h le))
 
-  pub text_fault_late : (d : LitmusFault) (s : State) → (length bytes ≤ 65536 → made ≡ Ok s)
+  pub text_fault_late : (d : LitmusFault) (s : TextState) → (length bytes ≤ 65536 → made ≡ Ok s)
       → (65536 < length bytes → ⊥) → (length bytes ≤ 65536 → Finds (refusal d))
       → IsLitmusFaultOf (IsFaultAt IsText (first_stage kind) late bytes) d
   text_fault_late (faults.OutOfMemory e) s h bounded finds = tt

@@ -10,7 +10,7 @@ use Rattle.litmus_table.specs.Reading.{first_steps}
 use Rattle.litmus_ppc.specs.declared.fault.LitmusFault.{LitmusFault}
 use Rattle.litmus_grammar.specs.declared.parts.TextKind.TheVariants as kinds
 use Rattle.litmus_grammar.specs.Grammar.{IsThreadText}
-use Rattle.litmus_grammar.specs.TextMachine.{State, TextResult, run, start, first_stage}
+use Rattle.litmus_grammar.specs.TextMachine.{TextState, TextResult, run, start, first_stage}
 use Rattle.litmus_ppc.specs.TextReading.{FailsAt}
 use Rattle.litmus_grammar.specs.Texts.{ReadsThread, IsThreadFault, late_of_thread}
 use Rattle.litmus_ppc.specs.Faults.{IsLitmusTooLong, IsLitmusMemory, IsLateFound, IsLitmusFaultOf}
@@ -18,7 +18,7 @@ use Rattle.litmus_grammar.proofs.Runs.{same_state}
 use Rattle.litmus_ppc.proofs.TextReaders.{text_found, text_only, text_only_memory, text_only_late, text_fault, text_fault_late}
 use Rattle.litmus_grammar.proofs.Threads.{thread_taken, thread_whole, thread_reading}
 
-abbrev kept_steps : State → List Step
+abbrev kept_steps : TextState → List Step
 kept_steps s = first_steps s.draft.table.threads
 
 first_of_one : (ts : List table.ThreadSteps) (ss : List Step) → steps_of ts ≡ ss ∷ []
@@ -26,7 +26,7 @@ first_of_one : (ts : List table.ThreadSteps) (ss : List Step) → steps_of ts �
 first_of_one [] ss e = absurd cc
 first_of_one (t ∷ ts) ss e = cc
 
-steps_hold : (ps : List TokenAt) (s : State) (x : IsThreadText (tokens_of ps))
+steps_hold : (ps : List TokenAt) (s : TextState) (x : IsThreadText (tokens_of ps))
     → run (start kinds.Thread 1) ps ≡ Ok s → kept_steps s ≡ thread_meaning x.tree
 steps_hold ps s x e =
     let t = thread_taken 1 ps x in
@@ -45,28 +45,28 @@ module _ (bytes : List ℕ) where
   made = run (start kinds.Thread 1) ps
 
   -- what the check of labels answered
-  abbrev Answered : State → Result (Unit {0}) LitmusFault → Type 0
+  abbrev Answered : TextState → Result (Unit {0}) LitmusFault → Type 0
   Answered s r =
       (given : List TokenAt) (notes : List (List Note)) → AreNoted given notes s.draft.table.threads
       → IsLateFound given r (first_late notes)
 
-  finds : (s : State) (r : Result (Unit {0}) LitmusFault) → made ≡ Ok s → Answered s r
+  finds : (s : TextState) (r : Result (Unit {0}) LitmusFault) → made ≡ Ok s → Answered s r
       → (x : IsThreadText (tokens_of ps)) → IsLateFound ps r (late_of_thread (tokens_of ps) x)
   finds s r e answered x =
       let t = thread_taken 1 ps x in
       let same = same_state _ s (sym t.by ∙ e) in
       let notes = thread_notes [] (x.tree.first ∷ x.tree.others) in
       subst (IsLateFound ps r) (alone (late_notes [] notes)) (answered ps (notes ∷ [])
-      (subst (λ (y : State). AreNoted ps (notes ∷ []) y.draft.table.threads) same t.noted))
+      (subst (λ (y : TextState). AreNoted ps (notes ∷ []) y.draft.table.threads) same t.noted))
 
-  pub thread_found : (s : State) (u : Unit {0}) → (length bytes ≤ 65536 → made ≡ Ok s)
+  pub thread_found : (s : TextState) (u : Unit {0}) → (length bytes ≤ 65536 → made ≡ Ok s)
       → (65536 < length bytes → ⊥) → Answered s (Ok u) → ReadsThread bytes (kept_steps s)
   thread_found s u h bounded answered =
       text_found IsThreadText kinds.Thread 1 (List Step) late_of_thread
       (λ ts t. thread_meaning t.tree) (thread_reading 1) (thread_whole 1) kept_steps steps_hold
       bytes s u h bounded (λ le. finds s (Ok u) (h le) answered)
 
-  pub thread_only : (s : State) → (length bytes ≤ 65536 → made ≡ Ok s) → (v : List Step)
+  pub thread_only : (s : TextState) → (length bytes ≤ 65536 → made ≡ Ok s) → (v : List Step)
       → ReadsThread bytes v → kept_steps s ≡ v
   thread_only s h v r =
       text_only IsThreadText kinds.Thread 1 (List Step) late_of_thread
@@ -80,7 +80,7 @@ module _ (bytes : List ℕ) where
       (λ ts t. thread_meaning t.tree) (thread_reading 1) (thread_whole 1) kept_steps steps_hold
       bytes d h v r
 
-  pub thread_only_late : (s : State) (d : LitmusFault) → (length bytes ≤ 65536 → made ≡ Ok s)
+  pub thread_only_late : (s : TextState) (d : LitmusFault) → (length bytes ≤ 65536 → made ≡ Ok s)
       → Answered s (Err d) → (v : List Step) → ReadsThread bytes v → IsLitmusMemory d
   thread_only_late s d h answered v r =
       text_only_late IsThreadText kinds.Thread 1 (List Step) late_of_thread
@@ -94,7 +94,7 @@ module _ (bytes : List ℕ) where
       (λ ts t. thread_meaning t.tree) (thread_reading 1) (thread_whole 1) kept_steps steps_hold
       bytes d h long
 
-  pub thread_fault_late : (s : State) (d : LitmusFault) → (length bytes ≤ 65536 → made ≡ Ok s)
+  pub thread_fault_late : (s : TextState) (d : LitmusFault) → (length bytes ≤ 65536 → made ≡ Ok s)
       → (65536 < length bytes → ⊥) → Answered s (Err d) → IsLitmusFaultOf (IsThreadFault bytes) d
   thread_fault_late s d h bounded answered =
       text_fault_late IsThreadText kinds.Thread 1 (List Step) late_of_thread

@@ -5,20 +5,20 @@ use Rattle.std.proofs.lemmas.List.{length-drop, take_all}
 use Rattle.litmus_tokens.specs.declared.stage.Stage.{Stage}
 use Rattle.litmus_tokens.specs.declared.token.Token.{Token}
 use Rattle.litmus_tokens.specs.declared.token.Token.TheVariants as tokens
-use Rattle.litmus_tokens.specs.declared.lexer.Front.{Front}
-use Rattle.litmus_tokens.specs.declared.lexer.Front.TheVariants.{Layout, Lexeme}
-use Rattle.litmus_tokens.specs.Lexer.{front}
+use Rattle.litmus_tokens.specs.declared.lexer.NextLexeme.{NextLexeme}
+use Rattle.litmus_tokens.specs.declared.lexer.NextLexeme.TheVariants.{Layout, Lexeme}
+use Rattle.litmus_tokens.specs.Lexer.{first_lexeme}
 use Rattle.litmus_tokens.specs.Stage.{after}
 use Rattle.litmus_tokens.specs.Texts.{ends_line, fresh_after, tokens_from}
 use Rattle.litmus_grammar.proofs.Lexed.{layout_turn, lexeme_turn, at_end}
 use Rattle.litmus_ppc.specs.declared.fault.LitmusFault.{LitmusFault}
 use Rattle.litmus_ppc.specs.declared.fault.LitmusFault.TheVariants as faults
 use Rattle.litmus_ppc.specs.declared.reader.Reader.{Reader}
-use Rattle.litmus_grammar.specs.TextMachine.{Next, State, stepped, part_step, step, TextResult, with_offset, and_then, run}
+use Rattle.litmus_grammar.specs.TextMachine.{Next, TextState, stepped, part_step, step, TextResult, with_offset, and_then, run}
 use Rattle.litmus_ppc.specs.TextReading.{state_of, FailsAt, StepsAt}
 
 -- the part behind a token that was taken
-stage_after_step : (s s' : State) (t : Token) (p : ℕ) → with_offset p (step s t p) ≡ Ok s'
+stage_after_step : (s s' : TextState) (t : Token) (p : ℕ) → with_offset p (step s t p) ≡ Ok s'
     → s'.stage ≡ after s.stage t
 stage_after_step s s' t p e = by_next (part_step s.kind s.threads s.draft s.part t p) e
   where
@@ -27,27 +27,27 @@ stage_after_step s s' t p e = by_next (part_step s.kind s.threads s.draft s.part
     by_next None h = absurd cc
 
 -- the reader's turns
-module _ (bytes : List ℕ) (s : State) (fresh : Bool) (p n q : ℕ) (all : TextResult)
+module _ (bytes : List ℕ) (s : TextState) (fresh : Bool) (p n q : ℕ) (all : TextResult)
     (so_far : all ≡ run s (tokens_from s.stage fresh 0 p (drop p bytes))) where
-  whole_rest : (f : Front) → f ≡ front s.stage fresh (take (length bytes - p) (drop p bytes))
-      → f ≡ front s.stage fresh (drop p bytes)
+  whole_rest : (f : NextLexeme) → f ≡ first_lexeme s.stage fresh (take (length bytes - p) (drop p bytes))
+      → f ≡ first_lexeme s.stage fresh (drop p bytes)
   whole_rest f e =
       e
-      ∙ ap (front s.stage fresh) (take_all (length bytes - p) (drop p bytes)
+      ∙ ap (first_lexeme s.stage fresh) (take_all (length bytes - p) (drop p bytes)
       (let l = length-drop p bytes in omega arith))
 
-  pub layout_run : (f : Front) (fresh' : Bool) → p < length bytes
+  pub layout_run : (f : NextLexeme) (fresh' : Bool) → p < length bytes
       → q ≡ p + min (max n 1) (length bytes - p)
-      → f ≡ front s.stage fresh (take (length bytes - p) (drop p bytes)) → f ≡ Layout n
+      → f ≡ first_lexeme s.stage fresh (take (length bytes - p) (drop p bytes)) → f ≡ Layout n
       → fresh' ≡ fresh_after fresh (get_or bytes p 0)
       → all ≡ run s (tokens_from s.stage fresh' 0 q (drop q bytes))
   layout_run f fresh' lt is e k now =
       so_far ∙ ap (run s) (layout_turn bytes p n q lt is s.stage fresh f (whole_rest f e) k)
       ∙ ap (λ b. run s (tokens_from s.stage b 0 q (drop q bytes))) (sym now)
 
-  pub lexeme_run : (f : Front) (t : Token) (s' : State) (fresh' : Bool) → p < length bytes
+  pub lexeme_run : (f : NextLexeme) (t : Token) (s' : TextState) (fresh' : Bool) → p < length bytes
       → q ≡ p + min (max n 1) (length bytes - p)
-      → f ≡ front s.stage fresh (take (length bytes - p) (drop p bytes)) → f ≡ Lexeme t n
+      → f ≡ first_lexeme s.stage fresh (take (length bytes - p) (drop p bytes)) → f ≡ Lexeme t n
       → fresh' ≡ ends_line t → with_offset p (step s t p) ≡ Ok s'
       → all ≡ run s' (tokens_from s'.stage fresh' 0 q (drop q bytes))
   lexeme_run f t s' fresh' lt is e k now goes =
@@ -59,8 +59,8 @@ module _ (bytes : List ℕ) (s : State) (fresh : Bool) (p n q : ℕ) (all : Text
       ∙ ap (λ (g : Stage). run s' (tokens_from g fresh' 0 q (drop q bytes)))
       (sym (stage_after_step s s' t p goes))
 
-  pub lexeme_fails : (f : Front) (t : Token) (d : LitmusFault) → p < length bytes
-      → f ≡ front s.stage fresh (take (length bytes - p) (drop p bytes)) → f ≡ Lexeme t n
+  pub lexeme_fails : (f : NextLexeme) (t : Token) (d : LitmusFault) → p < length bytes
+      → f ≡ first_lexeme s.stage fresh (take (length bytes - p) (drop p bytes)) → f ≡ Lexeme t n
       → FailsAt d (with_offset p (step s t p)) → FailsAt d all
   lexeme_fails f t (faults.OutOfMemory x) lt e k fails = tt
   lexeme_fails f t (faults.Refused rule offset) lt e k fails =
@@ -70,7 +70,7 @@ module _ (bytes : List ℕ) (s : State) (fresh : Bool) (p n q : ℕ) (all : Text
       (λ (y : TextResult). and_then y (λ x.
       run x (tokens_from (after s.stage t) (ends_line t) 0 r (drop r bytes)))) fails
 
-  end_run : (s' : State) → length bytes ≤ p → with_offset p (step s tokens.End p) ≡ Ok s'
+  end_run : (s' : TextState) → length bytes ≤ p → with_offset p (step s tokens.End p) ≡ Ok s'
       → all ≡ Ok s'
   end_run s' high goes =
       so_far ∙ ap (run s) (at_end s.stage fresh bytes p high)

@@ -39,7 +39,7 @@ test_of h = record {
   condition = h.formula;
 }
 
-abbrev pub state_of : Reader → machine.State
+abbrev pub state_of : Reader → machine.TextState
 state_of r =
     record {
       kind = r.kind;

@@ -21,7 +21,7 @@ use litmus_grammar::{ItemExpectation, TextKind};
 use litmus_table::Table;
 use litmus_tokens::{
     Expectation, Frame, Mark, PlaceExpectation, PlaceStep, PropositionStep, StepError, Token,
-    is_test_name, is_there, place_step, proposition_step,
+    has_thread, is_test_name, place_step, proposition_step,
 };
 use std::alloc::{AllocError, Global};
 use std::mem;
@@ -214,7 +214,7 @@ impl Draft {
         match expected {
             ItemExpectation::WantsFirst => self.item_start(part, threads, token),
             ItemExpectation::WantsNext => self.next_item(part, kind, threads, token),
-            ItemExpectation::Within(within) => self.item_place(part, within, token),
+            ItemExpectation::InItem(within) => self.item_place(part, within, token),
             ItemExpectation::HasItem => item_ended(part, kind, &token),
         }
     }
@@ -243,7 +243,7 @@ impl Draft {
     fn item_start(&mut self, part: &mut Part, threads: usize, token: Token) -> Result<(), StepError>
         ensures { StepsTo result part.new self.new (item_start threads (draft_of self.old) token) }
     {
-        if !is_there(threads, &token) {
+        if !has_thread(threads, &token) {
             return Err(StepError::Refused);
         }
         self.item_place(part, PlaceExpectation::Begins, token)
@@ -261,7 +261,7 @@ impl Draft {
     {
         match place_step(within, token)? {
             PlaceStep::Goes(expected) => {
-                part.go_to(Part::Item(ItemExpectation::Within(expected)));
+                part.go_to(Part::Item(ItemExpectation::InItem(expected)));
                 Ok(())
             }
             PlaceStep::Ends(written) => {

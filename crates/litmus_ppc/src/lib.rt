@@ -12,6 +12,7 @@ mod read;
 mod reader;
 
 pub use fault::LitmusFault;
+pub use litmus_laws::laws;
 pub use litmus_printing::{print_condition, print_test, put_place, put_value};
 pub use litmus_tokens::LitmusRule;
 pub use read::{read_cond, read_init, read_locations, read_test, read_thread};

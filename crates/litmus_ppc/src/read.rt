@@ -14,7 +14,7 @@ use crate::fault::LitmusFault;
 use crate::parts::is_line_end;
 use crate::reader::Reader;
 use litmus_grammar::TextKind;
-use litmus_tokens::{Front, LitmusRule, Token, front_of};
+use litmus_tokens::{LitmusRule, NextLexeme, Token, first_lexeme};
 use std::alloc::Global;
 use text_values::{Condition, InitEntry, MAX_BYTES, Place, Test, Thread, is_blank};
 
@@ -36,12 +36,12 @@ fn read_tokens(alloc: Global, bytes: &[u8], reader: &mut Reader) -> Result<(), L
     while offset < bytes.len() {
         let left = bytes.len() - offset;
         let first = bytes[offset];
-        match front_of(alloc, reader.stage(), is_fresh, &bytes[offset..]) {
-            Ok(Front::Layout(n)) => {
+        match first_lexeme(alloc, reader.stage(), is_fresh, &bytes[offset..]) {
+            Ok(NextLexeme::Layout(n)) => {
                 is_fresh = is_fresh_behind(is_fresh, first);
                 offset += n.max(1).min(left);
             }
-            Ok(Front::Lexeme(token, n)) => {
+            Ok(NextLexeme::Lexeme(token, n)) => {
                 is_fresh = is_line_end(&token);
                 match reader.step(token, offset) {
                     Ok(()) => offset += n.max(1).min(left),

@@ -21,19 +21,19 @@ use Rattle.litmus_table.specs.declared.opcode.Want.{Want}
 use Rattle.litmus_table.specs.Words.{opcode_of, data_form, fits, all_fit, is_label, takes, registers, immediate, data_meaning, branch_meaning}
 use Rattle.litmus_table.specs.Grammar.{InstructionTree, CellTree, spelled_label, spelled_instruction, spelled_cell, IsInstruction, label_steps, operation_steps, instruction_steps, cell_steps}
 use Rattle.litmus_table.specs.Late.{Note, Defines, Branches, branch_notes, instruction_notes, label_notes, cell_notes}
-use Rattle.litmus_table.specs.Machine.{ThreadSteps, noted, Pending, Expectation, Begins, Labelled, Within, WantsLabel, Whole, State, pending_with, put_at, operation, operand, step, can_end}
+use Rattle.litmus_table.specs.Machine.{ThreadSteps, noted, Pending, CellExpectation, Begins, Labelled, InInstruction, WantsLabel, Whole, TableState, pending_with, put_at, operation, operand, step, can_end}
 use Rattle.litmus_table.specs.Laws.{then_on, Mark, Defined, Branched, instruction_marks, step_marks, marks as marks_of, AreMarks}
 use Rattle.litmus_table.proofs.Finishes.{Wants, form_wants}
 use Rattle.litmus_table.proofs.Values.{registers-with, value_after, value_of}
 
-abbrev pub stand : List ThreadSteps → ℕ → Expectation → State
+abbrev pub stand : List ThreadSteps → ℕ → CellExpectation → TableState
 stand threads c h = record { threads = threads; column = c; expected = h }
 
 module _ (text : List texts.TokenAt) (whole : List Token) (byte : List Token → ℕ)
     (stands : (b : List Token) (t : Token) (ts : List Token) → whole ≡ b ++ (t ∷ ts)
     → StandsAt text b (byte b)) where
   -- where tokens lead, behind these before them
-  abbrev pub run_from : List Token → State → List Token → Option State
+  abbrev pub run_from : List Token → TableState → List Token → Option TableState
   run_from b s [] = Some s
   run_from b s (t ∷ ts) = then_on (λ u. run_from (b ++ t ∷ []) u ts) (step s t (byte b))
 
@@ -115,14 +115,14 @@ module _ (text : List texts.TokenAt) (whole : List Token) (byte : List Token →
     abbrev pending : DataOpcode → List Want → List ℕ → ℤ → Pending
     pending op ws rs v = record { opcode = op; wants = ws; registers = rs; value = v }
 
-    abbrev with_data : DataOpcode → List ℕ → ℤ → ℕ → State
+    abbrev with_data : DataOpcode → List ℕ → ℤ → ℕ → TableState
     with_data op rs v offset =
         stand (put_at c (steps.Instruction (data_meaning op rs v)) offset threads) c Whole
 
     operands_run : (op : DataOpcode) (w : Want) (ws : List Want) (rs : List ℕ) (v : ℤ)
         (b ops rest : List Token) → all_fit (w ∷ ws) ops ≡ true
         → (offset : ℕ)
-        × (run_from b (stand threads c (Within (pending op (w ∷ ws) rs v))) (ops ++ rest)
+        × (run_from b (stand threads c (InInstruction (pending op (w ∷ ws) rs v))) (ops ++ rest)
         ≡ run_from (b ++ ops)
         (with_data op (rs ++ registers ops) (value_after v ops) offset) rest)
     operands_run op w ws rs v b [] rest f = absurd cc
@@ -161,7 +161,7 @@ module _ (text : List texts.TokenAt) (whole : List Token) (byte : List Token →
     form_run : (op : DataOpcode) (ws : List Want) (b ops rest : List Token) → data_form op ≡ ws
         → all_fit ws ops ≡ true
         → (offset : ℕ)
-        × (run_from b (stand threads c (Within (pending op ws [] (pos 0)))) (ops ++ rest)
+        × (run_from b (stand threads c (InInstruction (pending op ws [] (pos 0)))) (ops ++ rest)
         ≡ run_from (b ++ ops) (with_data op (registers ops) (immediate ops) offset)
         rest)
     form_run op [] b ops rest e f = absurd (subst Wants e (form_wants op))
@@ -172,26 +172,26 @@ module _ (text : List texts.TokenAt) (whole : List Token) (byte : List Token →
 
   -- ---- cells
 
-  abbrev starts : Expectation → Type 0
+  abbrev starts : CellExpectation → Type 0
   starts Begins = Unit {0}
   starts Labelled = Unit {0}
   starts h = ⊥
 
   -- the cell of a column was read: these tokens led to where it may end
   pub record CellRun (done : List ThreadSteps) (t : ThreadSteps) (todo : List ThreadSteps)
-      (h : Expectation) (b ts by rest : List Token) (ss : List Step) (ns : List Note) : Type 0 where
+      (h : CellExpectation) (b ts by rest : List Token) (ss : List Step) (ns : List Note) : Type 0 where
     pub after : ThreadSteps
-    pub expected : Expectation
+    pub expected : CellExpectation
     pub ended : can_end expected ≡ true
     pub adds : Adds t after ss ns
     pub leads : run_from b (stand (done ++ t ∷ todo) (length done) h) ts
         ≡ run_from (b ++ by) (stand (done ++ after ∷ todo) (length done) expected) rest
 
   module _ (done : List ThreadSteps) (t : ThreadSteps) (todo : List ThreadSteps) where
-    abbrev here : Expectation → State
+    abbrev here : CellExpectation → TableState
     here h = stand (done ++ t ∷ todo) (length done) h
 
-    abbrev with_step : Step → ℕ → Expectation → State
+    abbrev with_step : Step → ℕ → CellExpectation → TableState
     with_step s offset h = stand (done ++ noted s offset t ∷ todo) (length done) h
 
     adds_step : (s : Step) (offset : ℕ) (ns : List Note)
@@ -205,24 +205,24 @@ module _ (text : List texts.TokenAt) (whole : List Token) (byte : List Token →
           marked = m;
         }
 
-    put_run : (s : Step) (offset : ℕ) (h : Expectation) (b rest : List Token)
+    put_run : (s : Step) (offset : ℕ) (h : CellExpectation) (b rest : List Token)
         → run_from b (stand (put_at (length done) s offset (done ++ t ∷ todo)) (length done) h) rest
         ≡ run_from b (with_step s offset h) rest
     put_run s offset h b rest =
         ap (λ (l : List ThreadSteps). run_from b (stand l (length done) h) rest)
         (put-there done s offset t todo)
 
-    word_first : (h : Expectation) (w : List ℕ) (b ts : List Token) → starts h
+    word_first : (h : CellExpectation) (w : List ℕ) (b ts : List Token) → starts h
         → run_from b (here h) (tokens.Word w ∷ ts)
         ≡ then_on (λ u. run_from (b ++ tokens.Word w ∷ []) u ts) (operation (done ++ t ∷ todo)
         (length done) (byte b) (opcode_of w))
     word_first Begins w b ts o = refl
     word_first Labelled w b ts o = refl
-    word_first (Within p) w b ts o = absurd o
+    word_first (InInstruction p) w b ts o = absurd o
     word_first (WantsLabel condition) w b ts o = absurd o
     word_first Whole w b ts o = absurd o
 
-    abbrev Operated : Expectation → Opcode → List ℕ → List Token → List Token → List Token → Type 0
+    abbrev Operated : CellExpectation → Opcode → List ℕ → List Token → List Token → List Token → Type 0
     Operated h op w ops b rest =
         CellRun done t todo h b (tokens.Word w ∷ (ops ++ rest)) (tokens.Word w ∷ ops) rest
         (operation_steps (Some op) ops) (branch_notes (Some op) ops (b ++ tokens.Word w ∷ []))
@@ -240,7 +240,7 @@ module _ (text : List texts.TokenAt) (whole : List Token) (byte : List Token →
     no_marks data_opcodes.Compare rs v offset = tt
     no_marks data_opcodes.CompareImmediate rs v offset = tt
 
-    data_run : (h : Expectation) (op : DataOpcode) (w : List ℕ) (ops b rest : List Token) → starts h
+    data_run : (h : CellExpectation) (op : DataOpcode) (w : List ℕ) (ops b rest : List Token) → starts h
         → opcode_of w ≡ Some (opcodes.Data op) → all_fit (data_form op) ops ≡ true
         → Operated h (opcodes.Data op) w ops b rest
     data_run h op w ops b rest o e f =
@@ -272,7 +272,7 @@ module _ (text : List texts.TokenAt) (whole : List Token) (byte : List Token →
     branch_marks (Some condition) l b e = (refl, e, tt)
     branch_marks None l b e = (refl, e, tt)
 
-    branch_run : (h : Expectation) (condition : Option BranchCondition) (w : List ℕ)
+    branch_run : (h : CellExpectation) (condition : Option BranchCondition) (w : List ℕ)
         (ops b rest : List Token) → starts h → opcode_of w ≡ Some (opcodes.Branch condition)
         → is_label ops ≡ true → whole ≡ b ++ (tokens.Word w ∷ (ops ++ rest))
         → Operated h (opcodes.Branch condition) w ops b rest
@@ -303,7 +303,7 @@ module _ (text : List texts.TokenAt) (whole : List Token) (byte : List Token →
     branch_run h condition w (tokens.Word l ∷ u ∷ us) b rest o e f all = absurd cc
     branch_run h condition w (u ∷ us) b rest o e f all = absurd cc
 
-    fence_run : (h : Expectation) (op : Opcode) (i : Instruction) (w : List ℕ) (b rest : List Token)
+    fence_run : (h : CellExpectation) (op : Opcode) (i : Instruction) (w : List ℕ) (b rest : List Token)
         → starts h
         → ((offset : ℕ)
         → operation (done ++ t ∷ todo) (length done) offset (opcode_of w)
@@ -333,7 +333,7 @@ module _ (text : List texts.TokenAt) (whole : List Token) (byte : List Token →
               ∙ put_run (steps.Instruction i) (byte b) Whole b' rest;
         }
 
-    operated : (h : Expectation) (op : Opcode) (w : List ℕ) (ops b rest : List Token) → starts h
+    operated : (h : CellExpectation) (op : Opcode) (w : List ℕ) (ops b rest : List Token) → starts h
         → opcode_of w ≡ Some op → takes op ops ≡ true → whole ≡ b ++ (tokens.Word w ∷ (ops ++ rest))
         → Operated h op w ops b rest
     operated h (opcodes.Data op) w ops b rest o e f all = data_run h op w ops b rest o e f
@@ -344,14 +344,14 @@ module _ (text : List texts.TokenAt) (whole : List Token) (byte : List Token →
         (λ offset. ap (operation (done ++ t ∷ todo) (length done) offset) e) refl refl refl
     operated h (opcodes.Fence g) w (u ∷ us) b rest o e f all = absurd cc
 
-    started : (h : Expectation) → starts h → can_end h ≡ true
+    started : (h : CellExpectation) → starts h → can_end h ≡ true
     started Begins o = refl
     started Labelled o = refl
-    started (Within p) o = absurd o
+    started (InInstruction p) o = absurd o
     started (WantsLabel condition) o = absurd o
     started Whole o = absurd o
 
-    instruction_run : (h : Expectation) (i : Option InstructionTree) (b rest : List Token)
+    instruction_run : (h : CellExpectation) (i : Option InstructionTree) (b rest : List Token)
         → starts h → IsInstruction i → whole ≡ b ++ spelled_instruction i rest
         → CellRun done t todo h b (spelled_instruction i rest) (spelled_instruction i []) rest
         (instruction_steps i) (instruction_notes i b)

@@ -12,7 +12,7 @@ use Rattle.litmus_tokens.specs.Texts.{tokens_of, StandsAt}
 use Rattle.text_values.specs.declared.test.Step.{Step}
 use Rattle.litmus_table.specs.Grammar.{InstructionTree, CellTree, RowTree, spelled_label, spelled_instruction, spelled_cell, spelled_cells, spelled_rows, spelled_steps, AreCells, AreRowTrees, cell_steps, cells_steps, nth_cell, column, columns_meaning}
 use Rattle.litmus_table.specs.Late.{Note, cell_notes, nth_notes, column_notes, thread_notes, columns_notes}
-use Rattle.litmus_table.specs.Machine.{ThreadSteps, fresh, Expectation, Begins, State, at, is_last, expected_step, step, can_end}
+use Rattle.litmus_table.specs.Machine.{ThreadSteps, fresh, CellExpectation, Begins, TableState, at, is_last, expected_step, step, can_end}
 use Rattle.litmus_table.specs.Laws.{then_on, run, steps_of, AreMarks, IsNoted, AreNoted, marks as marks_of}
 use Rattle.litmus_table.proofs.Cells.{stand, run_from, Adds, adds_none, adds_both, cell_run}
 use Rattle.litmus_table.proofs.Finishes.{separator}
@@ -65,7 +65,7 @@ row-append b r ts =
 module _ (text : List texts.TokenAt) (whole : List Token) (byte : List Token → ℕ)
     (stands : (b : List Token) (t : Token) (ts : List Token) → whole ≡ b ++ (t ∷ ts)
     → StandsAt text b (byte b)) where
-  abbrev pub runs : List Token → State → List Token → Option State
+  abbrev pub runs : List Token → TableState → List Token → Option TableState
   runs b s ts = run_from text whole byte stands b s ts
 
   abbrev Grows : ThreadSteps → ThreadSteps → List Step → List Note → Type 0
@@ -104,8 +104,8 @@ module _ (text : List texts.TokenAt) (whole : List Token) (byte : List Token →
   all_length f g (t ∷ ts) [] a = absurd a
 
   -- a separator leads from the cell to where it leads from any that may end
-  separated : (threads : List ThreadSteps) (c : ℕ) (h : Expectation) (b : List Token)
-      (m : declared_mark.Mark) (after : State) (ts : List Token)
+  separated : (threads : List ThreadSteps) (c : ℕ) (h : CellExpectation) (b : List Token)
+      (m : declared_mark.Mark) (after : TableState) (ts : List Token)
       → expected_step threads c h (tokens.Mark m) (byte b) ≡ Some after
       → runs b (stand threads c h) (tokens.Mark m ∷ ts) ≡ runs (b ++ tokens.Mark m ∷ []) after ts
   separated threads c h b m after ts e = ap (then_on (λ u. runs (b ++ tokens.Mark m ∷ []) u ts)) e
@@ -274,7 +274,7 @@ module _ (text : List texts.TokenAt) (whole : List Token) (byte : List Token →
 
   pub record ThreadRun (t : ThreadSteps) (cells : List CellTree) (b ts : List Token) : Type 0 where
     pub after : ThreadSteps
-    pub expected : Expectation
+    pub expected : CellExpectation
     pub ended : can_end expected ≡ true
     pub adds : Grows t after (cells_steps cells) (thread_notes b cells)
     pub leads : runs b (stand (t ∷ []) 0 Begins) ts ≡ Some (stand (after ∷ []) 0 expected)
@@ -322,15 +322,15 @@ module _ (text : List texts.TokenAt) (whole : List Token) (byte : List Token →
   Bytes b [] = Unit {0}
   Bytes b (p ∷ ps) = (byte b ≡ p.offset) × Bytes (b ++ p.token ∷ []) ps
 
-  pub run_is : (ps : List texts.TokenAt) (b : List Token) (s : State) → Bytes b ps
+  pub run_is : (ps : List texts.TokenAt) (b : List Token) (s : TableState) → Bytes b ps
       → run s ps ≡ runs b s (tokens_of ps)
   run_is [] b s h = refl
   run_is (p ∷ ps) b s h =
       ap (λ (k : ℕ). then_on (λ u. run u ps) (step s p.token k)) (sym h.0)
       ∙ by_step (step s p.token (byte b)) (λ u. run_is ps (b ++ p.token ∷ []) u h.1)
     where
-      by_step : (o : Option State)
-          → ((u : State) → run u ps ≡ runs (b ++ p.token ∷ []) u (tokens_of ps))
+      by_step : (o : Option TableState)
+          → ((u : TableState) → run u ps ≡ runs (b ++ p.token ∷ []) u (tokens_of ps))
           → then_on (λ u. run u ps) o ≡ then_on (λ u. runs (b ++ p.token ∷ []) u (tokens_of ps)) o
       by_step None later = refl
       by_step (Some u) later = later u

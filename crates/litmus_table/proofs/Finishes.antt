@@ -15,7 +15,7 @@ use Rattle.litmus_table.specs.declared.opcode.Opcode.TheVariants as opcodes
 use Rattle.litmus_table.specs.declared.opcode.Want.{Want}
 use Rattle.litmus_table.specs.declared.opcode.Want.TheVariants as wants
 use Rattle.litmus_table.specs.Words.{opcode_of, data_form, fits, branch_meaning}
-use Rattle.litmus_table.specs.Machine.{ThreadSteps, Pending, Expectation, Begins, Labelled, Within, WantsLabel, Whole, State, first_of, pending_with, pending_after, instruction_of, put_at, at, is_last, ended, operation, begins, cell, goes_on, operand, target_read, expected_step, step, is_row_start, can_end}
+use Rattle.litmus_table.specs.Machine.{ThreadSteps, Pending, CellExpectation, Begins, Labelled, InInstruction, WantsLabel, Whole, TableState, first_of, pending_with, pending_after, instruction_of, put_at, at, is_last, ended, operation, begins, cell, goes_on, operand, target_read, expected_step, step, is_row_start, can_end}
 use Rattle.litmus_table.specs.Laws.{then_on, run, columns, FinishesTable, is_whole}
 use Rattle.litmus_table.proofs.Sound.{columns-expected}
 
@@ -25,11 +25,11 @@ abbrev pub Wants : List Want → Type 0
 Wants [] = ⊥
 Wants (w ∷ ws) = Unit {0}
 
-abbrev IsOpen : Expectation → Type 0
-IsOpen (Within p) = Wants p.wants
+abbrev IsOpen : CellExpectation → Type 0
+IsOpen (InInstruction p) = Wants p.wants
 IsOpen h = Unit {0}
 
-abbrev IsOpenAt : Option State → Type 0
+abbrev IsOpenAt : Option TableState → Type 0
 IsOpenAt None = Unit {0}
 IsOpenAt (Some s) = IsOpen s.expected
 
@@ -46,7 +46,7 @@ form_wants data_opcodes.Compare = tt
 form_wants data_opcodes.CompareImmediate = tt
 
 module _ (threads : List ThreadSteps) (c offset : ℕ) where
-  either_way : (b : Bool) (a z : Option State) → IsOpenAt a → IsOpenAt z
+  either_way : (b : Bool) (a z : Option TableState) → IsOpenAt a → IsOpenAt z
       → IsOpenAt (if b then a else z)
   either_way true a z x y = x
   either_way false a z x y = y
@@ -87,16 +87,16 @@ module _ (threads : List ThreadSteps) (c offset : ℕ) where
   open_target condition (tokens.Word w) = tt
   open_target condition t = tt
 
-  open_expectation : (h : Expectation) (t : Token) → IsOpenAt (expected_step threads c h t offset)
+  open_expectation : (h : CellExpectation) (t : Token) → IsOpenAt (expected_step threads c h t offset)
   open_expectation Begins t = open_cell t
   open_expectation Labelled t = open_begin t
-  open_expectation (Within q) t = open_operand (pending_after q t)
+  open_expectation (InInstruction q) t = open_operand (pending_after q t)
   open_expectation (WantsLabel condition) t = open_target condition t
   open_expectation Whole t = open_end t
 
-stays_open : (ps : List texts.TokenAt) (s f : State) → IsOpen s.expected → run s ps ≡ Some f
+stays_open : (ps : List texts.TokenAt) (s f : TableState) → IsOpen s.expected → run s ps ≡ Some f
     → IsOpen f.expected
-stays_open [] s f o e = subst (λ (x : State). IsOpen x.expected) same o
+stays_open [] s f o e = subst (λ (x : TableState). IsOpen x.expected) same o
   where
     same : s ≡ f
     same = cc
@@ -104,8 +104,8 @@ stays_open (p ∷ ps) s f o e =
     by_step (step s p.token p.offset)
     (open_expectation s.threads s.column p.offset s.expected p.token) e (λ u. stays_open ps u f)
   where
-    by_step : (x : Option State) → IsOpenAt x → then_on (λ u. run u ps) x ≡ Some f
-        → ((u : State) → IsOpen u.expected → run u ps ≡ Some f → IsOpen f.expected)
+    by_step : (x : Option TableState) → IsOpenAt x → then_on (λ u. run u ps) x ≡ Some f
+        → ((u : TableState) → IsOpen u.expected → run u ps ≡ Some f → IsOpen f.expected)
         → IsOpen f.expected
     by_step None k m later = absurd cc
     by_step (Some u) k m later = later u k m
@@ -133,14 +133,14 @@ filler_fits wants.Comma = refl
 filler_fits wants.Open = refl
 filler_fits wants.Close = refl
 
-abbrev stand : List ThreadSteps → ℕ → Expectation → State
+abbrev stand : List ThreadSteps → ℕ → CellExpectation → TableState
 stand threads c h = record { threads = threads; column = c; expected = h }
 
 -- some tokens lead to a cell that may end
-record CellEnds (s : State) : Type 0 where
+record CellEnds (s : TableState) : Type 0 where
   by : List texts.TokenAt
   threads : List ThreadSteps
-  expected : Expectation
+  expected : CellExpectation
   ended : can_end expected ≡ true
   leads : (rest : List texts.TokenAt)
       → run s (by ++ rest) ≡ run (stand threads s.column expected) rest
@@ -150,7 +150,7 @@ module _ (threads : List ThreadSteps) (c : ℕ) where
   pending op ws rs v = record { opcode = op; wants = ws; registers = rs; value = v }
 
   filled : (op : DataOpcode) (w : Want) (ws : List Want) (rs : List ℕ) (v : ℤ)
-      → CellEnds (stand threads c (Within (pending op (w ∷ ws) rs v)))
+      → CellEnds (stand threads c (InInstruction (pending op (w ∷ ws) rs v)))
   filled op w [] rs v =
       let t = filler w in
       let q = pending_with (pending op (w ∷ []) rs v) [] t in
@@ -182,35 +182,35 @@ module _ (threads : List ThreadSteps) (c : ℕ) where
       }
 
   pending_ends : (op : DataOpcode) (ws : List Want) (rs : List ℕ) (v : ℤ) → Wants ws
-      → CellEnds (stand threads c (Within (pending op ws rs v)))
+      → CellEnds (stand threads c (InInstruction (pending op ws rs v)))
   pending_ends op [] rs v o = absurd o
   pending_ends op (w ∷ ws) rs v o = filled op w ws rs v
 
-  at_once : (h : Expectation) → can_end h ≡ true → CellEnds (stand threads c h)
+  at_once : (h : CellExpectation) → can_end h ≡ true → CellEnds (stand threads c h)
   at_once h e = record { by = []; threads = threads; expected = h; ended = e; leads = λ rest. refl }
 
-  cell_ends : (h : Expectation) → IsOpen h → CellEnds (stand threads c h)
+  cell_ends : (h : CellExpectation) → IsOpen h → CellEnds (stand threads c h)
   cell_ends Begins o = at_once Begins refl
   cell_ends Labelled o = at_once Labelled refl
-  cell_ends (Within p) o = pending_ends p.opcode p.wants p.registers p.value o
+  cell_ends (InInstruction p) o = pending_ends p.opcode p.wants p.registers p.value o
   cell_ends (WantsLabel condition) o =
       record { by = first_token (tokens.Word (codes "r1")) ∷ []; threads = put_at c (steps.Instruction (branch_meaning condition (codes "r1"))) 0 threads; expected = Whole; ended = refl; leads = λ rest. refl }
   cell_ends Whole o = at_once Whole refl
 
 -- ---- to the end of the row
 
-pub separator : (threads : List ThreadSteps) (c offset : ℕ) (h : Expectation) → can_end h ≡ true
+pub separator : (threads : List ThreadSteps) (c offset : ℕ) (h : CellExpectation) → can_end h ≡ true
     → (expected_step threads c h (tokens.Mark marks.Semicolon) offset
     ≡ ended threads c (tokens.Mark marks.Semicolon))
     × (expected_step threads c h (tokens.Mark marks.Bar) offset
     ≡ ended threads c (tokens.Mark marks.Bar))
 separator threads c offset Begins e = (refl, refl)
 separator threads c offset Labelled e = (refl, refl)
-separator threads c offset (Within p) e = absurd cc
+separator threads c offset (InInstruction p) e = absurd cc
 separator threads c offset (WantsLabel condition) e = absurd cc
 separator threads c offset Whole e = (refl, refl)
 
-row_ends : (left : ℕ) (threads : List ThreadSteps) (c : ℕ) (h : Expectation) → can_end h ≡ true
+row_ends : (left : ℕ) (threads : List ThreadSteps) (c : ℕ) (h : CellExpectation) → can_end h ≡ true
     → length threads ≤ c + 1 + left → FinishesTable is_row_start (stand threads c h)
 row_ends zero threads c h e le =
     record {
@@ -251,14 +251,14 @@ row_ends (suc left) threads c h e le =
 columns_open : (n : ℕ) → IsOpen (columns n).expected
 columns_open n = subst IsOpen (sym (columns-expected n)) tt
 
-pub table_finishes : (n : ℕ) (ps : List texts.TokenAt) (s : State) → run (columns n) ps ≡ Some s
+pub table_finishes : (n : ℕ) (ps : List texts.TokenAt) (s : TableState) → run (columns n) ps ≡ Some s
     → FinishesTable is_row_start s
 table_finishes n ps s e =
     let k = cell_ends s.threads s.column s.expected (stays_open ps (columns n) s (columns_open n) e) in
     let r = row_ends (length k.threads) k.threads s.column k.expected k.ended (omega arith) in
     record { rest = k.by ++ r.rest; after = r.after; by = k.leads r.rest ∙ r.by; ended = r.ended }
 
-pub thread_finishes : (ps : List texts.TokenAt) (s : State) → run (columns 0) ps ≡ Some s
+pub thread_finishes : (ps : List texts.TokenAt) (s : TableState) → run (columns 0) ps ≡ Some s
     → FinishesTable is_whole s
 thread_finishes ps s e =
     let k = cell_ends s.threads s.column s.expected (stays_open ps (columns 0) s tt e) in

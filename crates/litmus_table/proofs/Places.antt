@@ -14,9 +14,9 @@ use Rattle.litmus_table.specs.declared.opcode.Opcode.TheVariants as opcodes
 use Rattle.litmus_table.specs.declared.opcode.Want.{Want}
 use Rattle.litmus_table.specs.declared.late.PlacedThread.{PlacedThread}
 use Rattle.litmus_table.specs.Words.{opcode_of, branch_meaning}
-use Rattle.litmus_table.specs.Machine.{ThreadSteps, fresh, Pending, Expectation, Begins, Labelled, Within, WantsLabel, Whole, State, put_at, at, finished, is_last, ended, operation, begins, cell, first_of, goes_on, operand, pending_after, target_read, expected_step, instruction_of}
+use Rattle.litmus_table.specs.Machine.{ThreadSteps, fresh, Pending, CellExpectation, Begins, Labelled, InInstruction, WantsLabel, Whole, TableState, put_at, at, finished, is_last, ended, operation, begins, cell, first_of, goes_on, operand, pending_after, target_read, expected_step, instruction_of}
 use Rattle.litmus_table.specs.Reading.{thread_of, threads_of}
-use Rattle.litmus_table.specs.Within.{AllAtMost, AreThreadsUpTo}
+use Rattle.litmus_table.specs.Bounds.{AllAtMost, AreThreadsUpTo}
 
 pushed : (n p : ℕ) (ps : List ℕ) → p ≤ n → AllAtMost n ps → AllAtMost n (ps ++ p ∷ [])
 pushed n p [] le all zero lt = le
@@ -33,7 +33,7 @@ put_within n k s p [] le h = tt
 put_within n zero s p (t ∷ ts) le h = (pushed n p t.offsets le h.0, h.1)
 put_within n (suc k) s p (t ∷ ts) le h = (h.0, put_within n k s p ts le h.1)
 
-abbrev WithinSome : ℕ → Option State → Type 0
+abbrev WithinSome : ℕ → Option TableState → Type 0
 WithinSome n None = Unit {0}
 WithinSome n (Some s) = AreThreadsUpTo n s.threads
 
@@ -41,7 +41,7 @@ module _ (n p : ℕ) (le : p ≤ n) (ts : List ThreadSteps) (c : ℕ) (h : AreTh
   done : (i : Instruction) → WithinSome n (finished ts c i p)
   done i = put_within n c (steps.Instruction i) p ts le h
 
-  either_way : (b : Bool) (a z : Option State) → WithinSome n a → WithinSome n z
+  either_way : (b : Bool) (a z : Option TableState) → WithinSome n a → WithinSome n z
       → WithinSome n (if b then a else z)
   either_way true a z x y = x
   either_way false a z x y = y
@@ -78,15 +78,15 @@ module _ (n p : ℕ) (le : p ≤ n) (ts : List ThreadSteps) (c : ℕ) (h : AreTh
   after_target condition (tokens.Word w) = done (branch_meaning condition w)
   after_target condition t = tt
 
-  after_expectation : (o : Expectation) (t : Token) → WithinSome n (expected_step ts c o t p)
+  after_expectation : (o : CellExpectation) (t : Token) → WithinSome n (expected_step ts c o t p)
   after_expectation Begins t = after_cell t
   after_expectation Labelled t = after_begin t
-  after_expectation (Within q) t = after_operand (pending_after q t)
+  after_expectation (InInstruction q) t = after_operand (pending_after q t)
   after_expectation (WantsLabel condition) t = after_target condition t
   after_expectation Whole t = after_end t
 
 pub expectation_within : (n p : ℕ) → p ≤ n → (ts : List ThreadSteps) (c : ℕ) → AreThreadsUpTo n ts
-    → (o : Expectation) (t : Token) (x : State) → expected_step ts c o t p ≡ Some x
+    → (o : CellExpectation) (t : Token) (x : TableState) → expected_step ts c o t p ≡ Some x
     → AreThreadsUpTo n x.threads
 expectation_within n p le ts c h o t x e =
     subst (WithinSome n) e (after_expectation n p le ts c h o t)

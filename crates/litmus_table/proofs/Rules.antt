@@ -20,7 +20,7 @@ use Rattle.litmus_table.specs.declared.opcode.DataOpcode.{DataOpcode}
 use Rattle.litmus_table.specs.declared.opcode.Want.{Want}
 use Rattle.litmus_table.specs.declared.opcode.Want.TheVariants as wants
 use Rattle.litmus_table.specs.Words.{opcode_of, computing_of, accessing_of, fence_of, branch_of, fits}
-use Rattle.litmus_table.specs.Machine.{ThreadSteps, Pending, Expectation, Begins, Labelled, Within, WantsLabel, Whole, State, first_of, pending_with, at, is_last, operation, operand, step, is_row_start, is_begin, can_end, wanted, is_base, is_zero, separator_rule, rule_at}
+use Rattle.litmus_table.specs.Machine.{ThreadSteps, Pending, CellExpectation, Begins, Labelled, InInstruction, WantsLabel, Whole, TableState, first_of, pending_with, at, is_last, operation, operand, step, is_row_start, is_begin, can_end, wanted, is_base, is_zero, separator_rule, rule_at}
 use Rattle.litmus_table.specs.Laws.{is_whole, is_taken, ends_at, stands, IsInCell, GivesRules}
 use Rattle.litmus_tokens.specs.Texts.{begins_tail, is_end}
 
@@ -60,7 +60,7 @@ no_opcode_tail w e =
     first (inr k) = ap opcode_of (is_word w (codes "forall") k) ∙ no_opcode_forall
 
 -- what stands behind the rows begins none
-tail_refused : (threads : List ThreadSteps) (c offset : ℕ) (h : Expectation) (t : Token)
+tail_refused : (threads : List ThreadSteps) (c offset : ℕ) (h : CellExpectation) (t : Token)
     → is_begin h ≡ true → begins_tail t ≡ true
     → step (record { threads = threads; column = c; expected = h }) t offset ≡ None
 tail_refused threads c offset Begins (tokens.Word w) b e =
@@ -69,7 +69,7 @@ tail_refused threads c offset Begins (tokens.Mark marks.Tilde) b e = refl
 tail_refused threads c offset Begins t b e = absurd cc
 tail_refused threads c offset h t b e = absurd cc
 
-pub apart : (s : State) (t : Token) (offset : ℕ) → is_row_start s ≡ true → begins_tail t ≡ true
+pub apart : (s : TableState) (t : Token) (offset : ℕ) → is_row_start s ≡ true → begins_tail t ≡ true
     → step s t offset ≡ None
 apart s t offset b e =
     tail_refused s.threads s.column offset s.expected t
@@ -77,37 +77,37 @@ apart s t offset b e =
 
 -- ---- what can stand
 
-taken_stands : (alone : Bool) (s : State) (t : Token) → is_taken (step s t 0) ≡ true
+taken_stands : (alone : Bool) (s : TableState) (t : Token) → is_taken (step s t 0) ≡ true
     → stands alone s t ≡ true
 taken_stands alone s t e = ap (λ (b : Bool). b || ends_at alone s t) e
 
-refused : (alone : Bool) (s : State) (t : Token) → stands alone s t ≡ false
+refused : (alone : Bool) (s : TableState) (t : Token) → stands alone s t ≡ false
     → is_taken (step s t 0) ≡ true → ⊥
 refused alone s t out into = absurd (let e = taken_stands alone s t into in cc)
 
-no_end : (alone : Bool) (s : State) (t : Token) → begins_tail t ≡ false → is_end t ≡ false
+no_end : (alone : Bool) (s : TableState) (t : Token) → begins_tail t ≡ false → is_end t ≡ false
     → ends_at alone s t ≡ false
 no_end false s t b e = ap (λ (x : Bool). is_row_start s && x) b ∙ and-false (is_row_start s)
 no_end true s t b e = ap (λ (x : Bool). is_whole s && x) e ∙ and-false (is_whole s)
 
 -- a token that is neither taken nor an end
-cannot : (alone : Bool) (s : State) (t : Token) → step s t 0 ≡ None → ends_at alone s t ≡ false
+cannot : (alone : Bool) (s : TableState) (t : Token) → step s t 0 ≡ None → ends_at alone s t ≡ false
     → stands alone s t ≡ true → ⊥
 cannot alone s t none out into =
     absurd (
     let e : stands alone s t ≡ false =
-    ap (λ (o : Option State). is_taken o || ends_at alone s t) none ∙ out in
+    ap (λ (o : Option TableState). is_taken o || ends_at alone s t) none ∙ out in
     cc)
 
-abbrev Can : Bool → State → Token → Type 0
+abbrev Can : Bool → TableState → Token → Type 0
 Can alone s u = stands alone s u ≡ true
 
-abbrev Ruled : Bool → State → Token → LitmusRule → LitmusRule → Type 0
+abbrev Ruled : Bool → TableState → Token → LitmusRule → LitmusRule → Type 0
 Ruled alone s other n k =
     (Can alone s other × (k ≡ n)) ⊎ ((Can alone s other → ⊥) × (k ≡ rules.Instruction))
 
 module _ (alone : Bool) (threads : List ThreadSteps) (c : ℕ) where
-  abbrev here : Expectation → State
+  abbrev here : CellExpectation → TableState
   here h = record { threads = threads; column = c; expected = h }
 
   -- ---- separators
@@ -125,8 +125,8 @@ module _ (alone : Bool) (threads : List ThreadSteps) (c : ℕ) where
   abbrev pending : DataOpcode → List Want → List ℕ → ℤ → Pending
   pending op ws rs v = record { opcode = op; wants = ws; registers = rs; value = v }
 
-  abbrev inside : DataOpcode → List Want → List ℕ → ℤ → State
-  inside op ws rs v = here (Within (pending op ws rs v))
+  abbrev inside : DataOpcode → List Want → List ℕ → ℤ → TableState
+  inside op ws rs v = here (InInstruction (pending op ws rs v))
 
   unfit : (op : DataOpcode) (w : Want) (ws : List Want) (rs : List ℕ) (v : ℤ) (t : Token)
       → fits w t ≡ false → step (inside op (w ∷ ws) rs v) t 0 ≡ None
@@ -152,14 +152,14 @@ module _ (alone : Bool) (threads : List ThreadSteps) (c : ℕ) where
   in_operands op [] rs v t out = refl
   in_operands op (w ∷ ws) rs v t out = unfit op w ws rs v t (out w)
 
-  semicolon_ruled : (h : Expectation) → stands alone (here h) (tokens.Mark marks.Semicolon) ≡ false
+  semicolon_ruled : (h : CellExpectation) → stands alone (here h) (tokens.Mark marks.Semicolon) ≡ false
       → Ruled alone (here h) (tokens.Mark marks.Bar) rules.Columns (separator_rule h)
-  semicolon_ruled (Within p) out =
+  semicolon_ruled (InInstruction p) out =
       inr (
-        cannot alone (here (Within p)) (tokens.Mark marks.Bar)
+        cannot alone (here (InInstruction p)) (tokens.Mark marks.Bar)
             (in_operands p.opcode p.wants p.registers p.value (tokens.Mark marks.Bar)
             (λ w. (no_separator w).0))
-            (no_end alone (here (Within p)) (tokens.Mark marks.Bar) refl refl),
+            (no_end alone (here (InInstruction p)) (tokens.Mark marks.Bar) refl refl),
         refl,
       )
   semicolon_ruled (WantsLabel condition) out =
@@ -184,14 +184,14 @@ module _ (alone : Bool) (threads : List ThreadSteps) (c : ℕ) where
           taken_stands alone (here h) (tokens.Mark marks.Bar) (ap
           (λ (b : Bool). is_taken (if b then None else at threads (c + 1) Begins)) e)
 
-  bar_ruled : (h : Expectation) → stands alone (here h) (tokens.Mark marks.Bar) ≡ false
+  bar_ruled : (h : CellExpectation) → stands alone (here h) (tokens.Mark marks.Bar) ≡ false
       → Ruled alone (here h) (tokens.Mark marks.Semicolon) rules.Columns (separator_rule h)
-  bar_ruled (Within p) out =
+  bar_ruled (InInstruction p) out =
       inr (
-        cannot alone (here (Within p)) (tokens.Mark marks.Semicolon)
+        cannot alone (here (InInstruction p)) (tokens.Mark marks.Semicolon)
             (in_operands p.opcode p.wants p.registers p.value (tokens.Mark marks.Semicolon)
             (λ w. (no_separator w).1))
-            (no_end alone (here (Within p)) (tokens.Mark marks.Semicolon) refl refl),
+            (no_end alone (here (InInstruction p)) (tokens.Mark marks.Semicolon) refl refl),
         refl,
       )
   bar_ruled (WantsLabel condition) out =
@@ -220,12 +220,12 @@ module _ (alone : Bool) (threads : List ThreadSteps) (c : ℕ) where
   abbrev zero_token : Token
   zero_token = tokens.Number false []
 
-  abbrev Claim : Expectation → Type 0
+  abbrev Claim : CellExpectation → Type 0
   Claim g =
       Ruled alone (here g) zero_token rules.Offset (if is_zero (wanted g) && true then rules.Offset
       else rules.Instruction)
 
-  number_ruled : (h : Expectation) (negative : Bool) (ds : List ℕ) → is_int negative ds ≡ true
+  number_ruled : (h : CellExpectation) (negative : Bool) (ds : List ℕ) → is_int negative ds ≡ true
       → stands alone (here h) (tokens.Number negative ds) ≡ false
       → Ruled alone (here h) zero_token rules.Offset (if is_zero (wanted h)
       && is_int negative ds then rules.Offset
@@ -238,15 +238,15 @@ module _ (alone : Bool) (threads : List ThreadSteps) (c : ℕ) where
       (sym int)
       (by_expectation h out)
     where
-      not_here : (g : Expectation) → step (here g) zero_token 0 ≡ None
+      not_here : (g : CellExpectation) → step (here g) zero_token 0 ≡ None
           → Can alone (here g) zero_token → ⊥
       not_here g none =
           cannot alone (here g) zero_token none (no_end alone (here g) zero_token refl refl)
 
       by_want : (op : DataOpcode) (ws : List Want) (rs : List ℕ) (v : ℤ)
           → stands alone (inside op ws rs v) (tokens.Number negative ds) ≡ false
-          → Claim (Within (pending op ws rs v))
-      by_want op [] rs v k = inr (not_here (Within (pending op [] rs v)) refl, refl)
+          → Claim (InInstruction (pending op ws rs v))
+      by_want op [] rs v k = inr (not_here (InInstruction (pending op [] rs v)) refl, refl)
       by_want op (wants.Zero ∷ ws) rs v k =
           inl (
             taken_stands alone (inside op (wants.Zero ∷ ws) rs v) zero_token
@@ -258,13 +258,13 @@ module _ (alone : Bool) (threads : List ThreadSteps) (c : ℕ) where
           k (fit op wants.Immediate ws rs v (tokens.Number negative ds) int))
       by_want op (w ∷ ws) rs v k =
           inr (
-            not_here (Within (pending op (w ∷ ws) rs v)) (unfit op w ws rs v zero_token refl),
+            not_here (InInstruction (pending op (w ∷ ws) rs v)) (unfit op w ws rs v zero_token refl),
             refl,
           )
 
-      by_expectation : (g : Expectation) → stands alone (here g) (tokens.Number negative ds) ≡ false
+      by_expectation : (g : CellExpectation) → stands alone (here g) (tokens.Number negative ds) ≡ false
           → Claim g
-      by_expectation (Within p) k = by_want p.opcode p.wants p.registers p.value k
+      by_expectation (InInstruction p) k = by_want p.opcode p.wants p.registers p.value k
       by_expectation g k = inr (not_here g refl, refl)
 
   -- ---- words
@@ -275,14 +275,14 @@ module _ (alone : Bool) (threads : List ThreadSteps) (c : ℕ) where
   abbrev tail_word : Token
   tail_word = tokens.Word (codes "exists")
 
-  not_one : (g : Expectation) → step (here g) one 0 ≡ None → Can alone (here g) one → ⊥
+  not_one : (g : CellExpectation) → step (here g) one 0 ≡ None → Can alone (here g) one → ⊥
   not_one g none = cannot alone (here g) one none (no_end alone (here g) one refl refl)
 
   zero_want : (op : DataOpcode) (ws : List Want) (rs : List ℕ) (v : ℤ)
       → stands alone (inside op ws rs v) (tokens.Word (codes "r0")) ≡ false
       → Ruled alone (inside op ws rs v) one rules.ZeroBase (if is_base (first_of ws) then rules.ZeroBase
       else rules.Instruction)
-  zero_want op [] rs v k = inr (not_one (Within (pending op [] rs v)) refl, refl)
+  zero_want op [] rs v k = inr (not_one (InInstruction (pending op [] rs v)) refl, refl)
   zero_want op (wants.Base ∷ ws) rs v k =
       inl (
         taken_stands alone (inside op (wants.Base ∷ ws) rs v) one
@@ -293,13 +293,13 @@ module _ (alone : Bool) (threads : List ThreadSteps) (c : ℕ) where
       absurd (refused alone (inside op (wants.Register ∷ ws) rs v) (tokens.Word (codes "r0")) k
       (fit op wants.Register ws rs v (tokens.Word (codes "r0")) refl))
   zero_want op (w ∷ ws) rs v k =
-      inr (not_one (Within (pending op (w ∷ ws) rs v)) (unfit op w ws rs v one refl), refl)
+      inr (not_one (InInstruction (pending op (w ∷ ws) rs v)) (unfit op w ws rs v one refl), refl)
 
   -- `r0`
-  zero_ruled : (h : Expectation) → stands alone (here h) (tokens.Word (codes "r0")) ≡ false
+  zero_ruled : (h : CellExpectation) → stands alone (here h) (tokens.Word (codes "r0")) ≡ false
       → Ruled alone (here h) one rules.ZeroBase (if is_base (wanted h) then rules.ZeroBase
       else rules.Instruction)
-  zero_ruled (Within p) k = zero_want p.opcode p.wants p.registers p.value k
+  zero_ruled (InInstruction p) k = zero_want p.opcode p.wants p.registers p.value k
   zero_ruled (WantsLabel condition) k =
       absurd (refused alone (here (WantsLabel condition)) (tokens.Word (codes "r0")) k refl)
   zero_ruled Whole k = inr (not_one Whole refl, refl)
@@ -315,9 +315,9 @@ module _ (alone : Bool) (threads : List ThreadSteps) (c : ℕ) where
   no_exists wants.Open = refl
   no_exists wants.Close = refl
 
-  exists_refused : (h : Expectation) (w : List ℕ) → stands alone (here h) (tokens.Word w) ≡ false
+  exists_refused : (h : CellExpectation) (w : List ℕ) → stands alone (here h) (tokens.Word w) ≡ false
       → step (here h) tail_word 0 ≡ None
-  exists_refused (Within p) w k =
+  exists_refused (InInstruction p) w k =
       in_operands p.opcode p.wants p.registers p.value tail_word no_exists
   exists_refused (WantsLabel condition) w k =
       absurd (refused alone (here (WantsLabel condition)) (tokens.Word w) k refl)
@@ -342,15 +342,15 @@ module _ (alone : Bool) (threads : List ThreadSteps) (c : ℕ) where
   base_taken op (v' ∷ ws) rs v w e k = refl
 
   -- any other word
-  other_ruled : (h : Expectation) (w : List ℕ) → bytes_eq w (codes "r0") ≡ false
+  other_ruled : (h : CellExpectation) (w : List ℕ) → bytes_eq w (codes "r0") ≡ false
       → stands alone (here h) (tokens.Word w) ≡ false
       → (if is_base (wanted h) && is_register w then rules.ZeroBase else rules.Instruction)
       ≡ rules.Instruction
-  other_ruled (Within p) w e k = base_taken p.opcode p.wants p.registers p.value w e k
+  other_ruled (InInstruction p) w e k = base_taken p.opcode p.wants p.registers p.value w e k
   other_ruled h w e k = refl
 
   -- the word `filter` or `final`
-  filter_ruled : (h : Expectation) (w : List ℕ) → is_register w ≡ false
+  filter_ruled : (h : CellExpectation) (w : List ℕ) → is_register w ≡ false
       → stands alone (here h) (tokens.Word w) ≡ false
       → Ruled alone (here h) tail_word rules.Filter (if is_row_start (here h) && not alone
       && true then rules.Filter
@@ -373,7 +373,7 @@ module _ (alone : Bool) (threads : List ThreadSteps) (c : ℕ) where
           (if b && true && true then rules.Filter else k)
       at_start true r none k i =
           inl (
-            ap (λ (o : Option State). is_taken o || (is_row_start (here h) && true)) none
+            ap (λ (o : Option TableState). is_taken o || (is_row_start (here h) && true)) none
                 ∙ ap (λ (x : Bool). x && true) r,
             refl,
           )
@@ -405,7 +405,7 @@ module _ (alone : Bool) (threads : List ThreadSteps) (c : ℕ) where
       choose (inl k) = ap is_register (is_word w (codes "filter") k)
       choose (inr k) = ap is_register (is_word w (codes "final") k)
 
-  abbrev word_rule : Expectation → List ℕ → Bool → LitmusRule
+  abbrev word_rule : CellExpectation → List ℕ → Bool → LitmusRule
   word_rule h w f =
       if is_row_start (here h) && not alone && f then rules.Filter
       else (if is_base (wanted h) && is_register w then rules.ZeroBase else rules.Instruction)
@@ -415,7 +415,7 @@ module _ (alone : Bool) (threads : List ThreadSteps) (c : ℕ) where
   not_filter true false = refl
   not_filter false b = refl
 
-  is_not_filter : (h : Expectation) (w : List ℕ)
+  is_not_filter : (h : CellExpectation) (w : List ℕ)
       → word_rule h w false
       ≡ (if is_base (wanted h) && is_register w then rules.ZeroBase else rules.Instruction)
   is_not_filter h w =
@@ -425,15 +425,15 @@ module _ (alone : Bool) (threads : List ThreadSteps) (c : ℕ) where
       (not_filter (is_row_start (here h)) (not alone))
 
   module _ (stage : Stage) (inner : part_rule stage ≡ rules.Instruction) where
-    abbrev Ruling_says : Expectation → Ruling → LitmusRule → Type 0
+    abbrev Ruling_says : CellExpectation → Ruling → LitmusRule → Type 0
     Ruling_says h r k = RulingSays (λ u. stands alone (here h) u ≡ true) stage r k
 
-    says_where : (h : Expectation) (other : Token) (n k : LitmusRule)
+    says_where : (h : CellExpectation) (other : Token) (n k : LitmusRule)
         → Ruled alone (here h) other n k → Ruling_says h (Where other n) k
     says_where h other n k (inl r) = inl r
     says_where h other n k (inr r) = inr (r.0, r.1 ∙ sym inner)
 
-    words : (h : Expectation) (w : List ℕ) → stands alone (here h) (tokens.Word w) ≡ false
+    words : (h : CellExpectation) (w : List ℕ) → stands alone (here h) (tokens.Word w) ≡ false
         → Ruling_says h (cell_ruling stage (tokens.Word w)) (word_rule h w (is_filter w))
     words h w out = first (bytes_eq w (codes "r0")) refl
       where
@@ -470,7 +470,7 @@ module _ (alone : Bool) (threads : List ThreadSteps) (c : ℕ) where
         first true e = zero (is_word w (codes "r0") e)
         first false e = second (is_filter w) refl e
 
-    numbers : (h : Expectation) (negative : Bool) (ds : List ℕ)
+    numbers : (h : CellExpectation) (negative : Bool) (ds : List ℕ)
         → stands alone (here h) (tokens.Number negative ds) ≡ false
         → Ruling_says h (cell_ruling stage (tokens.Number negative ds))
         (rule_at alone (here h) (tokens.Number negative ds))
@@ -489,7 +489,7 @@ module _ (alone : Bool) (threads : List ThreadSteps) (c : ℕ) where
             ∙ ap (λ (b : Bool). if b then rules.Offset else rules.Instruction)
             (and-false (is_zero (wanted h))) ∙ sym inner
 
-    ruled : (h : Expectation) (t : Token) → stands alone (here h) t ≡ false
+    ruled : (h : CellExpectation) (t : Token) → stands alone (here h) t ≡ false
         → Ruling_says h (cell_ruling stage t) (rule_at alone (here h) t)
     ruled h (tokens.Mark marks.Semicolon) out =
         says_where h (tokens.Mark marks.Bar) rules.Columns (separator_rule h)

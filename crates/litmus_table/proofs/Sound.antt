@@ -17,27 +17,27 @@ use Rattle.litmus_table.specs.declared.opcode.Opcode.TheVariants as opcodes
 use Rattle.litmus_table.specs.declared.opcode.Want.{Want}
 use Rattle.litmus_table.specs.Words.{opcode_of, fits, all_fit}
 use Rattle.litmus_table.specs.Grammar.{InstructionTree, CellTree, RowTree, spelled_instruction, spelled_cell, spelled_cells, spelled_rows, spelled_steps, IsInstruction, AreCells, AreRowTrees}
-use Rattle.litmus_table.specs.Machine.{ThreadSteps, fresh, first_of, pending_after, Pending, Expectation, Begins, Labelled, Within, WantsLabel, Whole, State, pending_with, put_at, at, is_last, ended, operation, begins, cell, goes_on, operand, target_read, expected_step, step, is_row_start, can_end, is_begin}
+use Rattle.litmus_table.specs.Machine.{ThreadSteps, fresh, first_of, pending_after, Pending, CellExpectation, Begins, Labelled, InInstruction, WantsLabel, Whole, TableState, pending_with, put_at, at, is_last, ended, operation, begins, cell, goes_on, operand, target_read, expected_step, step, is_row_start, can_end, is_begin}
 use Rattle.litmus_table.specs.Laws.{IsTable, IsThread, then_on, run, columns, is_whole}
 
 -- ---- what is left of a cell, before its tail
 
-abbrev Left : Expectation → List Token → List Token → Type 0
+abbrev Left : CellExpectation → List Token → List Token → Type 0
 Left Begins ts tail = (c : CellTree) × IsInstruction c.instruction × (ts ≡ spelled_cell c tail)
 Left Labelled ts tail =
     (i : Option InstructionTree) × IsInstruction i × (ts ≡ spelled_instruction i tail)
-Left (Within p) ts tail =
+Left (InInstruction p) ts tail =
     (operands : List Token) × (all_fit p.wants operands ≡ true) × (ts ≡ operands ++ tail)
 Left (WantsLabel condition) ts tail = (w : List ℕ) × (ts ≡ tokens.Word w ∷ tail)
 Left Whole ts tail = ts ≡ tail
 
 -- what stands behind a cell of a column, and what begins there
 module _ (Tail Cell : ℕ → List Token → Type 0) where
-  abbrev Reads : ℕ → Expectation → List Token → Type 0
+  abbrev Reads : ℕ → CellExpectation → List Token → Type 0
   Reads c Begins ts = Cell c ts
   Reads c h ts = (tail : List Token) × Tail c tail × Left h ts tail
 
-  abbrev After : List Token → Option State → Type 0
+  abbrev After : List Token → Option TableState → Type 0
   After ts None = ⊥
   After ts (Some s) = Reads s.column s.expected ts
 
@@ -117,15 +117,15 @@ module _ (Tail Cell : ℕ → List Token → Type 0) where
         )
 
         after_operand : (op : DataOpcode) (ws : List Want) (rs : List ℕ) (v : ℤ) (t : Token)
-            → After ts (expected_step threads c (Within (pending op ws rs v)) t offset)
-            → Reads c (Within (pending op ws rs v)) (t ∷ ts)
+            → After ts (expected_step threads c (InInstruction (pending op ws rs v)) t offset)
+            → Reads c (InInstruction (pending op ws rs v)) (t ∷ ts)
         after_operand op [] rs v t r = absurd r
         after_operand op (w ∷ ws) rs v t r = choose (fits w t) refl r
           where
             choose : (b : Bool) → fits w t ≡ b
                 → After ts (operand threads c
                 (if b then Some (pending_with (pending op (w ∷ ws) rs v) ws t) else None)
-                offset) → Reads c (Within (pending op (w ∷ ws) rs v)) (t ∷ ts)
+                offset) → Reads c (InInstruction (pending op (w ∷ ws) rs v)) (t ∷ ts)
             choose true e k =
                 let m = more_operands (pending op (w ∷ ws) rs v) w ws t e k in
                 (m.0, m.1, (m.2, m.3, m.4))
@@ -138,16 +138,16 @@ module _ (Tail Cell : ℕ → List Token → Type 0) where
             (r.0, r.1, (w, ap (λ (l : List Token). tokens.Word w ∷ l) r.2))
         after_target condition t r = absurd r
 
-        pub after_expectation : (h : Expectation) (t : Token)
+        pub after_expectation : (h : CellExpectation) (t : Token)
             → After ts (expected_step threads c h t offset) → Reads c h (t ∷ ts)
         after_expectation Begins t r = after_cell t r
         after_expectation Labelled t r = after_begin t r
-        after_expectation (Within p) t r = after_operand p.opcode p.wants p.registers p.value t r
+        after_expectation (InInstruction p) t r = after_operand p.opcode p.wants p.registers p.value t r
         after_expectation (WantsLabel condition) t r = after_target condition t r
         after_expectation Whole t r = (t ∷ ts, behind threads c t ts size there r, refl)
 
       -- what a run keeps of the table's shape
-      abbrev Fits : Option State → Type 0
+      abbrev Fits : Option TableState → Type 0
       Fits None = Unit {0}
       Fits (Some s) = (length s.threads ≡ n + 1) × (s.column ≤ n)
 
@@ -159,7 +159,7 @@ module _ (Tail Cell : ℕ → List Token → Type 0) where
 
       module _ (threads : List ThreadSteps) (c : ℕ) (size : length threads ≡ n + 1) (there : c ≤ n)
           (offset : ℕ) where
-        fits_put : (s : Step) (h : Expectation) → Fits (at (put_at c s offset threads) c h)
+        fits_put : (s : Step) (h : CellExpectation) → Fits (at (put_at c s offset threads) c h)
         fits_put s h = (length-put c s offset threads ∙ size, there)
 
         fits_end : (t : Token) → Fits (ended threads c t)
@@ -203,19 +203,19 @@ module _ (Tail Cell : ℕ → List Token → Type 0) where
         fits_target condition (tokens.Word w) = fits_put _ Whole
         fits_target condition t = tt
 
-        fits_expectation : (h : Expectation) (t : Token) → Fits (expected_step threads c h t offset)
+        fits_expectation : (h : CellExpectation) (t : Token) → Fits (expected_step threads c h t offset)
         fits_expectation Begins t = fits_cell t
         fits_expectation Labelled t = fits_begin t
-        fits_expectation (Within q) t = fits_operand (pending_after q t)
+        fits_expectation (InInstruction q) t = fits_operand (pending_after q t)
         fits_expectation (WantsLabel condition) t = fits_target condition t
         fits_expectation Whole t = fits_end t
 
-      pub reads : (may_end : State → Bool)
-          → ((s : State) → s.column ≤ n → may_end s ≡ true → Reads s.column s.expected [])
-          → (ps : List texts.TokenAt) (s f : State) → length s.threads ≡ n + 1 → s.column ≤ n
+      pub reads : (may_end : TableState → Bool)
+          → ((s : TableState) → s.column ≤ n → may_end s ≡ true → Reads s.column s.expected [])
+          → (ps : List texts.TokenAt) (s f : TableState) → length s.threads ≡ n + 1 → s.column ≤ n
           → run s ps ≡ Some f → may_end f ≡ true → Reads s.column s.expected (tokens_of ps)
       reads may_end base [] s f size there e m =
-          base s there (subst (λ (x : State). may_end x ≡ true) (sym same) m)
+          base s there (subst (λ (x : TableState). may_end x ≡ true) (sym same) m)
         where
           same : s ≡ f
           same = cc
@@ -225,8 +225,8 @@ module _ (Tail Cell : ℕ → List Token → Type 0) where
           (fits_expectation s.threads s.column size there p.offset s.expected p.token) e
           (λ u. reads may_end base ps u f))
         where
-          by_step : (o : Option State) → Fits o → then_on (λ u. run u ps) o ≡ Some f
-              → ((u : State) → length u.threads ≡ n + 1 → u.column ≤ n → run u ps ≡ Some f
+          by_step : (o : Option TableState) → Fits o → then_on (λ u. run u ps) o ≡ Some f
+              → ((u : TableState) → length u.threads ≡ n + 1 → u.column ≤ n → run u ps ≡ Some f
               → may_end f ≡ true → Reads u.column u.expected (tokens_of ps))
               → After (tokens_of ps) o
           by_step None k x later = absurd cc
@@ -301,11 +301,11 @@ table_behind n threads c t ts size there r = absurd r
 is_zero : (c : ℕ) → c == 0 ≡ true → c ≡ 0
 is_zero c e = grind (arith, nat_tests)
 
-table_ends : (n c : ℕ) (h : Expectation) → is_begin h ≡ true → c ≡ 0
+table_ends : (n c : ℕ) (h : CellExpectation) → is_begin h ≡ true → c ≡ 0
     → Reads (TableTail n) (TableCell n) c h []
 table_ends n c Begins e z = inl (z, refl)
 table_ends n c Labelled e z = absurd cc
-table_ends n c (Within p) e z = absurd cc
+table_ends n c (InInstruction p) e z = absurd cc
 table_ends n c (WantsLabel condition) e z = absurd cc
 table_ends n c Whole e z = absurd cc
 
@@ -326,7 +326,7 @@ pub columns-expected : (n : ℕ) → (columns n).expected ≡ Begins
 columns-expected zero = refl
 columns-expected (suc n) = columns-expected n
 
-pub table_sound : (n : ℕ) (ps : List texts.TokenAt) (s : State) → run (columns n) ps ≡ Some s
+pub table_sound : (n : ℕ) (ps : List texts.TokenAt) (s : TableState) → run (columns n) ps ≡ Some s
     → is_row_start s ≡ true → IsTable n (tokens_of ps)
 table_sound n ps s e m =
     let first = columns-column n in
@@ -336,7 +336,7 @@ table_sound n ps s e m =
     table_ends n u.column u.expected b.1 (is_zero u.column b.0))
     ps (columns n) s (columns-length n) (omega arith) e m in
     rows_of n (tokens_of ps) (subst
-    (λ (h : Expectation). Reads (TableTail n) (TableCell n) 0 h (tokens_of ps))
+    (λ (h : CellExpectation). Reads (TableTail n) (TableCell n) 0 h (tokens_of ps))
     (columns-expected n) (subst
     (λ (c : ℕ). Reads (TableTail n) (TableCell n) c (columns n).expected (tokens_of ps))
     first r))
@@ -371,15 +371,15 @@ thread_behind threads c (tokens.Mark marks.Bar) ts size there r =
     (le-leb (length threads) (c + 1) (omega arith)) r)
 thread_behind threads c t ts size there r = absurd r
 
-thread_ends : (c : ℕ) (h : Expectation) → can_end h ≡ true → Reads ThreadTail ThreadCell c h []
+thread_ends : (c : ℕ) (h : CellExpectation) → can_end h ≡ true → Reads ThreadTail ThreadCell c h []
 thread_ends c Begins e =
     ([], ([], tt, refl), (record { label = None; instruction = None }, tt, refl))
 thread_ends c Labelled e = ([], ([], tt, refl), (None, tt, refl))
-thread_ends c (Within p) e = absurd cc
+thread_ends c (InInstruction p) e = absurd cc
 thread_ends c (WantsLabel condition) e = absurd cc
 thread_ends c Whole e = ([], ([], tt, refl), refl)
 
-pub thread_sound : (ps : List texts.TokenAt) (s : State) → run (columns 0) ps ≡ Some s
+pub thread_sound : (ps : List texts.TokenAt) (s : TableState) → run (columns 0) ps ≡ Some s
     → is_whole s ≡ true → IsThread (tokens_of ps)
 thread_sound ps s e m =
     let r = reads ThreadTail ThreadCell 0 (λ c ts tail t l. (tail, t, l)) thread_behind is_whole (λ u there k. thread_ends u.column u.expected k) ps (columns 0) s refl (omega arith) e m in

@@ -8,7 +8,7 @@ use Rattle.litmus_tokens.specs.Faults.{Begins}
 use Rattle.text_values.specs.declared.test.Step.{Step}
 use Rattle.litmus_table.specs.Grammar.{spelled_rows, spelled_thread, columns_meaning, cells_steps, column}
 use Rattle.litmus_table.specs.Late.{column_notes, columns_notes}
-use Rattle.litmus_table.specs.Machine.{ThreadSteps, fresh, State, widened, step}
+use Rattle.litmus_table.specs.Machine.{ThreadSteps, fresh, TableState, widened, step}
 use Rattle.litmus_table.specs.Machine as machine
 use Rattle.litmus_table.specs.Laws.{IsTable, IsThread, then_on, run, columns, TakesAll, TakesRows, TakesCells, AreNoted}
 use Rattle.litmus_table.proofs.Cells.{stand}
@@ -59,7 +59,7 @@ module _ (qs ps rs : List texts.TokenAt) where
   length-freshes zero = refl
   length-freshes (suc n) = let e = length-freshes n in omega arith
 
-  run_text : (s : State) (ts : List Token) → tokens_of ps ≡ ts
+  run_text : (s : TableState) (ts : List Token) → tokens_of ps ≡ ts
       → run s ps ≡ runs text whole byte stands (tokens_of qs) s ts
   run_text s ts e =
       run_is text whole byte stands ps (tokens_of qs) s
@@ -83,7 +83,7 @@ module _ (qs ps rs : List texts.TokenAt) where
       record {
         after = stand r.after 0 machine.Begins;
         by =
-            ap (λ (s : State). run s ps) (columns_are n)
+            ap (λ (s : TableState). run s ps) (columns_are n)
             ∙ run_text (stand threads 0 machine.Begins) (spelled_rows t.rows []) t.whole ∙ r.leads;
         ended = refl;
         meant = g.0 ∙ ap (λ (k : ℕ). columns_meaning 0 k t.rows) more;
@@ -105,25 +105,25 @@ module _ (qs ps rs : List texts.TokenAt) where
 
 -- ---- beginnings
 
-run-append : (ps qs : List texts.TokenAt) (s : State)
+run-append : (ps qs : List texts.TokenAt) (s : TableState)
     → run s (ps ++ qs) ≡ then_on (λ u. run u qs) (run s ps)
 run-append [] qs s = refl
 run-append (p ∷ ps) qs s = by_step (step s p.token p.offset) (run-append ps qs)
   where
-    by_step : (o : Option State)
-        → ((u : State) → run u (ps ++ qs) ≡ then_on (λ v. run v qs) (run u ps))
+    by_step : (o : Option TableState)
+        → ((u : TableState) → run u (ps ++ qs) ≡ then_on (λ v. run v qs) (run u ps))
         → then_on (λ u. run u (ps ++ qs)) o ≡ then_on (λ u. run u qs) (then_on (λ u. run u ps) o)
     by_step None later = refl
     by_step (Some u) later = later u
 
-taken_first : (s f : State) (ps qs : List texts.TokenAt) → run s (ps ++ qs) ≡ Some f → TakesAll s ps
+taken_first : (s f : TableState) (ps qs : List texts.TokenAt) → run s (ps ++ qs) ≡ Some f → TakesAll s ps
 taken_first s f ps qs e = choose (run s ps) refl (sym (run-append ps qs s) ∙ e)
   where
-    choose : (o : Option State) → run s ps ≡ o → then_on (λ u. run u qs) o ≡ Some f → TakesAll s ps
+    choose : (o : Option TableState) → run s ps ≡ o → then_on (λ u. run u qs) o ≡ Some f → TakesAll s ps
     choose None k m = absurd cc
     choose (Some u) k m = record { after = u; by = k }
 
-taken_on : (s u f : State) (ps qs : List texts.TokenAt) → run s ps ≡ Some u → run u qs ≡ Some f
+taken_on : (s u f : TableState) (ps qs : List texts.TokenAt) → run s ps ≡ Some u → run u qs ≡ Some f
     → run s (ps ++ qs) ≡ Some f
 taken_on s u f ps qs e m = run-append ps qs s ∙ ap (then_on (λ v. run v qs)) e ∙ m
 

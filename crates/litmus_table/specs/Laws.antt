@@ -12,7 +12,7 @@ use Rattle.text_values.specs.declared.test.Step.{Step}
 use Rattle.text_values.specs.declared.test.Step.TheVariants as steps
 use Rattle.litmus_table.specs.Grammar.{RowTree, ThreadTree, spelled_rows, spelled_thread, AreCells, AreRowTrees, columns_meaning, thread_meaning}
 use Rattle.litmus_table.specs.Late.{Note, Defines, Branches, thread_notes, columns_notes}
-use Rattle.litmus_table.specs.Machine.{ThreadSteps, State, start, widened, step, is_row_start, can_end, rule_at}
+use Rattle.litmus_table.specs.Machine.{ThreadSteps, TableState, start, widened, step, is_row_start, can_end, rule_at}
 
 -- ---- tables and threads on lists of tokens
 
@@ -30,32 +30,32 @@ pub record IsThread (ts : List Token) : Type 0 where
 
 -- ---- what is taken
 
-abbrev pub then_on : (State → Option State) → Option State → Option State
+abbrev pub then_on : (TableState → Option TableState) → Option TableState → Option TableState
 then_on later None = None
 then_on later (Some s) = later s
 
 -- where these tokens lead
-abbrev pub run : State → List texts.TokenAt → Option State
+abbrev pub run : TableState → List texts.TokenAt → Option TableState
 run s [] = Some s
 run s (p ∷ ps) = then_on (λ u. run u ps) (step s p.token p.offset)
 
 -- a first column and so many others, before the first row
-abbrev pub columns : ℕ → State
+abbrev pub columns : ℕ → TableState
 columns zero = widened start
 columns (suc n) = widened (columns n)
 
-pub record TakesAll (s : State) (ps : List texts.TokenAt) : Type 0 where
-  pub after : State
+pub record TakesAll (s : TableState) (ps : List texts.TokenAt) : Type 0 where
+  pub after : TableState
   pub by : run s ps ≡ Some after
 
 -- some tokens lead to where the table, or the text of a thread, may end
-pub record FinishesTable (may_end : State → Bool) (s : State) : Type 0 where
+pub record FinishesTable (may_end : TableState → Bool) (s : TableState) : Type 0 where
   pub rest : List texts.TokenAt
-  pub after : State
+  pub after : TableState
   pub by : run s rest ≡ Some after
   pub ended : may_end after ≡ true
 
-abbrev pub is_whole : State → Bool
+abbrev pub is_whole : TableState → Bool
 is_whole s = can_end s.expected
 
 -- ---- what is kept
@@ -105,7 +105,7 @@ AreNoted text nss ts = ⊥
 -- what the rows mean.
 pub record TakesRows (others : ℕ) (qs ps rs : List texts.TokenAt) (rows : List RowTree)
     : Type 0 where
-  pub after : State
+  pub after : TableState
   pub by : run (columns others) ps ≡ Some after
   pub ended : is_row_start after ≡ true
   pub meant : steps_of after.threads ≡ columns_meaning 0 (others + 1) rows
@@ -114,7 +114,7 @@ pub record TakesRows (others : ℕ) (qs ps rs : List texts.TokenAt) (rows : List
 
 -- and so for the text of a thread alone
 pub record TakesCells (qs ps rs : List texts.TokenAt) (tree : ThreadTree) : Type 0 where
-  pub after : State
+  pub after : TableState
   pub by : run (columns 0) ps ≡ Some after
   pub ended : is_whole after ≡ true
   pub meant : steps_of after.threads ≡ thread_meaning tree ∷ []
@@ -123,17 +123,17 @@ pub record TakesCells (qs ps rs : List texts.TokenAt) (tree : ThreadTree) : Type
 
 -- ---- what can stand
 
-abbrev pub is_taken : Option State → Bool
+abbrev pub is_taken : Option TableState → Bool
 is_taken None = false
 is_taken (Some s) = true
 
 -- whether a token ends the table here, or the text of a thread alone
-abbrev pub ends_at : Bool → State → Token → Bool
+abbrev pub ends_at : Bool → TableState → Token → Bool
 ends_at false s t = is_row_start s && begins_tail t
 ends_at true s t = is_whole s && is_end t
 
 -- whether a token can stand here
-abbrev pub stands : Bool → State → Token → Bool
+abbrev pub stands : Bool → TableState → Token → Bool
 stands alone s t = is_taken (step s t 0) || ends_at alone s t
 
 abbrev pub IsInCell : Stage → Type 0
@@ -144,6 +144,6 @@ IsInCell s = ⊥
 -- the rule that a token breaks which cannot stand is the one that the definition of faults gives it
 abbrev pub GivesRules : Type 0
 GivesRules =
-    (alone : Bool) (s : State) (stage : Stage) (t : Token) → IsInCell stage
+    (alone : Bool) (s : TableState) (stage : Stage) (t : Token) → IsInCell stage
     → stands alone s t ≡ false
     → RulingSays (λ u. stands alone s u ≡ true) stage (cell_ruling stage t) (rule_at alone s t)

@@ -1,8 +1,8 @@
+pub mod Bounds
 pub mod Checks
 pub mod Grammar
 pub mod Late
 pub mod Laws
 pub mod Machine
 pub mod Reading
-pub mod Within
 pub mod Words

@@ -31,18 +31,18 @@ pub record Pending : Type 0 where
   pub value : ℤ
 
 -- where in a cell the reader stands
-pub data Expectation : Type 0 where
-  Begins : Expectation
-  Labelled : Expectation
-  Within : (pending : Pending) → Expectation
-  WantsLabel : (condition : Option BranchCondition) → Expectation
-  Whole : Expectation
+pub data CellExpectation : Type 0 where
+  Begins : CellExpectation
+  Labelled : CellExpectation
+  InInstruction : (pending : Pending) → CellExpectation
+  WantsLabel : (condition : Option BranchCondition) → CellExpectation
+  Whole : CellExpectation
 
 -- the threads so far, and the number of the one whose cell is read
-pub record State : Type 0 where
+pub record TableState : Type 0 where
   pub threads : List ThreadSteps
   pub column : ℕ
-  pub expected : Expectation
+  pub expected : CellExpectation
 
 -- ---- instructions
 
@@ -100,11 +100,11 @@ put_at k s offset [] = []
 put_at zero s offset (t ∷ ts) = noted s offset t ∷ ts
 put_at (suc k) s offset (t ∷ ts) = t ∷ put_at k s offset ts
 
-abbrev pub at : List ThreadSteps → ℕ → Expectation → Option State
+abbrev pub at : List ThreadSteps → ℕ → CellExpectation → Option TableState
 at threads column expected =
     Some (record { threads = threads; column = column; expected = expected })
 
-abbrev pub finished : List ThreadSteps → ℕ → Instruction → ℕ → Option State
+abbrev pub finished : List ThreadSteps → ℕ → Instruction → ℕ → Option TableState
 finished threads column i offset =
     at (put_at column (steps.Instruction i) offset threads) column Whole
 
@@ -112,16 +112,16 @@ abbrev pub is_last : List ThreadSteps → ℕ → Bool
 is_last threads column = nat_le (length threads) (column + 1)
 
 -- a token behind a cell that is whole
-abbrev pub ended : List ThreadSteps → ℕ → Token → Option State
+abbrev pub ended : List ThreadSteps → ℕ → Token → Option TableState
 ended threads column (tokens.Mark Semicolon) =
     if is_last threads column then at threads 0 Begins else None
 ended threads column (tokens.Mark Bar) =
     if is_last threads column then None else at threads (column + 1) Begins
 ended threads column t = None
 
-abbrev pub operation : List ThreadSteps → ℕ → ℕ → Option Opcode → Option State
+abbrev pub operation : List ThreadSteps → ℕ → ℕ → Option Opcode → Option TableState
 operation threads column offset (Some (opcodes.Data op)) =
-    at threads column (Within (empty_pending op))
+    at threads column (InInstruction (empty_pending op))
 operation threads column offset (Some (opcodes.Branch condition)) =
     at threads column (WantsLabel condition)
 operation threads column offset (Some (opcodes.Fence f)) =
@@ -129,41 +129,41 @@ operation threads column offset (Some (opcodes.Fence f)) =
 operation threads column offset None = None
 
 -- a token where an instruction may begin, or the cell may end
-abbrev pub begins : List ThreadSteps → ℕ → Token → ℕ → Option State
+abbrev pub begins : List ThreadSteps → ℕ → Token → ℕ → Option TableState
 begins threads column (tokens.Word w) offset = operation threads column offset (opcode_of w)
 begins threads column t offset = ended threads column t
 
 -- a token where a cell begins
-abbrev pub cell : List ThreadSteps → ℕ → Token → ℕ → Option State
+abbrev pub cell : List ThreadSteps → ℕ → Token → ℕ → Option TableState
 cell threads column (tokens.Label w) offset =
     at (put_at column (steps.Label w) offset threads) column Labelled
 cell threads column t offset = begins threads column t offset
 
 -- an instruction ends with what it wants
-abbrev pub goes_on : List ThreadSteps → ℕ → Pending → Option Want → ℕ → Option State
+abbrev pub goes_on : List ThreadSteps → ℕ → Pending → Option Want → ℕ → Option TableState
 goes_on threads column p None offset = finished threads column (instruction_of p) offset
-goes_on threads column p (Some w) offset = at threads column (Within p)
+goes_on threads column p (Some w) offset = at threads column (InInstruction p)
 
-abbrev pub operand : List ThreadSteps → ℕ → Option Pending → ℕ → Option State
+abbrev pub operand : List ThreadSteps → ℕ → Option Pending → ℕ → Option TableState
 operand threads column (Some p) offset = goes_on threads column p (first_of p.wants) offset
 operand threads column None offset = None
 
 -- the label that a branch names
-abbrev pub target_read : List ThreadSteps → ℕ → Option BranchCondition → Token → ℕ → Option State
+abbrev pub target_read : List ThreadSteps → ℕ → Option BranchCondition → Token → ℕ → Option TableState
 target_read threads column condition (tokens.Word w) offset =
     finished threads column (branch_meaning condition w) offset
 target_read threads column condition t offset = None
 
-abbrev pub expected_step : List ThreadSteps → ℕ → Expectation → Token → ℕ → Option State
+abbrev pub expected_step : List ThreadSteps → ℕ → CellExpectation → Token → ℕ → Option TableState
 expected_step threads column Begins t offset = cell threads column t offset
 expected_step threads column Labelled t offset = begins threads column t offset
-expected_step threads column (Within p) t offset = operand threads column (pending_after p t) offset
+expected_step threads column (InInstruction p) t offset = operand threads column (pending_after p t) offset
 expected_step threads column (WantsLabel condition) t offset =
     target_read threads column condition t offset
 expected_step threads column Whole t offset = ended threads column t
 
 -- a token that stands at this byte
-abbrev pub step : State → Token → ℕ → Option State
+abbrev pub step : TableState → Token → ℕ → Option TableState
 step s t offset = expected_step s.threads s.column s.expected t offset
 
 -- ---- the header
@@ -171,33 +171,33 @@ step s t offset = expected_step s.threads s.column s.expected t offset
 abbrev pub fresh : ThreadSteps
 fresh = record { steps = []; offsets = [] }
 
-abbrev pub widened : State → State
+abbrev pub widened : TableState → TableState
 widened s = record { threads = s.threads ++ fresh ∷ []; column = s.column; expected = s.expected }
 
 -- the name of the next thread
-abbrev pub named : State → Token → Option State
+abbrev pub named : TableState → Token → Option TableState
 named s (tokens.Word w) = if names_column (length s.threads) w then Some (widened s) else None
 named s t = None
 
 -- ---- where the reader stands, and the rule that a refused token breaks
 
-abbrev pub is_begin : Expectation → Bool
+abbrev pub is_begin : CellExpectation → Bool
 is_begin Begins = true
 is_begin h = false
 
-abbrev pub is_row_start : State → Bool
+abbrev pub is_row_start : TableState → Bool
 is_row_start s = s.column == 0 && is_begin s.expected
 
-abbrev pub can_end : Expectation → Bool
+abbrev pub can_end : CellExpectation → Bool
 can_end Begins = true
 can_end Labelled = true
-can_end (Within p) = false
+can_end (InInstruction p) = false
 can_end (WantsLabel condition) = false
 can_end Whole = true
 
 -- what is wanted within an instruction
-abbrev pub wanted : Expectation → Option Want
-wanted (Within p) = first_of p.wants
+abbrev pub wanted : CellExpectation → Option Want
+wanted (InInstruction p) = first_of p.wants
 wanted h = None
 
 abbrev pub is_base : Option Want → Bool
@@ -208,16 +208,16 @@ abbrev pub is_zero : Option Want → Bool
 is_zero (Some wants.Zero) = true
 is_zero w = false
 
-abbrev pub rule_of_word : Bool → State → List ℕ → LitmusRule
+abbrev pub rule_of_word : Bool → TableState → List ℕ → LitmusRule
 rule_of_word alone s w =
     if is_row_start s && not alone && is_filter w then rules.Filter else (
     if is_base (wanted s.expected) && is_register w then rules.ZeroBase else rules.Instruction)
 
-abbrev pub separator_rule : Expectation → LitmusRule
+abbrev pub separator_rule : CellExpectation → LitmusRule
 separator_rule h = if can_end h then rules.Columns else rules.Instruction
 
 -- the rule that a token breaks which cannot stand here, in a table or in the text of a thread alone
-abbrev pub rule_at : Bool → State → Token → LitmusRule
+abbrev pub rule_at : Bool → TableState → Token → LitmusRule
 rule_at alone s (tokens.Mark Semicolon) = separator_rule s.expected
 rule_at alone s (tokens.Mark Bar) = separator_rule s.expected
 rule_at alone s (tokens.Word w) = rule_of_word alone s w
@@ -227,5 +227,5 @@ rule_at alone s t = rules.Instruction
 
 -- ---- a table of no thread
 
-abbrev pub start : State
+abbrev pub start : TableState
 start = record { threads = []; column = 0; expected = Begins }

@@ -31,14 +31,14 @@ pending_of p =
       value = p.value;
     }
 
-abbrev pub expectation_of : Cell → machine.Expectation
+abbrev pub expectation_of : Cell → machine.CellExpectation
 expectation_of cells.Begins = machine.Begins
 expectation_of cells.Labelled = machine.Labelled
-expectation_of (cells.Within p) = machine.Within (pending_of p)
+expectation_of (cells.InInstruction p) = machine.InInstruction (pending_of p)
 expectation_of (cells.WantsLabel condition) = machine.WantsLabel condition
 expectation_of cells.Whole = machine.Whole
 
-abbrev pub table_of : Table → machine.State
+abbrev pub table_of : Table → machine.TableState
 table_of t =
     record {
       threads = threads_of t.threads.items;
@@ -56,6 +56,6 @@ abbrev pub Takes : Result (Unit {0}) StepError → code_pending.Pending → Opti
 Takes (Ok u) p made = made ≡ Some (pending_of p)
 Takes (Err e) p made = RefusesStep e made
 
-abbrev pub Steps : Result (Unit {0}) StepError → Table → Option machine.State → Type 0
+abbrev pub Steps : Result (Unit {0}) StepError → Table → Option machine.TableState → Type 0
 Steps (Ok u) t made = made ≡ Some (table_of t)
 Steps (Err e) t made = RefusesStep e made

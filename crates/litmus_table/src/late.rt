@@ -8,7 +8,7 @@ ghost use Rattle.text_values.specs.declared.test.Step as declared_step;
 ghost use Rattle.litmus_table.specs.Checks.{AreFirst, first_from, label_rule, target_rule, instruction_rule, step_rule, first_fault};
 ghost use Rattle.litmus_table.specs.Machine.{fresh, noted};
 ghost use Rattle.litmus_table.specs.Reading.{thread_of};
-ghost use Rattle.litmus_table.specs.Within.{AllAtMost, IsFoundWithin};
+ghost use Rattle.litmus_table.specs.Bounds.{AllAtMost, IsFoundWithin};
 
 use litmus_tokens::LitmusRule;
 use std::alloc::{AllocError, Global};

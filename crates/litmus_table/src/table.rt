@@ -6,7 +6,7 @@ ghost use Rattle.litmus_tokens.specs.Texts.{TokenAt};
 ghost use Rattle.litmus_table.specs.Checks.{IsFoundAt};
 ghost use Rattle.litmus_table.specs.Late.{Note, first_late};
 ghost use Rattle.litmus_table.specs.Laws.{AreNoted, steps_of};
-ghost use Rattle.litmus_table.specs.Within.{AreThreadsUpTo, IsFoundWithin};
+ghost use Rattle.litmus_table.specs.Bounds.{AreThreadsUpTo, IsFoundWithin};
 ghost use Rattle.litmus_table.specs.Reading.{threads_of, expectation_of, table_of, first_steps, Steps};
 
 use crate::late::{LateFault, PlacedThread};
@@ -24,7 +24,7 @@ enum Cell {
     /// After a label.
     Labelled,
     /// Within an instruction.
-    Within(Pending),
+    InInstruction(Pending),
     /// After the word of a branch, with its condition if it has one.
     WantsLabel(Option<BranchCondition>),
     /// After a whole instruction.
@@ -66,7 +66,7 @@ impl Cell {
         match self {
             Cell::Begins => true,
             Cell::Labelled => true,
-            Cell::Within(_) => false,
+            Cell::InInstruction(_) => false,
             Cell::WantsLabel(_) => false,
             Cell::Whole => true,
         }
@@ -77,7 +77,7 @@ impl Cell {
         ensures { result ≡ wanted (expectation_of self.now) }
     {
         match self {
-            Cell::Within(pending) => pending.want(),
+            Cell::InInstruction(pending) => pending.want(),
             _ => None,
         }
     }
@@ -205,7 +205,7 @@ impl Table {
         match &mut self.cell {
             Cell::Begins => self.cell_start(token, offset),
             Cell::Labelled => self.instruction_start(token, offset),
-            Cell::Within(pending) => {
+            Cell::InInstruction(pending) => {
                 pending.take(&token)?;
                 match pending.want() {
                     Some(_) => Ok(()),
@@ -257,7 +257,7 @@ impl Table {
         match opcode {
             Some(Opcode::Data(opcode)) => {
                 self.cell
-                    .go_to(Cell::Within(Pending::new(self.alloc, opcode)));
+                    .go_to(Cell::InInstruction(Pending::new(self.alloc, opcode)));
                 Ok(())
             }
             Some(Opcode::Branch(condition)) => {

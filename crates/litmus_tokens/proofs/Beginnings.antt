@@ -4,7 +4,7 @@ use Rattle.text_values.specs.TestValue.{Formula}
 use Rattle.litmus_tokens.specs.declared.token.Token.{Token}
 use Rattle.litmus_tokens.specs.Faults.{Begins}
 use Rattle.litmus_tokens.specs.Conditions.{Limits}
-use Rattle.litmus_tokens.specs.ConditionMachine.{Frame, Expectation, Wants, StepResult, Goes, Ends, Refuses, proposition_step, whole_at, go_on, proposition}
+use Rattle.litmus_tokens.specs.ConditionMachine.{ConditionFrame, ConditionExpectation, Wants, ConditionStepResult, Goes, Ends, Refuses, proposition_step, whole_at, go_on, proposition}
 use Rattle.litmus_tokens.specs.ConditionLaws.{takes_on, takes, IsPropositionText, TakesWhatBegins}
 use Rattle.litmus_tokens.specs.Texts.{are_none}
 use Rattle.litmus_tokens.proofs.Sound.{sound}
@@ -13,13 +13,13 @@ use Rattle.litmus_tokens.proofs.Finishes.{finishes}
 
 module _ (most : Limits) (threads : ℕ) where
   -- these tokens, and some behind them, end the proposition
-  record GoesOn (fs : List Frame) (used : ℕ) (expected : Expectation) (ts : List Token)
+  record GoesOn (fs : List ConditionFrame) (used : ℕ) (expected : ConditionExpectation) (ts : List Token)
       : Type 0 where
     rest : List Token
     value : Formula
     by : proposition most threads fs used expected (ts ++ rest) ≡ Some value
 
-  goes_on : (ts : List Token) (fs : List Frame) (used : ℕ) (expected : Expectation)
+  goes_on : (ts : List Token) (fs : List ConditionFrame) (used : ℕ) (expected : ConditionExpectation)
       → takes most threads fs used expected ts ≡ true → GoesOn fs used expected ts
   goes_on [] fs used expected e =
       let f = finishes most threads fs used expected in
@@ -32,8 +32,8 @@ module _ (most : Limits) (threads : ℕ) where
       by_end v [] k = ([], v, refl)
       by_end v (u ∷ us) k = absurd cc
 
-      by_result : (x : StepResult) → takes_on (λ gs u h. takes most threads gs u h ts) ts x ≡ true
-          → ((gs : List Frame) (u : ℕ) (h : Expectation) → takes most threads gs u h ts ≡ true
+      by_result : (x : ConditionStepResult) → takes_on (λ gs u h. takes most threads gs u h ts) ts x ≡ true
+          → ((gs : List ConditionFrame) (u : ℕ) (h : ConditionExpectation) → takes most threads gs u h ts ≡ true
           → GoesOn gs u h ts)
           → (rest : List Token) × (w : Formula)
           × (go_on (λ gs u h. proposition most threads gs u h (ts ++ rest)) (ts ++ rest) x
@@ -42,7 +42,7 @@ module _ (most : Limits) (threads : ℕ) where
       by_result (Ends v) k later = by_end v ts k
       by_result Refuses k later = absurd cc
 
-  or_refused : (ts us : List Token) (fs : List Frame) (used : ℕ) (expected : Expectation)
+  or_refused : (ts us : List Token) (fs : List ConditionFrame) (used : ℕ) (expected : ConditionExpectation)
       (v : Formula) → proposition most threads fs used expected (ts ++ us) ≡ Some v
       → takes most threads fs used expected ts ≡ true
   or_refused [] us fs used expected v e = refl
@@ -54,9 +54,9 @@ module _ (most : Limits) (threads : ℕ) where
       by_end w [] k = refl
       by_end w (r ∷ rs) k = absurd cc
 
-      by_result : (x : StepResult)
+      by_result : (x : ConditionStepResult)
           → go_on (λ gs u h. proposition most threads gs u h (ts ++ us)) (ts ++ us) x ≡ Some v
-          → ((gs : List Frame) (u : ℕ) (h : Expectation)
+          → ((gs : List ConditionFrame) (u : ℕ) (h : ConditionExpectation)
           → proposition most threads gs u h (ts ++ us) ≡ Some v
           → takes most threads gs u h ts ≡ true)
           → takes_on (λ gs u h. takes most threads gs u h ts) ts x ≡ true

@@ -9,19 +9,19 @@ use Rattle.litmus_tokens.specs.declared.token.Token.{Token}
 use Rattle.litmus_tokens.specs.declared.token.Token.TheVariants as tokens
 use Rattle.litmus_tokens.specs.declared.token.Mark.TheVariants as marks
 use Rattle.litmus_tokens.specs.Conditions.{FormulaTree, Pair, Prefix, prefix_token, connective_token, spelled, formula_meaning, tightness, IsGrouped, HasAtoms, depth, operators, Limits}
-use Rattle.litmus_tokens.specs.ConditionMachine.{Frame, InGroup, InPrefix, LeftOf, open_count, fold_to}
+use Rattle.litmus_tokens.specs.ConditionMachine.{ConditionFrame, InGroup, InPrefix, LeftOf, open_count, fold_to}
 
 pub data Branch : Type 0 where
   BGroup : Branch
   BPrefix : (tilde : Bool) → Branch
   BLeft : (op : Connective) (a : FormulaTree) → Branch
 
-abbrev pub frame : Branch → Frame
+abbrev pub frame : Branch → ConditionFrame
 frame BGroup = InGroup
 frame (BPrefix tilde) = InPrefix
 frame (BLeft op a) = LeftOf op (formula_meaning a)
 
-abbrev pub frames : List Branch → List Frame
+abbrev pub frames : List Branch → List ConditionFrame
 frames [] = []
 frames (b ∷ bs) = frame b ∷ frames bs
 
@@ -91,7 +91,7 @@ opens-le most threads (BLeft op a ∷ bs) h = omega (arith, h.3)
 
 -- what is still open once everything that binds this tightly is joined
 pub record Folded (most : Limits) (threads l : ℕ) (whole rest : List Token)
-    (p : List Frame × Formula) (used : ℕ) : Type 0 where
+    (p : List ConditionFrame × Formula) (used : ℕ) : Type 0 where
   pub bs : List Branch
   pub t : FormulaTree
   pub is : p ≡ (frames bs, formula_meaning t)

@@ -18,25 +18,25 @@ use Rattle.litmus_tokens.specs.declared.place.PlaceExpectation.TheVariants.{Want
 use Rattle.litmus_tokens.specs.declared.place.WrittenPlace.TheVariants as written
 use Rattle.litmus_tokens.specs.Conditions.{PlaceTree, Location, Register, ValueTree, Number, Address, spelled_place, spelled_value, place_meaning, value_meaning, IsPlaceTree, HasThread, IsValueTree, FormulaTree, Word, Atom, Prefix, Pair, Group, constant_word, connective_token, spelled, formula_meaning, tightness, IsGrouped, HasAtoms, depth, operators, Limits, IsProposition}
 use Rattle.litmus_tokens.specs.PlaceMachine.{register_ends, place_of}
-use Rattle.litmus_tokens.specs.ConditionMachine.{Frame, InGroup, InPrefix, LeftOf, Expectation, Wants, HasConstant, HasNot, InPlace, WantsEquals, WantsValue, Has, StepResult, Goes, Refuses, open_count, fold_to, expected_after_word, expected_after_place, in_place, operand, left_frames, closed, ended, atom_read, go_on, proposition}
+use Rattle.litmus_tokens.specs.ConditionMachine.{ConditionFrame, InGroup, InPrefix, LeftOf, ConditionExpectation, Wants, HasConstant, HasNot, InPlace, WantsEquals, WantsValue, Has, ConditionStepResult, Goes, Refuses, open_count, fold_to, expected_after_word, expected_after_place, in_place, operand, left_frames, closed, ended, atom_read, go_on, proposition}
 use Rattle.litmus_tokens.proofs.Branches.{level-le}
 use Rattle.litmus_tokens.proofs.Places.{place_of_written, value_taken}
 
 -- what stands open, and the operand, once a tree is read
-abbrev pub pending : FormulaTree → List Frame → List Frame × Formula
+abbrev pub pending : FormulaTree → List ConditionFrame → List ConditionFrame × Formula
 pending (Word b) fs = (fs, Constant b)
 pending (Atom p v) fs = (fs, Holds (place_meaning p) (value_meaning v))
 pending (Prefix tilde a) fs = pending a (InPrefix ∷ fs)
 pending (Pair op a b) fs = pending b (LeftOf op (formula_meaning a) ∷ fs)
 pending (Group a) fs = (fs, formula_meaning a)
 
-abbrev pub wanted : List Frame → ℕ
+abbrev pub wanted : List ConditionFrame → ℕ
 wanted [] = 0
 wanted (InGroup ∷ fs) = 0
 wanted (InPrefix ∷ fs) = 4
 wanted (LeftOf op a ∷ fs) = level op
 
-fold_pending : (t : FormulaTree) (fs : List Frame) (l : ℕ) → IsGrouped t → l ≤ tightness t
+fold_pending : (t : FormulaTree) (fs : List ConditionFrame) (l : ℕ) → IsGrouped t → l ≤ tightness t
     → fold_to l (pending t fs).0 (pending t fs).1 ≡ fold_to l fs (formula_meaning t)
 fold_pending (Word b) fs l g h = refl
 fold_pending (Atom p v) fs l g h = refl
@@ -50,7 +50,7 @@ fold_pending (Pair op a b) fs l g h =
 fold_pending (Group a) fs l g h = refl
 
 -- an operator joins nothing where it may stand
-fold_stays : (op : Connective) (fs : List Frame) (v : Formula) → wanted fs ≤ level op
+fold_stays : (op : Connective) (fs : List ConditionFrame) (v : Formula) → wanted fs ≤ level op
     → fold_to (level op + 1) fs v ≡ (fs, v)
 fold_stays op [] v h = refl
 fold_stays op (InGroup ∷ fs) v h = refl
@@ -59,7 +59,7 @@ fold_stays op (LeftOf o a ∷ fs) v h =
     ap (λ (x : Bool). if x then fold_to (level op + 1) fs (Join o a v) else (LeftOf o a ∷ fs, v))
     (lt-leb (level op + 1) (level o) (omega arith))
 
-joins_pending : (op : Connective) (a : FormulaTree) (fs : List Frame) → IsGrouped a
+joins_pending : (op : Connective) (a : FormulaTree) (fs : List ConditionFrame) → IsGrouped a
     → level op + 1 ≤ tightness a → wanted fs ≤ level op
     → left_frames op (fold_to (level op + 1) (pending a fs).0 (pending a fs).1)
     ≡ LeftOf op (formula_meaning a) ∷ fs
@@ -77,33 +77,33 @@ connective_follows connectives.Or ts = tt
 connective_follows connectives.Implies ts = tt
 
 module _ (most : Limits) (threads : ℕ) where
-  abbrev pub run : List Frame → ℕ → Expectation → List Token → Option Formula
+  abbrev pub run : List ConditionFrame → ℕ → ConditionExpectation → List Token → Option Formula
   run fs used expected ts = proposition most threads fs used expected ts
 
-  abbrev pub from : StepResult → List Token → Option Formula
+  abbrev pub from : ConditionStepResult → List Token → Option Formula
   from x ts = go_on (λ gs u k. proposition most threads gs u k ts) ts x
 
-  opened_run : (next : StepResult) (fs : List Frame) (ts : List Token)
+  opened_run : (next : ConditionStepResult) (fs : List ConditionFrame) (ts : List Token)
       → open_count fs < most.nesting
       → from (if nat_lt (open_count fs) most.nesting then next else Refuses) ts ≡ from next ts
   opened_run next fs ts lt =
       ap (λ (x : Bool). from (if x then next else Refuses) ts) (lt-ltb _ _ lt)
 
   -- a word before no equals sign is no location
-  word_drop : (b : Bool) (fs : List Frame) (used : ℕ) (rest : List Token) → CanFollow rest
+  word_drop : (b : Bool) (fs : List ConditionFrame) (used : ℕ) (rest : List Token) → CanFollow rest
       → run fs used (HasConstant b) rest ≡ run fs used (Has (Constant b)) rest
   word_drop b fs used [] c = refl
   word_drop b fs used (tokens.Mark marks.Equals ∷ ts) c = absurd c
   word_drop b fs used (_ ∷ ts) c = refl
 
-  not_token : (t : Token) (fs : List Frame) (used : ℕ) (ts : List Token) → CanFollow (t ∷ [])
+  not_token : (t : Token) (fs : List ConditionFrame) (used : ℕ) (ts : List Token) → CanFollow (t ∷ [])
       → open_count fs < most.nesting
       → run fs used HasNot (t ∷ ts) ≡ run (InPrefix ∷ fs) used Wants (t ∷ ts)
   not_token (tokens.Mark marks.Equals) fs used ts c lt = absurd c
   not_token t fs used ts c lt = opened_run (operand most threads (InPrefix ∷ fs) used t) fs ts lt
 
   -- the word `not` before an operand
-  not_operand : (a : FormulaTree) (fs : List Frame) (used : ℕ) (rest : List Token)
+  not_operand : (a : FormulaTree) (fs : List ConditionFrame) (used : ℕ) (rest : List Token)
       → open_count fs < most.nesting
       → run fs used HasNot (spelled a rest) ≡ run (InPrefix ∷ fs) used Wants (spelled a rest)
   not_operand (Word b) fs used rest lt =
@@ -128,7 +128,7 @@ module _ (most : Limits) (threads : ℕ) where
       not_token (tokens.Mark marks.Open) fs used (spelled a (tokens.Mark marks.Close ∷ rest)) tt lt
 
   -- a word before an equals sign is a location
-  named_run : (w : List ℕ) (fs : List Frame) (used : ℕ) (rest : List Token)
+  named_run : (w : List ℕ) (fs : List ConditionFrame) (used : ℕ) (rest : List Token)
       → run fs used (expected_after_word w) (tokens.Mark marks.Equals ∷ rest)
       ≡ run fs used (WantsValue (places.Location w)) rest
   named_run w fs used rest =
@@ -169,7 +169,7 @@ module _ (most : Limits) (threads : ℕ) where
       first false h = second (bytes_eq w (codes "false")) ((bytes_eq-Decides w (codes "false")).0)
 
   place_run : threads < 18446744073709551616
-      → (p : PlaceTree) (fs : List Frame) (used : ℕ) (rest : List Token) → IsPlaceTree p
+      → (p : PlaceTree) (fs : List ConditionFrame) (used : ℕ) (rest : List Token) → IsPlaceTree p
       → HasThread threads p
       → run fs used Wants (spelled_place p (tokens.Mark marks.Equals ∷ rest))
       ≡ run fs used (WantsValue (place_meaning p)) rest
@@ -191,7 +191,7 @@ module _ (most : Limits) (threads : ℕ) where
       by_register (Some k) e = refl
       by_register None e = absurd cc
 
-  value_run : (v : ValueTree) (p : Place) (fs : List Frame) (used : ℕ) (rest : List Token)
+  value_run : (v : ValueTree) (p : Place) (fs : List ConditionFrame) (used : ℕ) (rest : List Token)
       → IsValueTree v
       → run fs used (WantsValue p) (spelled_value v rest)
       ≡ run fs used (Has (Holds p (value_meaning v))) rest
@@ -201,7 +201,7 @@ module _ (most : Limits) (threads : ℕ) where
   value_run (Address n) p fs used rest i = refl
 
   -- an operator behind an operand
-  joins_run : (op : Connective) (fs : List Frame) (used : ℕ) (v : Formula) (ts : List Token)
+  joins_run : (op : Connective) (fs : List ConditionFrame) (used : ℕ) (v : Formula) (ts : List Token)
       → used < most.operators
       → run fs used (Has v) (connective_token op ∷ ts)
       ≡ run (left_frames op (fold_to (level op + 1) fs v)) (used + 1) Wants ts
@@ -224,13 +224,13 @@ module _ (most : Limits) (threads : ℕ) where
       else Refuses) ts)
       (lt-ltb _ _ lt)
 
-  word_run : (b : Bool) (fs : List Frame) (used : ℕ) (rest : List Token)
+  word_run : (b : Bool) (fs : List ConditionFrame) (used : ℕ) (rest : List Token)
       → run fs used Wants (tokens.Word (constant_word b) ∷ rest) ≡ run fs used (HasConstant b) rest
   word_run true fs used rest = refl
   word_run false fs used rest = refl
 
   pub tree_run : threads < 18446744073709551616
-      → (t : FormulaTree) (fs : List Frame) (used all : ℕ) (rest : List Token) → IsGrouped t
+      → (t : FormulaTree) (fs : List ConditionFrame) (used all : ℕ) (rest : List Token) → IsGrouped t
       → HasAtoms threads t → wanted fs ≤ tightness t → open_count fs + depth t ≤ most.nesting
       → used + operators t ≡ all → all ≤ most.operators → CanFollow rest
       → run fs used Wants (spelled t rest) ≡ run (pending t fs).0 all (Has (pending t fs).1) rest
@@ -256,7 +256,7 @@ module _ (most : Limits) (threads : ℕ) where
       (omega (arith, g.0)) (omega arith) refl (omega arith)
       (connective_follows op (spelled b rest))
       ∙ joins_run op p.0 (used + operators a) p.1 (spelled b rest) (omega arith)
-      ∙ ap (λ (gs : List Frame). run gs (used + operators a + 1) Wants (spelled b rest)) same
+      ∙ ap (λ (gs : List ConditionFrame). run gs (used + operators a + 1) Wants (spelled b rest)) same
       ∙ tree_run few b (LeftOf op (formula_meaning a) ∷ fs) (used + operators a + 1) all rest g.3 h.1 g.1
       (omega arith) (omega arith) m c
   tree_run few (Group a) fs used all rest g h w d u m c =
@@ -264,7 +264,7 @@ module _ (most : Limits) (threads : ℕ) where
       (omega arith)
       ∙ tree_run few a (InGroup ∷ fs) used all (tokens.Mark marks.Close ∷ rest) g h (omega arith)
       (omega arith) u m tt
-      ∙ ap (λ (p : List Frame × Formula). from (closed all p) rest)
+      ∙ ap (λ (p : List ConditionFrame × Formula). from (closed all p) rest)
       (fold_pending a (InGroup ∷ fs) 0 g (omega arith))
 
 -- the machine takes each proposition, and gives what it means
@@ -276,6 +276,6 @@ complete most threads few ts v m =
     ap (proposition most threads [] 0 Wants) m.whole
     ∙ tree_run most threads few m.tree [] 0 (operators m.tree) (tokens.End ∷ []) i.grouped i.atoms
     (omega arith) (let d = i.shallow in omega arith) (omega arith) i.short tt
-    ∙ ap (λ (p : List Frame × Formula). from most threads (ended p) [])
+    ∙ ap (λ (p : List ConditionFrame × Formula). from most threads (ended p) [])
     (fold_pending m.tree [] 0 i.grouped (omega arith))
     ∙ ap Some m.meant

@@ -14,7 +14,7 @@ use Rattle.litmus_tokens.specs.declared.place.PlaceExpectation.TheVariants.{Begi
 use Rattle.litmus_tokens.specs.declared.place.WrittenPlace.TheVariants as written
 use Rattle.litmus_tokens.specs.Conditions.{constant_word, Limits}
 use Rattle.litmus_tokens.specs.PlaceMachine.{place_of}
-use Rattle.litmus_tokens.specs.ConditionMachine.{Frame, InGroup, InPrefix, LeftOf, Expectation, Wants, HasConstant, HasNot, InPlace, WantsEquals, WantsValue, Has, fold_to, closed, ended}
+use Rattle.litmus_tokens.specs.ConditionMachine.{ConditionFrame, InGroup, InPrefix, LeftOf, ConditionExpectation, Wants, HasConstant, HasNot, InPlace, WantsEquals, WantsValue, Has, fold_to, closed, ended}
 use Rattle.litmus_tokens.specs.ConditionLaws.{FinishesFormula}
 use Rattle.litmus_tokens.proofs.Complete.{run, from}
 
@@ -22,7 +22,7 @@ le_zero : (n : ℕ) → nat_le 0 n ≡ true
 le_zero n = grind (arith, nat_tests)
 
 -- the parentheses that are open are closed, and the text ends
-abbrev closers : List Frame → List Token
+abbrev closers : List ConditionFrame → List Token
 closers [] = tokens.End ∷ []
 closers (InGroup ∷ fs) = tokens.Mark marks.Close ∷ closers fs
 closers (InPrefix ∷ fs) = closers fs
@@ -33,24 +33,24 @@ Closes (tokens.End ∷ ts) = Unit {0}
 Closes (tokens.Mark marks.Close ∷ ts) = Unit {0}
 Closes _ = ⊥
 
-closers_close : (fs : List Frame) → Closes (closers fs)
+closers_close : (fs : List ConditionFrame) → Closes (closers fs)
 closers_close [] = tt
 closers_close (InGroup ∷ fs) = tt
 closers_close (InPrefix ∷ fs) = closers_close fs
 closers_close (LeftOf op a ∷ fs) = closers_close fs
 
 module _ (most : Limits) (threads : ℕ) where
-  same_end : (fs gs : List Frame) (used : ℕ) (v w : Formula) (ts : List Token) → Closes ts
+  same_end : (fs gs : List ConditionFrame) (used : ℕ) (v w : Formula) (ts : List Token) → Closes ts
       → fold_to 0 gs v ≡ fold_to 0 fs w
       → run most threads gs used (Has v) ts ≡ run most threads fs used (Has w) ts
   same_end fs gs used v w (tokens.End ∷ ts) c e =
-      ap (λ (p : List Frame × Formula). from most threads (ended p) ts) e
+      ap (λ (p : List ConditionFrame × Formula). from most threads (ended p) ts) e
   same_end fs gs used v w (tokens.Mark marks.Close ∷ ts) c e =
-      ap (λ (p : List Frame × Formula). from most threads (closed used p) ts) e
+      ap (λ (p : List ConditionFrame × Formula). from most threads (closed used p) ts) e
   same_end fs gs used v w [] c e = absurd c
   same_end fs gs used v w (_ ∷ ts) c e = absurd c
 
-  has_finishes : (fs : List Frame) (used : ℕ) (v : Formula)
+  has_finishes : (fs : List ConditionFrame) (used : ℕ) (v : Formula)
       → (w : Formula) × (run most threads fs used (Has v) (closers fs) ≡ Some w)
   has_finishes [] used v = (v, refl)
   has_finishes (InGroup ∷ fs) used v = has_finishes fs used v
@@ -73,20 +73,20 @@ module _ (most : Limits) (threads : ℕ) where
   atom p = Holds p (values.Address letter)
 
   -- an atom's value, and what is open closed
-  abbrev last : List Frame → List Token
+  abbrev last : List ConditionFrame → List Token
   last fs = tokens.Word letter ∷ closers fs
 
-  abbrev equals : List Frame → List Token
+  abbrev equals : List ConditionFrame → List Token
   equals fs = tokens.Mark marks.Equals ∷ last fs
 
   -- these tokens lead to an atom
-  by_atom : (fs : List Frame) (used : ℕ) (expected : Expectation) (p : Place) (ts : List Token)
+  by_atom : (fs : List ConditionFrame) (used : ℕ) (expected : ConditionExpectation) (p : Place) (ts : List Token)
       → run most threads fs used expected ts ≡ run most threads fs used (Has (atom p)) (closers fs)
       → FinishesFormula most threads fs used expected
   by_atom fs used expected p ts e =
       let r = has_finishes fs used (atom p) in record { rest = ts; value = r.0; by = e ∙ r.1 }
 
-  place_finishes : (fs : List Frame) (used : ℕ) (expected : PlaceExpectation)
+  place_finishes : (fs : List ConditionFrame) (used : ℕ) (expected : PlaceExpectation)
       → FinishesFormula most threads fs used (InPlace expected)
   place_finishes fs used Begins =
       by_atom fs used (InPlace Begins) (places.Location letter) (tokens.Word letter ∷ equals fs)
@@ -104,7 +104,7 @@ module _ (most : Limits) (threads : ℕ) where
       by_atom fs used (InPlace (WantsRegister t)) (place_of (written.Register t 0))
       (tokens.Word (codes "r0") ∷ equals fs) refl
 
-  pub finishes : (fs : List Frame) (used : ℕ) (expected : Expectation)
+  pub finishes : (fs : List ConditionFrame) (used : ℕ) (expected : ConditionExpectation)
       → FinishesFormula most threads fs used expected
   finishes fs used Wants =
       by_atom fs used Wants (places.Location letter) (tokens.Word letter ∷ equals fs) refl

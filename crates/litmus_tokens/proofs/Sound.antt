@@ -20,12 +20,12 @@ use Rattle.litmus_tokens.specs.declared.place.PlaceStep.{PlaceStep}
 use Rattle.litmus_tokens.specs.declared.place.PlaceStep.TheVariants as steps
 use Rattle.litmus_tokens.specs.Conditions.{PlaceTree, Location, spelled_place, place_meaning, value_meaning, IsPlaceTree, HasThread, FormulaTree, Word, Atom, Group, constant_word, connective_token, spelled, formula_meaning, tightness, IsGrouped, HasAtoms, depth, operators, Limits, IsFormulaTree, IsProposition}
 use Rattle.litmus_tokens.specs.PlaceMachine.{place_step, place_of, value_read}
-use Rattle.litmus_tokens.specs.ConditionMachine.{Frame, InGroup, InPrefix, Expectation, Wants, HasConstant, HasNot, InPlace, WantsEquals, WantsValue, Has, StepResult, Goes, Ends, Refuses, open_count, fold_to, opened, expected_after_word, expected_after_place, in_place, place_result, operand, left_frames, joins, closed, ended, behind, after_constant, after_not, after_place, atom_read, proposition_step, whole_at, go_on, proposition}
+use Rattle.litmus_tokens.specs.ConditionMachine.{ConditionFrame, InGroup, InPrefix, ConditionExpectation, Wants, HasConstant, HasNot, InPlace, WantsEquals, WantsValue, Has, ConditionStepResult, Goes, Ends, Refuses, open_count, fold_to, opened, expected_after_word, expected_after_place, in_place, place_result, operand, left_frames, joins, closed, ended, behind, after_constant, after_not, after_place, atom_read, proposition_step, whole_at, go_on, proposition}
 use Rattle.litmus_tokens.proofs.Places.{within, StepStands, place_stands, ExpectationThread, WrittenThread, StepThread, place_thread, has_thread, place_of_written, ValueStands, value_stands}
 use Rattle.litmus_tokens.proofs.Branches.{Branch, BGroup, BPrefix, BLeft, frame, frames, before, need, opens, count, Fine, Stops, open_count-frames, level-le, need-le, opens-le, Folded, folded}
 
 -- an operand is wanted here
-pub record Open (most : Limits) (threads : ℕ) (whole rest : List Token) (fs : List Frame) (used : ℕ)
+pub record Open (most : Limits) (threads : ℕ) (whole rest : List Token) (fs : List ConditionFrame) (used : ℕ)
     : Type 0 where
   pub bs : List Branch
   pub is : frames bs ≡ fs
@@ -36,7 +36,7 @@ pub record Open (most : Limits) (threads : ℕ) (whole rest : List Token) (fs : 
 
 -- a place was read, and then these tokens stand before the rest
 pub record AtPlace (most : Limits) (threads : ℕ) (whole : List Token) (rest : List Token)
-    (fs : List Frame) (used : ℕ) (p : Place) : Type 0 where
+    (fs : List ConditionFrame) (used : ℕ) (p : Place) : Type 0 where
   pub tree : PlaceTree
   pub fine : IsPlaceTree tree
   pub thread : HasThread threads tree
@@ -44,7 +44,7 @@ pub record AtPlace (most : Limits) (threads : ℕ) (whole : List Token) (rest : 
   pub here : Open most threads whole (spelled_place tree rest) fs used
 
 -- an operand was read
-pub record Full (most : Limits) (threads : ℕ) (whole rest : List Token) (fs : List Frame) (used : ℕ)
+pub record Full (most : Limits) (threads : ℕ) (whole rest : List Token) (fs : List ConditionFrame) (used : ℕ)
     (v : Formula) : Type 0 where
   pub bs : List Branch
   pub t : FormulaTree
@@ -59,7 +59,7 @@ pub record Full (most : Limits) (threads : ℕ) (whole rest : List Token) (fs : 
   pub short : used ≤ most.operators
   pub whole_is : whole ≡ before bs (spelled t rest)
 
-abbrev pub Stands : Limits → ℕ → List Token → List Token → List Frame → ℕ → Expectation → Type 0
+abbrev pub Stands : Limits → ℕ → List Token → List Token → List ConditionFrame → ℕ → ConditionExpectation → Type 0
 Stands most threads whole rest fs used Wants = Open most threads whole rest fs used
 Stands most threads whole rest fs used (HasConstant b) =
     Open most threads whole (tokens.Word (constant_word b) ∷ rest) fs used
@@ -80,7 +80,7 @@ pub record Ended (most : Limits) (threads : ℕ) (whole rest : List Token) (v : 
   pub means : formula_meaning t ≡ v
   pub whole_is : whole ≡ spelled t rest
 
-abbrev pub ResultStands : Limits → ℕ → List Token → List Token → StepResult → Type 0
+abbrev pub ResultStands : Limits → ℕ → List Token → List Token → ConditionStepResult → Type 0
 ResultStands most threads whole rest (Goes fs used expected) =
     Stands most threads whole rest fs used expected
 ResultStands most threads whole rest (Ends v) = Ended most threads whole (tokens.End ∷ rest) v
@@ -96,7 +96,7 @@ new_need op (BLeft o a ∷ bs) h = omega arith
 module _ (most : Limits) (threads : ℕ) (few : threads < 18446744073709551616) (whole : List Token)
   where
     -- an atom or a word was read
-    single : (t : FormulaTree) (rest : List Token) (fs : List Frame) (used : ℕ) → IsGrouped t
+    single : (t : FormulaTree) (rest : List Token) (fs : List ConditionFrame) (used : ℕ) → IsGrouped t
         → HasAtoms threads t → 5 ≤ tightness t → depth t ≡ 0 → operators t ≡ 0
         → Open most threads whole (spelled t rest) fs used
         → Full most threads whole rest fs used (formula_meaning t)
@@ -106,16 +106,16 @@ module _ (most : Limits) (threads : ℕ) (few : threads < 18446744073709551616) 
         record { bs = o.bs; t = t; is = o.is; means = refl; fine = o.fine; grouped = grouped; atoms = atoms; tight = tight; shallow = omega arith; counted = omega arith; short = o.short; whole_is = o.whole_is }
 
     -- one more is open
-    deeper : (b : Branch) (f : Frame) (rest : List Token) (fs : List Frame) (used : ℕ)
+    deeper : (b : Branch) (f : ConditionFrame) (rest : List Token) (fs : List ConditionFrame) (used : ℕ)
         (bs : List Branch) → frame b ≡ f → frames bs ≡ fs → open_count fs < most.nesting
         → (opens bs < most.nesting → Fine most threads (b ∷ bs)) → count (b ∷ bs) ≡ used
         → used ≤ most.operators → whole ≡ before (b ∷ bs) rest
         → Open most threads whole rest (f ∷ fs) used
     deeper b f rest fs used bs e is lt grown counted short whole_is =
         let n : open_count fs ≡ opens bs = ap open_count (sym is) ∙ open_count-frames bs in
-        record { bs = b ∷ bs; is = ap (λ (g : Frame). g ∷ frames bs) e ∙ ap (λ (gs : List Frame). f ∷ gs) is; fine = grown (omega arith); counted = counted; short = short; whole_is = whole_is }
+        record { bs = b ∷ bs; is = ap (λ (g : ConditionFrame). g ∷ frames bs) e ∙ ap (λ (gs : List ConditionFrame). f ∷ gs) is; fine = grown (omega arith); counted = counted; short = short; whole_is = whole_is }
 
-    opened_stands : (rest : List Token) (fs : List Frame) (next : StepResult)
+    opened_stands : (rest : List Token) (fs : List ConditionFrame) (next : ConditionStepResult)
         → (open_count fs < most.nesting → ResultStands most threads whole rest next)
         → ResultStands most threads whole rest (opened most fs next)
     opened_stands rest fs next h = choose (nat_lt (open_count fs) most.nesting) refl
@@ -125,7 +125,7 @@ module _ (most : Limits) (threads : ℕ) (few : threads < 18446744073709551616) 
         choose true e = h (ltb-true _ _ e)
         choose false e = tt
 
-    word_stands : (w : List ℕ) (rest : List Token) (fs : List Frame) (used : ℕ)
+    word_stands : (w : List ℕ) (rest : List Token) (fs : List ConditionFrame) (used : ℕ)
         → Open most threads whole (tokens.Word w ∷ rest) fs used
         → Stands most threads whole rest fs used (expected_after_word w)
     word_stands w rest fs used o =
@@ -159,7 +159,7 @@ module _ (most : Limits) (threads : ℕ) (few : threads < 18446744073709551616) 
 
     -- a token within a place
     place_result_stands : (expected : PlaceExpectation) (t : Token) (rest : List Token)
-        (fs : List Frame) (used : ℕ) → StepThread threads (place_step expected t)
+        (fs : List ConditionFrame) (used : ℕ) → StepThread threads (place_step expected t)
         → Open most threads whole (within expected (t ∷ rest)) fs used
         → ResultStands most threads whole rest (place_result fs used expected t)
     place_result_stands expected t rest fs used th o =
@@ -181,7 +181,7 @@ module _ (most : Limits) (threads : ℕ) (few : threads < 18446744073709551616) 
             }
         by_step None e k = tt
 
-    operand_stands : (t : Token) (rest : List Token) (fs : List Frame) (used : ℕ)
+    operand_stands : (t : Token) (rest : List Token) (fs : List ConditionFrame) (used : ℕ)
         → Open most threads whole (t ∷ rest) fs used
         → ResultStands most threads whole rest (operand most threads fs used t)
     operand_stands (tokens.Word w) rest fs used o = word_stands w rest fs used o
@@ -203,18 +203,18 @@ module _ (most : Limits) (threads : ℕ) (few : threads < 18446744073709551616) 
     operand_stands _ rest fs used o = tt
 
     -- what is open once everything that binds this tightly is joined
-    folded_full : (l : ℕ) (rest : List Token) (fs : List Frame) (used : ℕ) (v : Formula) → l ≤ 4
+    folded_full : (l : ℕ) (rest : List Token) (fs : List ConditionFrame) (used : ℕ) (v : Formula) → l ≤ 4
         → Full most threads whole rest fs used v
         → Folded most threads l whole rest (fold_to l fs v) used
     folded_full l rest fs used v low f =
         let at_tree = folded most threads l whole rest used f.bs f.t low (let h = f.tight in omega arith) f.fine f.grouped f.atoms (let h = f.tight in let n = need-le f.bs in omega arith) f.shallow f.counted f.whole_is in
-        subst (λ (g : List Frame). Folded most threads l whole rest (fold_to l g v) used) f.is
+        subst (λ (g : List ConditionFrame). Folded most threads l whole rest (fold_to l g v) used) f.is
         (subst
         (λ (w : Formula). Folded most threads l whole rest (fold_to l (frames f.bs) w) used)
         f.means at_tree)
 
     -- an operator was read
-    joins_stands : (op : Connective) (rest : List Token) (fs : List Frame) (used : ℕ) (v : Formula)
+    joins_stands : (op : Connective) (rest : List Token) (fs : List ConditionFrame) (used : ℕ) (v : Formula)
         → Full most threads whole (connective_token op ∷ rest) fs used v
         → ResultStands most threads whole rest (joins most fs used v op)
     joins_stands op rest fs used v f = choose (nat_lt used most.operators) refl
@@ -230,11 +230,11 @@ module _ (most : Limits) (threads : ℕ) (few : threads < 18446744073709551616) 
             record { bs = BLeft op d.t ∷ d.bs; is = sym (ap (left_frames op) d.is); fine = (d.grouped, d.tight, new_need op d.bs d.stops, d.shallow, d.atoms, d.fine); counted = (let h = d.counted in omega arith); short = omega arith; whole_is = d.whole_is }
         choose false e = tt
 
-    ended_stands : (rest : List Token) (used : ℕ) (p : List Frame × Formula) → used ≤ most.operators
+    ended_stands : (rest : List Token) (used : ℕ) (p : List ConditionFrame × Formula) → used ≤ most.operators
         → Folded most threads 0 whole (tokens.End ∷ rest) p used
         → ResultStands most threads whole rest (ended p)
     ended_stands rest used p short d =
-        subst (λ (q : List Frame × Formula). ResultStands most threads whole rest (ended q))
+        subst (λ (q : List ConditionFrame × Formula). ResultStands most threads whole rest (ended q))
         (sym d.is) (by_branches d.bs d.shallow d.counted d.whole_is)
       where
         by_branches : (bs : List Branch) → opens bs + depth d.t ≤ most.nesting
@@ -244,12 +244,12 @@ module _ (most : Limits) (threads : ℕ) (few : threads < 18446744073709551616) 
             record { t = d.t; is = record { grouped = d.grouped; atoms = d.atoms; shallow = omega arith; short = omega arith }; means = refl; whole_is = is }
         by_branches (b ∷ bs) shallow counted is = tt
 
-    closed_stands : (rest : List Token) (used : ℕ) (p : List Frame × Formula)
+    closed_stands : (rest : List Token) (used : ℕ) (p : List ConditionFrame × Formula)
         → used ≤ most.operators
         → Folded most threads 0 whole (tokens.Mark marks.Close ∷ rest) p used
         → ResultStands most threads whole rest (closed used p)
     closed_stands rest used p short d =
-        subst (λ (q : List Frame × Formula). ResultStands most threads whole rest (closed used q))
+        subst (λ (q : List ConditionFrame × Formula). ResultStands most threads whole rest (closed used q))
         (sym d.is) (by_branches d.bs d.fine d.shallow d.counted d.whole_is)
       where
         by_branches : (bs : List Branch) → Fine most threads bs
@@ -263,7 +263,7 @@ module _ (most : Limits) (threads : ℕ) (few : threads < 18446744073709551616) 
         by_branches (BPrefix tilde ∷ bs) fine shallow counted is = tt
         by_branches (BLeft op a ∷ bs) fine shallow counted is = tt
 
-    behind_stands : (t : Token) (rest : List Token) (fs : List Frame) (used : ℕ) (v : Formula)
+    behind_stands : (t : Token) (rest : List Token) (fs : List ConditionFrame) (used : ℕ) (v : Formula)
         → Full most threads whole (t ∷ rest) fs used v
         → ResultStands most threads whole rest (behind most fs used v t)
     behind_stands (tokens.Mark marks.And) rest fs used v f =
@@ -281,13 +281,13 @@ module _ (most : Limits) (threads : ℕ) (few : threads < 18446744073709551616) 
     behind_stands _ rest fs used v f = tt
 
     -- a word before an equals sign is a location
-    named : (w : List ℕ) (rest : List Token) (fs : List Frame) (used : ℕ)
+    named : (w : List ℕ) (rest : List Token) (fs : List ConditionFrame) (used : ℕ)
         → Open most threads whole (tokens.Word w ∷ tokens.Mark marks.Equals ∷ rest) fs used
         → AtPlace most threads whole (tokens.Mark marks.Equals ∷ rest) fs used (places.Location w)
     named w rest fs used o =
         record { tree = Location false w; fine = tt; thread = tt; means = refl; here = o }
 
-    constant_stands : (t : Token) (rest : List Token) (fs : List Frame) (used : ℕ) (b : Bool)
+    constant_stands : (t : Token) (rest : List Token) (fs : List ConditionFrame) (used : ℕ) (b : Bool)
         → Open most threads whole (tokens.Word (constant_word b) ∷ t ∷ rest) fs used
         → ResultStands most threads whole rest (after_constant most fs used b t)
     constant_stands (tokens.Mark marks.Equals) rest fs used b o =
@@ -296,7 +296,7 @@ module _ (most : Limits) (threads : ℕ) (few : threads < 18446744073709551616) 
         behind_stands t rest fs used (Constant b) (single (Word b) (t ∷ rest) fs used tt tt
         (omega arith) refl refl o)
 
-    not_stands : (t : Token) (rest : List Token) (fs : List Frame) (used : ℕ)
+    not_stands : (t : Token) (rest : List Token) (fs : List ConditionFrame) (used : ℕ)
         → Open most threads whole (tokens.Word (codes "not") ∷ t ∷ rest) fs used
         → ResultStands most threads whole rest (after_not most threads fs used t)
     not_stands (tokens.Mark marks.Equals) rest fs used o = named (codes "not") rest fs used o
@@ -306,13 +306,13 @@ module _ (most : Limits) (threads : ℕ) (few : threads < 18446744073709551616) 
         (t ∷ rest)
         fs used o.bs refl o.is lt (λ h. (h, o.fine)) o.counted o.short o.whole_is))
 
-    equals_stands : (t : Token) (rest : List Token) (fs : List Frame) (used : ℕ) (p : Place)
+    equals_stands : (t : Token) (rest : List Token) (fs : List ConditionFrame) (used : ℕ) (p : Place)
         → AtPlace most threads whole (t ∷ rest) fs used p
         → ResultStands most threads whole rest (after_place fs used p t)
     equals_stands (tokens.Mark marks.Equals) rest fs used p a = a
     equals_stands _ rest fs used p a = tt
 
-    atom_stands : (t : Token) (rest : List Token) (fs : List Frame) (used : ℕ) (p : Place)
+    atom_stands : (t : Token) (rest : List Token) (fs : List ConditionFrame) (used : ℕ) (p : Place)
         → AtPlace most threads whole (tokens.Mark marks.Equals ∷ t ∷ rest) fs used p
         → ResultStands most threads whole rest (atom_read fs used p (value_read t))
     atom_stands t rest fs used p a = by_value (value_read t) (value_stands t rest)
@@ -326,8 +326,8 @@ module _ (most : Limits) (threads : ℕ) (few : threads < 18446744073709551616) 
             (ap (λ (q : Place). Holds q (value_meaning r.tree)) a.means ∙ ap (Holds p) r.means) f
         by_value None r = tt
 
-    pub step_stands : (t : Token) (rest : List Token) (fs : List Frame) (used : ℕ)
-        (expected : Expectation) → Stands most threads whole (t ∷ rest) fs used expected
+    pub step_stands : (t : Token) (rest : List Token) (fs : List ConditionFrame) (used : ℕ)
+        (expected : ConditionExpectation) → Stands most threads whole (t ∷ rest) fs used expected
         → ResultStands most threads whole rest (proposition_step most threads fs used expected t)
     step_stands t rest fs used Wants h = operand_stands t rest fs used h
     step_stands t rest fs used (HasConstant b) h = constant_stands t rest fs used b h
@@ -338,7 +338,7 @@ module _ (most : Limits) (threads : ℕ) (few : threads < 18446744073709551616) 
     step_stands t rest fs used (WantsValue p) h = atom_stands t rest fs used p h
     step_stands t rest fs used (Has v) h = behind_stands t rest fs used v h
 
-    pub run_stands : (ts : List Token) (fs : List Frame) (used : ℕ) (expected : Expectation)
+    pub run_stands : (ts : List Token) (fs : List ConditionFrame) (used : ℕ) (expected : ConditionExpectation)
         (v : Formula) → Stands most threads whole ts fs used expected
         → proposition most threads fs used expected ts ≡ Some v
         → Ended most threads whole (tokens.End ∷ []) v
@@ -354,9 +354,9 @@ module _ (most : Limits) (threads : ℕ) (few : threads < 18446744073709551616) 
             subst (λ (y : Formula). Ended most threads whole (tokens.End ∷ []) y) same x
         by_end w (u ∷ us) x e' = absurd cc
 
-        by_result : (x : StepResult) → ResultStands most threads whole ts x
+        by_result : (x : ConditionStepResult) → ResultStands most threads whole ts x
             → go_on (λ gs u k. proposition most threads gs u k ts) ts x ≡ Some v
-            → ((gs : List Frame) (u : ℕ) (k : Expectation) → Stands most threads whole ts gs u k
+            → ((gs : List ConditionFrame) (u : ℕ) (k : ConditionExpectation) → Stands most threads whole ts gs u k
             → proposition most threads gs u k ts ≡ Some v
             → Ended most threads whole (tokens.End ∷ []) v)
             → Ended most threads whole (tokens.End ∷ []) v

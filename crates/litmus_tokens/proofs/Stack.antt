@@ -16,7 +16,7 @@ use Rattle.litmus_tokens.specs.Conditions.{limits}
 use Rattle.litmus_tokens.specs.ConditionMachine as machine
 use Rattle.litmus_tokens.specs.ConditionReading.{frame_of, stacked, stack_of, is_open, StepsTo}
 
-stacked-push : (fs : List code_frame.Frame) (f : code_frame.Frame) (below : List machine.Frame)
+stacked-push : (fs : List code_frame.Frame) (f : code_frame.Frame) (below : List machine.ConditionFrame)
     → stacked (fs ++ f ∷ []) below ≡ frame_of f ∷ stacked fs below
 stacked-push [] f below = refl
 stacked-push (g ∷ fs) f below = stacked-push fs f (frame_of g ∷ below)
@@ -26,13 +26,13 @@ pub stack_of-push : (fs : List code_frame.Frame) (f : code_frame.Frame)
 stack_of-push fs f = stacked-push fs f []
 
 -- one turn of joining: the frame that was popped decides
-module _ (l : ℕ) (start : List machine.Frame × Formula) (items rest : List code_frame.Frame)
+module _ (l : ℕ) (start : List machine.ConditionFrame × Formula) (items rest : List code_frame.Frame)
     (v : Formula) (so_far : start ≡ machine.fold_to l (stack_of items) v) where
   popped : (f : code_frame.Frame) → items ≡ rest ++ f ∷ []
       → start ≡ machine.fold_to l (frame_of f ∷ stack_of rest) v
   popped f e =
       so_far
-      ∙ ap (λ (fs : List machine.Frame). machine.fold_to l fs v)
+      ∙ ap (λ (fs : List machine.ConditionFrame). machine.fold_to l fs v)
       (ap stack_of e ∙ stack_of-push rest f)
 
   pub popped_prefix : (f : code_frame.Frame) → items ≡ rest ++ f ∷ [] → f ≡ frames.Prefix
@@ -71,7 +71,7 @@ module _ (l : ℕ) (start : List machine.Frame × Formula) (items rest : List co
       (λ (x : Bool). if x then machine.fold_to l (stack_of rest) (Join op (formula_of a) v)
       else (machine.LeftOf op (formula_of a) ∷ stack_of rest, v))
       (lt-leb l (level op) lt)
-      ∙ sym (ap (λ (fs : List machine.Frame). (fs, v))
+      ∙ sym (ap (λ (fs : List machine.ConditionFrame). (fs, v))
       (ap stack_of pushed ∙ stack_of-push rest (frames.Left op a)))
 
   -- a parenthesis stays
@@ -81,10 +81,10 @@ module _ (l : ℕ) (start : List machine.Frame × Formula) (items rest : List co
   popped_group f e is after pushed =
       popped f e
       ∙ ap (λ (h : code_frame.Frame). machine.fold_to l (frame_of h ∷ stack_of rest) v) is
-      ∙ sym (ap (λ (fs : List machine.Frame). (fs, v))
+      ∙ sym (ap (λ (fs : List machine.ConditionFrame). (fs, v))
       (ap stack_of pushed ∙ stack_of-push rest frames.Group))
 
-open_count-stacked : (fs : List code_frame.Frame) (below : List machine.Frame)
+open_count-stacked : (fs : List code_frame.Frame) (below : List machine.ConditionFrame)
     → machine.open_count (stacked fs below) ≡ count_by is_open fs + machine.open_count below
 open_count-stacked [] below = omega arith
 open_count-stacked (frames.Group ∷ fs) below =
@@ -112,7 +112,7 @@ opened_below fs all f used e lt =
     (λ (x : Bool). if x then machine.Goes (frame_of f ∷ stack_of fs) used machine.Wants
     else machine.Refuses)
     (lt-ltb _ _ lt)
-    ∙ ap (λ (gs : List machine.Frame). machine.Goes gs used machine.Wants)
+    ∙ ap (λ (gs : List machine.ConditionFrame). machine.Goes gs used machine.Wants)
     (sym (ap stack_of e ∙ stack_of-push fs f))
 
 -- an operand behind the word `not`
@@ -130,7 +130,7 @@ not_result threads fs all used t r other e lt h =
     (machine.WantsValue (places.Location (codes "not")))
     else machine.opened limits (stack_of fs) here) other
     ∙ ap (λ (x : Bool). if x then here else machine.Refuses) (lt-ltb _ _ lt)
-    ∙ ap (λ (gs : List machine.Frame). machine.operand limits threads gs used t)
+    ∙ ap (λ (gs : List machine.ConditionFrame). machine.operand limits threads gs used t)
     (sym (ap stack_of e ∙ stack_of-push fs frames.Prefix)) in
     subst (StepsTo r) (sym same) h
 
@@ -153,20 +153,20 @@ joins_below fs middle all op n used v left same folded e lt =
     (used + 1) machine.Wants)
     (sym same)
     ∙ ap
-    (λ (p : List machine.Frame × Formula).
+    (λ (p : List machine.ConditionFrame × Formula).
     machine.Goes (machine.left_frames op p) (used + 1) machine.Wants) folded
-    ∙ ap (λ (gs : List machine.Frame). machine.Goes gs (used + 1) machine.Wants)
+    ∙ ap (λ (gs : List machine.ConditionFrame). machine.Goes gs (used + 1) machine.Wants)
     (sym (ap stack_of e ∙ stack_of-push middle (frames.Left op left)))
 
 -- the outermost of what is open, once everything is joined
-pub popped_of : (p : List machine.Frame × Formula) (all rest : List code_frame.Frame)
+pub popped_of : (p : List machine.ConditionFrame × Formula) (all rest : List code_frame.Frame)
     (f : code_frame.Frame) (v : Formula) → p ≡ (stack_of all, v) → all ≡ rest ++ f ∷ []
     → p ≡ (frame_of f ∷ stack_of rest, v)
 popped_of p all rest f v e split =
-    e ∙ ap (λ (fs : List machine.Frame). (fs, v)) (ap stack_of split ∙ stack_of-push rest f)
+    e ∙ ap (λ (fs : List machine.ConditionFrame). (fs, v)) (ap stack_of split ∙ stack_of-push rest f)
 
 -- a proposition does not end where something is open
-pub refused_of : (p : List machine.Frame × Formula) (all rest : List code_frame.Frame)
+pub refused_of : (p : List machine.ConditionFrame × Formula) (all rest : List code_frame.Frame)
     (f : code_frame.Frame) (v : Formula) → p ≡ (stack_of all, v) → all ≡ rest ++ f ∷ []
     → machine.ended p ≡ machine.Refuses
 refused_of p all rest f v e split = ap machine.ended (popped_of p all rest f v e split)

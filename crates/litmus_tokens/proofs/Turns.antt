@@ -7,9 +7,9 @@ use Rattle.std.proofs.lemmas.Bool.Decides.{nat_tests}
 use Rattle.memchr.specs.Find.{IsFirstByte, is_byte}
 use Rattle.text_values.specs.Layout.{comment_of}
 use Rattle.text_values.proofs.Bytes.{first_found, none_found}
-use Rattle.litmus_tokens.specs.declared.lexer.Front.TheVariants.{Lexeme}
+use Rattle.litmus_tokens.specs.declared.lexer.NextLexeme.TheVariants.{Lexeme}
 use Rattle.litmus_tokens.specs.declared.token.Token.TheVariants.{Bad, Keyline}
-use Rattle.litmus_tokens.specs.Lexer.{ends_raw, raw_from, is_space, begins_comment, over, gap_from, is_not_ascii, is_equals, line_front}
+use Rattle.litmus_tokens.specs.Lexer.{ends_raw, raw_from, is_space, begins_comment, over, gap_from, is_not_ascii, is_equals, line_lexeme}
 
 -- ---- a word of the two that a text begins with
 
@@ -165,7 +165,7 @@ holds_none : {A : Type 0} (p n : ℕ) (a b : A) → n ≡ p → (if p == n then 
 holds_none p n a b e = grind (arith, nat_tests)
 
 pub keyline : (line : List ℕ) (at : ℕ) → IsFirstByte (is_byte 61) line (Some at)
-    → line_front line ≡ Lexeme Keyline (position_or_len is_not_ascii line)
+    → line_lexeme line ≡ Lexeme Keyline (position_or_len is_not_ascii line)
 keyline line at h =
     let found = first_found 61 line at h in
     let n = h.0 in
@@ -174,7 +174,7 @@ keyline line at h =
     (Lexeme Keyline (position_or_len is_not_ascii line)) (omega arith)
 
 pub no_keyline : (line : List ℕ) → IsFirstByte (is_byte 61) line None
-    → line_front line ≡ Lexeme Bad 1
+    → line_lexeme line ≡ Lexeme Bad 1
 no_keyline line h =
     holds_none (position_or_len is_equals line) (length line) (Lexeme Bad 1)
     (Lexeme Keyline (position_or_len is_not_ascii line)) (none_found 61 line h)

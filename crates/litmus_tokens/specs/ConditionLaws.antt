@@ -5,22 +5,22 @@ use Rattle.litmus_tokens.specs.declared.token.Token.{Token}
 use Rattle.litmus_tokens.specs.Faults.{Begins}
 use Rattle.litmus_tokens.specs.Texts.{are_none}
 use Rattle.litmus_tokens.specs.Conditions.{Limits, IsProposition}
-use Rattle.litmus_tokens.specs.ConditionMachine.{Frame, Expectation, Wants, StepResult, Goes, Ends, Refuses, proposition_step, proposition}
+use Rattle.litmus_tokens.specs.ConditionMachine.{ConditionFrame, ConditionExpectation, Wants, ConditionStepResult, Goes, Ends, Refuses, proposition_step, proposition}
 
 -- some tokens end the proposition that was begun
-pub record FinishesFormula (most : Limits) (threads : ℕ) (frames : List Frame) (used : ℕ)
-    (expected : Expectation) : Type 0 where
+pub record FinishesFormula (most : Limits) (threads : ℕ) (frames : List ConditionFrame) (used : ℕ)
+    (expected : ConditionExpectation) : Type 0 where
   pub rest : List Token
   pub value : Formula
   pub by : proposition most threads frames used expected rest ≡ Some value
 
-abbrev pub takes_on : (List Frame → ℕ → Expectation → Bool) → List Token → StepResult → Bool
+abbrev pub takes_on : (List ConditionFrame → ℕ → ConditionExpectation → Bool) → List Token → ConditionStepResult → Bool
 takes_on later ts (Goes fs used expected) = later fs used expected
 takes_on later ts (Ends v) = are_none ts
 takes_on later ts Refuses = false
 
 -- whether each of these tokens is taken, one after another
-abbrev pub takes : Limits → ℕ → List Frame → ℕ → Expectation → List Token → Bool
+abbrev pub takes : Limits → ℕ → List ConditionFrame → ℕ → ConditionExpectation → List Token → Bool
 takes most threads fs used expected [] = true
 takes most threads fs used expected (t ∷ ts) =
     takes_on (λ gs u h. takes most threads gs u h ts) ts

@@ -20,35 +20,35 @@ use Rattle.litmus_tokens.specs.Conditions.{Limits, constant_word}
 use Rattle.litmus_tokens.specs.PlaceMachine.{place_step, place_of, value_read}
 
 -- what stands open to the left, the innermost first
-pub data Frame : Type 0 where
-  InGroup : Frame
-  InPrefix : Frame
-  LeftOf : (op : Connective) (a : Formula) → Frame
+pub data ConditionFrame : Type 0 where
+  InGroup : ConditionFrame
+  InPrefix : ConditionFrame
+  LeftOf : (op : Connective) (a : Formula) → ConditionFrame
 
 -- what was read last: nothing, a word that may be a location, a part of an atom, or an operand
-pub data Expectation : Type 0 where
-  Wants : Expectation
-  HasConstant : (b : Bool) → Expectation
-  HasNot : Expectation
-  InPlace : (within : PlaceExpectation) → Expectation
-  WantsEquals : (place : Place) → Expectation
-  WantsValue : (place : Place) → Expectation
-  Has : (a : Formula) → Expectation
+pub data ConditionExpectation : Type 0 where
+  Wants : ConditionExpectation
+  HasConstant : (b : Bool) → ConditionExpectation
+  HasNot : ConditionExpectation
+  InPlace : (within : PlaceExpectation) → ConditionExpectation
+  WantsEquals : (place : Place) → ConditionExpectation
+  WantsValue : (place : Place) → ConditionExpectation
+  Has : (a : Formula) → ConditionExpectation
 
 -- what a token does
-pub data StepResult : Type 0 where
-  Goes : (frames : List Frame) (used : ℕ) (expected : Expectation) → StepResult
-  Ends : (a : Formula) → StepResult
-  Refuses : StepResult
+pub data ConditionStepResult : Type 0 where
+  Goes : (frames : List ConditionFrame) (used : ℕ) (expected : ConditionExpectation) → ConditionStepResult
+  Ends : (a : Formula) → ConditionStepResult
+  Refuses : ConditionStepResult
 
-abbrev pub open_count : List Frame → ℕ
+abbrev pub open_count : List ConditionFrame → ℕ
 open_count [] = 0
 open_count (InGroup ∷ fs) = open_count fs + 1
 open_count (InPrefix ∷ fs) = open_count fs + 1
 open_count (LeftOf op a ∷ fs) = open_count fs
 
 -- joins what binds at least this tightly
-abbrev pub fold_to : ℕ → List Frame → Formula → List Frame × Formula
+abbrev pub fold_to : ℕ → List ConditionFrame → Formula → List ConditionFrame × Formula
 fold_to l [] v = ([], v)
 fold_to l (InGroup ∷ fs) v = (InGroup ∷ fs, v)
 fold_to l (InPrefix ∷ fs) v = fold_to l fs (Not v)
@@ -56,29 +56,29 @@ fold_to l (LeftOf op a ∷ fs) v =
     if nat_le l (level op) then fold_to l fs (Join op a v) else (LeftOf op a ∷ fs, v)
 
 -- goes on where one more may be open
-abbrev pub opened : Limits → List Frame → StepResult → StepResult
+abbrev pub opened : Limits → List ConditionFrame → ConditionStepResult → ConditionStepResult
 opened most fs next = if nat_lt (open_count fs) most.nesting then next else Refuses
 
-abbrev pub expected_after_word : List ℕ → Expectation
+abbrev pub expected_after_word : List ℕ → ConditionExpectation
 expected_after_word w =
     if bytes_eq w (codes "true") then HasConstant true else (
     if bytes_eq w (codes "false") then HasConstant false else (
     if bytes_eq w (codes "not") then HasNot else WantsEquals (places.Location w)))
 
-abbrev pub expected_after_place : Option PlaceStep → Option Expectation
+abbrev pub expected_after_place : Option PlaceStep → Option ConditionExpectation
 expected_after_place (Some (steps.Goes within)) = Some (InPlace within)
 expected_after_place (Some (steps.Ends written)) = Some (WantsEquals (place_of written))
 expected_after_place None = None
 
-abbrev pub in_place : List Frame → ℕ → Option Expectation → StepResult
+abbrev pub in_place : List ConditionFrame → ℕ → Option ConditionExpectation → ConditionStepResult
 in_place fs used (Some expected) = Goes fs used expected
 in_place fs used None = Refuses
 
-abbrev pub place_result : List Frame → ℕ → PlaceExpectation → Token → StepResult
+abbrev pub place_result : List ConditionFrame → ℕ → PlaceExpectation → Token → ConditionStepResult
 place_result fs used within t = in_place fs used (expected_after_place (place_step within t))
 
 -- a token where an operand is wanted, in a test of so many threads
-abbrev pub operand : Limits → ℕ → List Frame → ℕ → Token → StepResult
+abbrev pub operand : Limits → ℕ → List ConditionFrame → ℕ → Token → ConditionStepResult
 operand most threads fs used (tokens.Word w) = Goes fs used (expected_after_word w)
 operand most threads fs used (tokens.Mark marks.Tilde) =
     opened most fs (Goes (InPrefix ∷ fs) used Wants)
@@ -89,25 +89,25 @@ operand most threads fs used (tokens.Number false t) =
     if nat_lt (decimal t) threads then Goes fs used (InPlace (WantsColon t)) else Refuses
 operand most threads fs used t = Refuses
 
-abbrev pub left_frames : Connective → List Frame × Formula → List Frame
+abbrev pub left_frames : Connective → List ConditionFrame × Formula → List ConditionFrame
 left_frames op p = LeftOf op p.1 ∷ p.0
 
-abbrev pub joins : Limits → List Frame → ℕ → Formula → Connective → StepResult
+abbrev pub joins : Limits → List ConditionFrame → ℕ → Formula → Connective → ConditionStepResult
 joins most fs used v op =
     if nat_lt used most.operators then Goes (left_frames op (fold_to (level op + 1) fs v))
     (used + 1) Wants
     else Refuses
 
-abbrev pub closed : ℕ → List Frame × Formula → StepResult
+abbrev pub closed : ℕ → List ConditionFrame × Formula → ConditionStepResult
 closed used (InGroup ∷ fs, v) = Goes fs used (Has v)
 closed used (fs, v) = Refuses
 
-abbrev pub ended : List Frame × Formula → StepResult
+abbrev pub ended : List ConditionFrame × Formula → ConditionStepResult
 ended ([], v) = Ends v
 ended (f ∷ fs, v) = Refuses
 
 -- a token behind an operand
-abbrev pub behind : Limits → List Frame → ℕ → Formula → Token → StepResult
+abbrev pub behind : Limits → List ConditionFrame → ℕ → Formula → Token → ConditionStepResult
 behind most fs used v (tokens.Mark marks.And) = joins most fs used v connectives.And
 behind most fs used v (tokens.Mark marks.Or) = joins most fs used v connectives.Or
 behind most fs used v (tokens.Mark marks.Implies) = joins most fs used v connectives.Implies
@@ -120,26 +120,26 @@ is_equals (tokens.Mark marks.Equals) = true
 is_equals t = false
 
 -- a token behind the word `true` or `false`
-abbrev pub after_constant : Limits → List Frame → ℕ → Bool → Token → StepResult
+abbrev pub after_constant : Limits → List ConditionFrame → ℕ → Bool → Token → ConditionStepResult
 after_constant most fs used b t =
     if is_equals t then Goes fs used (WantsValue (places.Location (constant_word b)))
     else behind most fs used (Constant b) t
 
 -- a token behind the word `not`
-abbrev pub after_not : Limits → ℕ → List Frame → ℕ → Token → StepResult
+abbrev pub after_not : Limits → ℕ → List ConditionFrame → ℕ → Token → ConditionStepResult
 after_not most threads fs used t =
     if is_equals t then Goes fs used (WantsValue (places.Location (codes "not")))
     else opened most fs (operand most threads (InPrefix ∷ fs) used t)
 
-abbrev pub after_place : List Frame → ℕ → Place → Token → StepResult
+abbrev pub after_place : List ConditionFrame → ℕ → Place → Token → ConditionStepResult
 after_place fs used p t = if is_equals t then Goes fs used (WantsValue p) else Refuses
 
-abbrev pub atom_read : List Frame → ℕ → Place → Option declared_value.Value → StepResult
+abbrev pub atom_read : List ConditionFrame → ℕ → Place → Option declared_value.Value → ConditionStepResult
 atom_read fs used p (Some v) = Goes fs used (Has (Holds p v))
 atom_read fs used p None = Refuses
 
 -- a token of a proposition, of which these frames are open and this many operators were read
-abbrev pub proposition_step : Limits → ℕ → List Frame → ℕ → Expectation → Token → StepResult
+abbrev pub proposition_step : Limits → ℕ → List ConditionFrame → ℕ → ConditionExpectation → Token → ConditionStepResult
 proposition_step most threads fs used Wants t = operand most threads fs used t
 proposition_step most threads fs used (HasConstant b) t = after_constant most fs used b t
 proposition_step most threads fs used HasNot t = after_not most threads fs used t
@@ -152,14 +152,14 @@ abbrev pub whole_at : Formula → List Token → Option Formula
 whole_at v [] = Some v
 whole_at v (t ∷ ts) = None
 
-abbrev pub go_on : (List Frame → ℕ → Expectation → Option Formula) → List Token → StepResult
+abbrev pub go_on : (List ConditionFrame → ℕ → ConditionExpectation → Option Formula) → List Token → ConditionStepResult
     → Option Formula
 go_on later ts (Goes fs used expected) = later fs used expected
 go_on later ts (Ends v) = whole_at v ts
 go_on later ts Refuses = None
 
 -- what all these tokens, from here on, make the proposition be, if they end it
-abbrev pub proposition : Limits → ℕ → List Frame → ℕ → Expectation → List Token → Option Formula
+abbrev pub proposition : Limits → ℕ → List ConditionFrame → ℕ → ConditionExpectation → List Token → Option Formula
 proposition most threads fs used expected [] = None
 proposition most threads fs used expected (t ∷ ts) =
     go_on (λ gs u h. proposition most threads gs u h ts) ts

@@ -11,20 +11,20 @@ use Rattle.litmus_tokens.specs.declared.condition.PropositionStep as code_step
 use Rattle.litmus_tokens.specs.declared.condition.PropositionStep.TheVariants as code_steps
 use Rattle.litmus_tokens.specs.ConditionMachine as machine
 
-abbrev pub frame_of : code_frame.Frame → machine.Frame
+abbrev pub frame_of : code_frame.Frame → machine.ConditionFrame
 frame_of frames.Group = machine.InGroup
 frame_of frames.Prefix = machine.InPrefix
 frame_of (frames.Left op a) = machine.LeftOf op (formula_of a)
 
 -- the frames, the innermost first
-abbrev pub stacked : List code_frame.Frame → List machine.Frame → List machine.Frame
+abbrev pub stacked : List code_frame.Frame → List machine.ConditionFrame → List machine.ConditionFrame
 stacked [] below = below
 stacked (f ∷ fs) below = stacked fs (frame_of f ∷ below)
 
-abbrev pub stack_of : List code_frame.Frame → List machine.Frame
+abbrev pub stack_of : List code_frame.Frame → List machine.ConditionFrame
 stack_of fs = stacked fs []
 
-abbrev pub expectation_of : code_expectation.Expectation → machine.Expectation
+abbrev pub expectation_of : code_expectation.Expectation → machine.ConditionExpectation
 expectation_of expectations.Wants = machine.Wants
 expectation_of (expectations.HasConstant b) = machine.HasConstant b
 expectation_of expectations.HasNot = machine.HasNot
@@ -34,7 +34,7 @@ expectation_of (expectations.WantsValue p) = machine.WantsValue p
 expectation_of (expectations.Has a) = machine.Has (formula_of a)
 
 -- what a token did is what the machine does, unless memory ran out
-abbrev pub StepsTo : Result code_step.PropositionStep StepError → machine.StepResult → Type 0
+abbrev pub StepsTo : Result code_step.PropositionStep StepError → machine.ConditionStepResult → Type 0
 StepsTo (Ok (code_steps.Goes fs used expected)) made =
     made ≡ machine.Goes (stack_of fs.items) used (expectation_of expected)
 StepsTo (Ok (code_steps.Ends v)) made = made ≡ machine.Ends (formula_of v)
@@ -42,7 +42,7 @@ StepsTo (Err errors.OutOfMemory) made = Unit {0}
 StepsTo (Err errors.Refused) made = made ≡ machine.Refuses
 
 -- a part of a place was read, or the token refused
-abbrev pub ReadsPlace : Result code_expectation.Expectation StepError → Option machine.Expectation
+abbrev pub ReadsPlace : Result code_expectation.Expectation StepError → Option machine.ConditionExpectation
     → Type 0
 ReadsPlace (Ok expected) made = made ≡ Some (expectation_of expected)
 ReadsPlace (Err errors.OutOfMemory) made = ⊥

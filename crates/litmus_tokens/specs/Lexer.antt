@@ -10,8 +10,8 @@ use Rattle.litmus_tokens.specs.declared.token.Token.{Token}
 use Rattle.litmus_tokens.specs.declared.token.Token.TheVariants as tokens
 use Rattle.litmus_tokens.specs.declared.token.Mark as mark
 use Rattle.litmus_tokens.specs.declared.token.Mark.TheVariants.{OpenBrace, CloseBrace, OpenBracket, CloseBracket, Open, Close, Comma, Semicolon, Colon, Bar, Equals, Tilde, And, Or, Implies}
-use Rattle.litmus_tokens.specs.declared.lexer.Front.{Front}
-use Rattle.litmus_tokens.specs.declared.lexer.Front.TheVariants.{Layout, Lexeme}
+use Rattle.litmus_tokens.specs.declared.lexer.NextLexeme.{NextLexeme}
+use Rattle.litmus_tokens.specs.declared.lexer.NextLexeme.TheVariants.{Layout, Lexeme}
 use Rattle.text_values.specs.Letters.{is_letter, is_digit}
 
 -- ---- bytes
@@ -55,9 +55,9 @@ gap_from zero n (b ∷ bs) =
 -- ---- tokens
 
 -- a comment that does not end is no token
-abbrev pub comment_front : ℕ → Option ℕ → Front
-comment_front all (Some n) = Layout n
-comment_front all None = Lexeme (tokens.Broken rules.OpenComment) all
+abbrev pub comment_lexeme : ℕ → Option ℕ → NextLexeme
+comment_lexeme all (Some n) = Layout n
+comment_lexeme all None = Lexeme (tokens.Broken rules.OpenComment) all
 
 -- whether a byte, with the one behind it, ends a word of the two that a text begins with
 abbrev pub ends_raw : ℕ → ℕ → Bool
@@ -68,18 +68,18 @@ unfoldable pub raw_from : ℕ → List ℕ → ℕ
 raw_from n [] = n
 raw_from n (b ∷ bs) = if ends_raw b (slice_index bs 0) then n else raw_from (n + 1) bs
 
-abbrev pub raw_front : List ℕ → ℕ → Front
-raw_front bs n =
+abbrev pub raw_lexeme : List ℕ → ℕ → NextLexeme
+raw_lexeme bs n =
     if is_line_end (slice_index bs 0) then Layout 1 else Lexeme (tokens.Word (take n bs)) n
 
 -- a text in quotes, which runs to the next quote
-abbrev pub quoted_front : Option ℕ → Front
-quoted_front (Some n) = Lexeme tokens.Text n
-quoted_front None = Lexeme tokens.Bad 1
+abbrev pub quoted_lexeme : Option ℕ → NextLexeme
+quoted_lexeme (Some n) = Lexeme tokens.Text n
+quoted_lexeme None = Lexeme tokens.Bad 1
 
 -- a line that begins with a letter, a keyline where it holds an equals sign
-abbrev pub line_front : List ℕ → Front
-line_front line =
+abbrev pub line_lexeme : List ℕ → NextLexeme
+line_lexeme line =
     if position_or_len is_equals line == length line then Lexeme tokens.Bad 1
     else Lexeme tokens.Keyline (position_or_len is_not_ascii line)
 
@@ -90,25 +90,25 @@ word_token (Header zero) w =
 word_token s w = tokens.Word w
 
 -- where a cell begins, a word before a colon is a label, and the colon is part of it
-abbrev pub label_front : List ℕ → ℕ → ℕ → Front
-label_front bs n gap =
+abbrev pub label_lexeme : List ℕ → ℕ → ℕ → NextLexeme
+label_lexeme bs n gap =
     if slice_index bs (n + gap) == 58 then Lexeme (tokens.Label (take n bs)) (n + gap + 1)
     else Lexeme (tokens.Word (take n bs)) n
 
-abbrev pub word_front : Stage → List ℕ → ℕ → Front
-word_front CellBegins bs n = label_front bs n (gap_from 0 0 (drop n bs))
-word_front s bs n = Lexeme (word_token s (take n bs)) n
+abbrev pub word_lexeme : Stage → List ℕ → ℕ → NextLexeme
+word_lexeme CellBegins bs n = label_lexeme bs n (gap_from 0 0 (drop n bs))
+word_lexeme s bs n = Lexeme (word_token s (take n bs)) n
 
 -- digits without the zeros that lead them
 abbrev pub significant : List ℕ → List ℕ
 significant [] = []
 significant (d ∷ ds) = if d == 48 then significant ds else d ∷ ds
 
-abbrev pub number_front : List ℕ → ℕ → Front
-number_front bs n = Lexeme (tokens.Number false (significant (take n bs))) n
+abbrev pub number_lexeme : List ℕ → ℕ → NextLexeme
+number_lexeme bs n = Lexeme (tokens.Number false (significant (take n bs))) n
 
-abbrev pub minus_front : List ℕ → ℕ → Front
-minus_front ds n = Lexeme (tokens.Number true (significant (take n ds))) (n + 1)
+abbrev pub minus_lexeme : List ℕ → ℕ → NextLexeme
+minus_lexeme ds n = Lexeme (tokens.Number true (significant (take n ds))) (n + 1)
 
 -- a mark of one sign
 abbrev pub mark_of : ℕ → Option mark.Mark
@@ -126,47 +126,47 @@ mark_of b =
     if b == 61 then Some Equals else (
     if b == 126 then Some Tilde else None)))))))))))
 
-abbrev pub mark_front : Option mark.Mark → Front
-mark_front (Some m) = Lexeme (tokens.Mark m) 1
-mark_front None = Lexeme tokens.Bad 1
+abbrev pub mark_lexeme : Option mark.Mark → NextLexeme
+mark_lexeme (Some m) = Lexeme (tokens.Mark m) 1
+mark_lexeme None = Lexeme tokens.Bad 1
 
-abbrev pub sign_front : ℕ → ℕ → Front
-sign_front b next =
+abbrev pub sign_lexeme : ℕ → ℕ → NextLexeme
+sign_lexeme b next =
     if b == 47 && next == 92 then Lexeme (tokens.Mark And) 2 else (
     if b == 92 && next == 47 then Lexeme (tokens.Mark Or) 2 else (
-    if b == 61 && next == 62 then Lexeme (tokens.Mark Implies) 2 else mark_front (mark_of b)))
+    if b == 61 && next == 62 then Lexeme (tokens.Mark Implies) 2 else mark_lexeme (mark_of b)))
 
-abbrev pub plain_front : Stage → List ℕ → Front
-plain_front s bs =
+abbrev pub plain_lexeme : Stage → List ℕ → NextLexeme
+plain_lexeme s bs =
     if is_line_end (slice_index bs 0) then Layout 1 else (
-    if is_letter (slice_index bs 0) || slice_index bs 0 == 95 then word_front s bs
+    if is_letter (slice_index bs 0) || slice_index bs 0 == 95 then word_lexeme s bs
     (position_or_len ends_word bs)
     else (
-    if is_digit (slice_index bs 0) then number_front bs (position_or_len ends_digits bs) else (
-    if slice_index bs 0 == 45 && is_digit (slice_index bs 1) then minus_front (drop 1 bs)
+    if is_digit (slice_index bs 0) then number_lexeme bs (position_or_len ends_digits bs) else (
+    if slice_index bs 0 == 45 && is_digit (slice_index bs 1) then minus_lexeme (drop 1 bs)
     (position_or_len ends_digits (drop 1 bs))
     else
-    sign_front (slice_index bs 0) (slice_index bs 1))))
+    sign_lexeme (slice_index bs 0) (slice_index bs 1))))
 
-abbrev pub head_front : Bool → List ℕ → Front
-head_front fresh bs =
-    if fresh && is_letter (slice_index bs 0) then line_front
+abbrev pub head_lexeme : Bool → List ℕ → NextLexeme
+head_lexeme fresh bs =
+    if fresh && is_letter (slice_index bs 0) then line_lexeme
     (take (position_or_len is_line_end bs) bs)
     else (
-    if slice_index bs 0 == 34 then quoted_front (quoted_from bs) else plain_front Head bs)
+    if slice_index bs 0 == 34 then quoted_lexeme (quoted_from bs) else plain_lexeme Head bs)
 
 -- by the part, and before the init block by whether the line holds nothing but blanks so far
-abbrev pub stage_front : Stage → Bool → List ℕ → Front
-stage_front Magic fresh bs = raw_front bs (raw_from 0 bs)
-stage_front Title fresh bs = raw_front bs (raw_from 0 bs)
-stage_front TitleEnd fresh bs =
+abbrev pub stage_lexeme : Stage → Bool → List ℕ → NextLexeme
+stage_lexeme Magic fresh bs = raw_lexeme bs (raw_from 0 bs)
+stage_lexeme Title fresh bs = raw_lexeme bs (raw_from 0 bs)
+stage_lexeme TitleEnd fresh bs =
     if is_line_end (slice_index bs 0) then Lexeme tokens.LineEnd 1 else Lexeme tokens.Bad 1
-stage_front Head fresh bs = head_front fresh bs
-stage_front s fresh bs = plain_front s bs
+stage_lexeme Head fresh bs = head_lexeme fresh bs
+stage_lexeme s fresh bs = plain_lexeme s bs
 
-unfoldable pub front : Stage → Bool → List ℕ → Front
-front s fresh bs =
+unfoldable pub first_lexeme : Stage → Bool → List ℕ → NextLexeme
+first_lexeme s fresh bs =
     if is_not_ascii (slice_index bs 0) then Lexeme (tokens.Broken rules.NotAscii) 1 else (
     if is_blank (slice_index bs 0) then Layout 1 else (
-    if begins_comment bs then comment_front (length bs) (comment_of bs)
-    else stage_front s fresh bs))
+    if begins_comment bs then comment_lexeme (length bs) (comment_of bs)
+    else stage_lexeme s fresh bs))

@@ -53,9 +53,9 @@ value_read (tokens.Number negative ds) = number_read (int_of negative ds)
 value_read t = None
 
 -- whether the token, if it is the number of a thread, is that of one of so many
-abbrev pub is_there : ℕ → Token → Bool
-is_there threads (tokens.Number negative ds) = nat_lt (decimal ds) threads
-is_there threads t = true
+abbrev pub has_thread : ℕ → Token → Bool
+has_thread threads (tokens.Number negative ds) = nat_lt (decimal ds) threads
+has_thread threads t = true
 
 -- what a function answers that takes a token or refuses it
 abbrev pub or_refused : {A : Type 0} → Option A → Result A StepError

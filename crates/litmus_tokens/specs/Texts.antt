@@ -4,9 +4,9 @@ use Rattle.text_values.specs.Layout.{is_blank, is_line_end}
 use Rattle.litmus_tokens.specs.declared.stage.Stage.{Stage}
 use Rattle.litmus_tokens.specs.declared.token.Token.{Token}
 use Rattle.litmus_tokens.specs.declared.token.Token.TheVariants as tokens
-use Rattle.litmus_tokens.specs.declared.lexer.Front.{Front}
-use Rattle.litmus_tokens.specs.declared.lexer.Front.TheVariants.{Layout, Lexeme}
-use Rattle.litmus_tokens.specs.Lexer.{front}
+use Rattle.litmus_tokens.specs.declared.lexer.NextLexeme.{NextLexeme}
+use Rattle.litmus_tokens.specs.declared.lexer.NextLexeme.TheVariants.{Layout, Lexeme}
+use Rattle.litmus_tokens.specs.Lexer.{first_lexeme}
 use Rattle.litmus_tokens.specs.Stage.{after}
 use Rattle.litmus_tokens.specs.declared.token.Mark.TheVariants.{Tilde}
 use Rattle.litmus_tokens.specs.Words.{ends_table}
@@ -48,10 +48,10 @@ begins_tail t = false
 abbrev pub fresh_after : Bool → ℕ → Bool
 fresh_after fresh b = is_line_end b || (fresh && is_blank b)
 
-abbrev pub after_front : Stage → Bool → ℕ → ℕ → Front → (Stage → Bool → ℕ → List TokenAt)
+abbrev pub after_lexeme : Stage → Bool → ℕ → ℕ → NextLexeme → (Stage → Bool → ℕ → List TokenAt)
     → List TokenAt
-after_front s fresh offset b (Layout n) later = later s (fresh_after fresh b) (n - 1)
-after_front s fresh offset b (Lexeme t n) later =
+after_lexeme s fresh offset b (Layout n) later = later s (fresh_after fresh b) (n - 1)
+after_lexeme s fresh offset b (Lexeme t n) later =
     record { token = t; offset = offset } ∷ later (after s t) (ends_line t) (n - 1)
 
 -- the tokens of a text that begins in a part, at an offset, once skip bytes are passed over, and
@@ -60,7 +60,7 @@ unfoldable pub tokens_from : Stage → Bool → ℕ → ℕ → List ℕ → Lis
 tokens_from s fresh skip offset [] = record { token = tokens.End; offset = offset } ∷ []
 tokens_from s fresh (suc skip) offset (b ∷ bs) = tokens_from s fresh skip (offset + 1) bs
 tokens_from s fresh zero offset (b ∷ bs) =
-    after_front s fresh offset b (front s fresh (b ∷ bs)) (λ s' fresh' skip.
+    after_lexeme s fresh offset b (first_lexeme s fresh (b ∷ bs)) (λ s' fresh' skip.
     tokens_from s' fresh' skip (offset + 1) bs)
 
 abbrev pub lexing : Stage → List ℕ → List TokenAt

@@ -4,7 +4,7 @@ ghost use Rattle.std.specs.Prelude.{◌≡◌, ◌<◌, ℕ, List, [], Some};
 ghost use Rattle.text_values.specs.TestValue.{Formula};
 ghost use Rattle.litmus_tokens.specs.declared.token.Token.{Token};
 ghost use Rattle.litmus_tokens.specs.Conditions.{Limits, IsProposition};
-ghost use Rattle.litmus_tokens.specs.ConditionMachine.{Frame, Expectation, Wants, proposition};
+ghost use Rattle.litmus_tokens.specs.ConditionMachine.{ConditionFrame, ConditionExpectation, Wants, proposition};
 ghost use Rattle.litmus_tokens.specs.ConditionLaws.{FinishesFormula, TakesWhatBegins};
 
 /// Token by token, within any limits, the reader takes the propositions and nothing else, and gives
@@ -23,6 +23,6 @@ pub fn takes_propositions()
     ensures stops { (most : Limits) (threads : ℕ) → threads < 18446744073709551616
         → TakesWhatBegins most threads }
     // Wherever it stands, some tokens end the proposition.
-    ensures finishes { (most : Limits) (threads : ℕ) (frames : List Frame) (used : ℕ)
-        (expected : Expectation) → FinishesFormula most threads frames used expected }
+    ensures finishes { (most : Limits) (threads : ℕ) (frames : List ConditionFrame) (used : ℕ)
+        (expected : ConditionExpectation) → FinishesFormula most threads frames used expected }
 {}

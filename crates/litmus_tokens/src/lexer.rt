@@ -2,7 +2,7 @@
 
 ghost use Rattle.std.specs.Prelude.{◌≡◌, ◌<◌, ◌≤◌, length, take, drop, slice_index, IfOk};
 ghost use Rattle.std.specs.List.{position_or_len};
-ghost use Rattle.litmus_tokens.specs.Lexer.{is_not_ascii, is_space, ends_raw, is_word_byte, ends_word, ends_digits, begins_comment, gap_from, raw_from, comment_front, raw_front, quoted_front, line_front, word_front, number_front, minus_front, significant, mark_of, sign_front, plain_front, head_front, front};
+ghost use Rattle.litmus_tokens.specs.Lexer.{is_not_ascii, is_space, ends_raw, is_word_byte, ends_word, ends_digits, begins_comment, gap_from, raw_from, comment_lexeme, raw_lexeme, quoted_lexeme, line_lexeme, word_lexeme, number_lexeme, minus_lexeme, significant, mark_of, sign_lexeme, plain_lexeme, head_lexeme, first_lexeme};
 ghost use Rattle.text_values.specs.Layout.{is_line_end, quoted_from, comment_of};
 
 use crate::rule::LitmusRule;
@@ -14,9 +14,9 @@ use text_values::{
     Name, byte_at, comment_length, is_blank, is_digit, is_letter, line_length, quoted_length,
 };
 
-/// The front of a text: layout or a token, with its length in bytes.
+/// What a text begins with: layout or a token, with its length in bytes.
 #[derive(Drop)]
-pub enum Front {
+pub enum NextLexeme {
     /// Blanks, line ends or a comment: the length.
     Layout(usize),
     /// A token and its length.
@@ -139,51 +139,51 @@ fn significant(digits: &[u8]) -> &[u8]
     &[]
 }
 
-fn comment_front(text: &[u8]) -> Front
-    ensures { result ≡ comment_front (length text.now) (comment_of text.now) }
+fn comment_lexeme(text: &[u8]) -> NextLexeme
+    ensures { result ≡ comment_lexeme (length text.now) (comment_of text.now) }
 {
     match comment_length(text) {
-        Some(n) => Front::Layout(n),
-        None => Front::Lexeme(Token::Broken(LitmusRule::OpenComment), text.len()),
+        Some(n) => NextLexeme::Layout(n),
+        None => NextLexeme::Lexeme(Token::Broken(LitmusRule::OpenComment), text.len()),
     }
 }
 
 // A word of the two that a text begins with.
-fn raw_front(alloc: Global, text: &[u8]) -> Result<Front, AllocError>
-    ensures { IfOk result (λ f. f ≡ raw_front text.now (raw_from 0 text.now)) }
+fn raw_lexeme(alloc: Global, text: &[u8]) -> Result<NextLexeme, AllocError>
+    ensures { IfOk result (λ f. f ≡ raw_lexeme text.now (raw_from 0 text.now)) }
 {
     if byte_at(text, 0) == b'\n' {
-        return Ok(Front::Layout(1));
+        return Ok(NextLexeme::Layout(1));
     }
     let n = raw_length(text);
     let word = Name::new(alloc, &text[..n])?;
-    Ok(Front::Lexeme(Token::Word(word), n))
+    Ok(NextLexeme::Lexeme(Token::Word(word), n))
 }
 
-fn quoted_front(text: &[u8]) -> Front
-    ensures { result ≡ quoted_front (quoted_from text.now) }
+fn quoted_lexeme(text: &[u8]) -> NextLexeme
+    ensures { result ≡ quoted_lexeme (quoted_from text.now) }
 {
     match quoted_length(text) {
-        Some(n) => Front::Lexeme(Token::Text, n),
-        None => Front::Lexeme(Token::Bad, 1),
+        Some(n) => NextLexeme::Lexeme(Token::Text, n),
+        None => NextLexeme::Lexeme(Token::Bad, 1),
     }
 }
 
 // A line that begins with a letter, which is skipped where it holds an equals sign.
-fn line_front(text: &[u8]) -> Front
-    ensures { result ≡ line_front (take (position_or_len is_line_end text.now) text.now) }
+fn line_lexeme(text: &[u8]) -> NextLexeme
+    ensures { result ≡ line_lexeme (take (position_or_len is_line_end text.now) text.now) }
 {
     let n = line_length(text);
     match memchr(b'=', &text[..n]) {
-        Some(_) => Front::Lexeme(Token::Keyline, ascii_length(&text[..n])),
-        None => Front::Lexeme(Token::Bad, 1),
+        Some(_) => NextLexeme::Lexeme(Token::Keyline, ascii_length(&text[..n])),
+        None => NextLexeme::Lexeme(Token::Bad, 1),
     }
 }
 
 // A word, or a label with its colon where a cell begins.
-fn word_front(alloc: Global, stage: Stage, text: &[u8]) -> Result<Front, AllocError>
+fn word_lexeme(alloc: Global, stage: Stage, text: &[u8]) -> Result<NextLexeme, AllocError>
     ensures { IfOk result (λ f. f
-        ≡ word_front stage text.now (position_or_len ends_word text.now)) }
+        ≡ word_lexeme stage text.now (position_or_len ends_word text.now)) }
 {
     let n = word_length(text);
     let name = Name::new(alloc, &text[..n])?;
@@ -191,38 +191,38 @@ fn word_front(alloc: Global, stage: Stage, text: &[u8]) -> Result<Front, AllocEr
         Stage::CellBegins => {
             let gap = gap_length(&text[n..]);
             if byte_at(text, n + gap) == b':' {
-                return Ok(Front::Lexeme(Token::Label(name), n + gap + 1));
+                return Ok(NextLexeme::Lexeme(Token::Label(name), n + gap + 1));
             }
-            Ok(Front::Lexeme(Token::Word(name), n))
+            Ok(NextLexeme::Lexeme(Token::Word(name), n))
         }
         Stage::Header(0) => {
             if name.as_bytes() == b"P8".as_slice() {
-                return Ok(Front::Lexeme(Token::Broken(LitmusRule::TooManyThreads), n));
+                return Ok(NextLexeme::Lexeme(Token::Broken(LitmusRule::TooManyThreads), n));
             }
-            Ok(Front::Lexeme(Token::Word(name), n))
+            Ok(NextLexeme::Lexeme(Token::Word(name), n))
         }
-        _ => Ok(Front::Lexeme(Token::Word(name), n)),
+        _ => Ok(NextLexeme::Lexeme(Token::Word(name), n)),
     }
 }
 
-fn number_front(alloc: Global, text: &[u8]) -> Result<Front, AllocError>
-    ensures { IfOk result (λ f. f ≡ number_front text.now (position_or_len ends_digits text.now)) }
+fn number_lexeme(alloc: Global, text: &[u8]) -> Result<NextLexeme, AllocError>
+    ensures { IfOk result (λ f. f ≡ number_lexeme text.now (position_or_len ends_digits text.now)) }
 {
     let n = digits_length(text);
     let digits = Name::new(alloc, significant(&text[..n]))?;
-    Ok(Front::Lexeme(Token::Number(false, digits), n))
+    Ok(NextLexeme::Lexeme(Token::Number(false, digits), n))
 }
 
 // A number with its minus sign.
-fn minus_front(alloc: Global, text: &[u8]) -> Result<Front, AllocError>
+fn minus_lexeme(alloc: Global, text: &[u8]) -> Result<NextLexeme, AllocError>
     requires { 0 < length text.now }
     ensures { IfOk result (λ f. f
-        ≡ minus_front (drop 1 text.now) (position_or_len ends_digits (drop 1 text.now))) }
+        ≡ minus_lexeme (drop 1 text.now) (position_or_len ends_digits (drop 1 text.now))) }
 {
     let digits = &text[1..];
     let n = digits_length(digits);
     let digits = Name::new(alloc, significant(&digits[..n]))?;
-    Ok(Front::Lexeme(Token::Number(true, digits), n + 1))
+    Ok(NextLexeme::Lexeme(Token::Number(true, digits), n + 1))
 }
 
 fn mark_of(byte: u8) -> Option<Mark>
@@ -245,95 +245,95 @@ fn mark_of(byte: u8) -> Option<Mark>
     }
 }
 
-fn sign_front(text: &[u8]) -> Front
-    ensures { result ≡ sign_front (slice_index text.now 0) (slice_index text.now 1) }
+fn sign_lexeme(text: &[u8]) -> NextLexeme
+    ensures { result ≡ sign_lexeme (slice_index text.now 0) (slice_index text.now 1) }
 {
     let first = byte_at(text, 0);
     let next = byte_at(text, 1);
     if first == b'/' && next == b'\\' {
-        return Front::Lexeme(Token::Mark(Mark::And), 2);
+        return NextLexeme::Lexeme(Token::Mark(Mark::And), 2);
     }
     if first == b'\\' && next == b'/' {
-        return Front::Lexeme(Token::Mark(Mark::Or), 2);
+        return NextLexeme::Lexeme(Token::Mark(Mark::Or), 2);
     }
     if first == b'=' && next == b'>' {
-        return Front::Lexeme(Token::Mark(Mark::Implies), 2);
+        return NextLexeme::Lexeme(Token::Mark(Mark::Implies), 2);
     }
     match mark_of(first) {
-        Some(mark) => Front::Lexeme(Token::Mark(mark), 1),
-        None => Front::Lexeme(Token::Bad, 1),
+        Some(mark) => NextLexeme::Lexeme(Token::Mark(mark), 1),
+        None => NextLexeme::Lexeme(Token::Bad, 1),
     }
 }
 
-fn plain_front(alloc: Global, stage: Stage, text: &[u8]) -> Result<Front, AllocError>
+fn plain_lexeme(alloc: Global, stage: Stage, text: &[u8]) -> Result<NextLexeme, AllocError>
     requires { 0 < length text.now }
-    ensures { IfOk result (λ f. f ≡ plain_front stage text.now) }
+    ensures { IfOk result (λ f. f ≡ plain_lexeme stage text.now) }
 {
     let first = byte_at(text, 0);
     if first == b'\n' {
-        return Ok(Front::Layout(1));
+        return Ok(NextLexeme::Layout(1));
     }
     if is_letter(first) || first == b'_' {
-        return word_front(alloc, stage, text);
+        return word_lexeme(alloc, stage, text);
     }
     if is_digit(first) {
-        return number_front(alloc, text);
+        return number_lexeme(alloc, text);
     }
     if first == b'-' && is_digit(byte_at(text, 1)) {
-        return minus_front(alloc, text);
+        return minus_lexeme(alloc, text);
     }
-    Ok(sign_front(text))
+    Ok(sign_lexeme(text))
 }
 
 // What stands before the init block begins with: a line that is fresh holds nothing but blanks so
 // far.
-fn head_front(alloc: Global, is_fresh: bool, text: &[u8]) -> Result<Front, AllocError>
+fn head_lexeme(alloc: Global, is_fresh: bool, text: &[u8]) -> Result<NextLexeme, AllocError>
     requires { 0 < length text.now }
-    ensures { IfOk result (λ f. f ≡ head_front is_fresh text.now) }
+    ensures { IfOk result (λ f. f ≡ head_lexeme is_fresh text.now) }
 {
     let first = byte_at(text, 0);
     if is_fresh && is_letter(first) {
-        return Ok(line_front(text));
+        return Ok(line_lexeme(text));
     }
     if first == b'"' {
-        return Ok(quoted_front(text));
+        return Ok(quoted_lexeme(text));
     }
-    plain_front(alloc, Stage::Head, text)
+    plain_lexeme(alloc, Stage::Head, text)
 }
 
-/// The front of the text. It depends on the stage, and before the init block on whether the line
-/// has only blanks so far. Errors: out of memory.
-#[tactic(auto, unfolding(crate::specs::Lexer::front))]
-pub fn front_of(
+/// What the text begins with. It depends on the stage, and before the init block on whether the
+/// line has only blanks so far. Errors: out of memory.
+#[tactic(auto, unfolding(crate::specs::Lexer::first_lexeme))]
+pub fn first_lexeme(
     alloc: Global,
     stage: Stage,
     is_fresh: bool,
     text: &[u8],
-) -> Result<Front, AllocError>
+) -> Result<NextLexeme, AllocError>
     requires { 0 < length text.now }
-    ensures { IfOk result (λ f. f ≡ front stage is_fresh text.now) }
+    ensures { IfOk result (λ f. f ≡ first_lexeme stage is_fresh text.now) }
 {
     let first = byte_at(text, 0);
     if is_not_ascii(first) {
-        return Ok(Front::Lexeme(Token::Broken(LitmusRule::NotAscii), 1));
+        return Ok(NextLexeme::Lexeme(Token::Broken(LitmusRule::NotAscii), 1));
     }
     if is_blank(first) {
-        return Ok(Front::Layout(1));
+        return Ok(NextLexeme::Layout(1));
     }
     if begins_comment(text) {
-        return Ok(comment_front(text));
+        return Ok(comment_lexeme(text));
     }
     match stage {
-        Stage::Magic | Stage::Title => raw_front(alloc, text),
+        Stage::Magic | Stage::Title => raw_lexeme(alloc, text),
         Stage::TitleEnd => {
             let token = if first == b'\n' {
                 Token::LineEnd
             } else {
                 Token::Bad
             };
-            Ok(Front::Lexeme(token, 1))
+            Ok(NextLexeme::Lexeme(token, 1))
         }
-        Stage::Head => head_front(alloc, is_fresh, text),
-        _ => plain_front(alloc, stage, text),
+        Stage::Head => head_lexeme(alloc, is_fresh, text),
+        _ => plain_lexeme(alloc, stage, text),
     }
 }

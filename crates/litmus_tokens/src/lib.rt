@@ -16,9 +16,9 @@ mod token;
 mod word;
 
 pub use condition::{Expectation, Frame, PropositionStep, proposition_step};
-pub use lexer::{Front, front_of};
+pub use lexer::{NextLexeme, first_lexeme};
 pub use place::{
-    PlaceExpectation, PlaceStep, WrittenPlace, is_there, place_step, register_of, value_read,
+    PlaceExpectation, PlaceStep, WrittenPlace, has_thread, place_step, register_of, value_read,
 };
 pub use rule::LitmusRule;
 pub use stage::Stage;

@@ -2,7 +2,7 @@
 
 ghost use Rattle.std.specs.Prelude.{◌≡◌};
 ghost use Rattle.litmus_tokens.specs.Words.{register_of};
-ghost use Rattle.litmus_tokens.specs.PlaceMachine.{place_start, place_step, place_of, value_read, is_there, or_refused};
+ghost use Rattle.litmus_tokens.specs.PlaceMachine.{place_start, place_step, place_of, value_read, has_thread, or_refused};
 ghost use Rattle.litmus_tokens.specs.declared.place.PlaceExpectation.TheVariants.{WantsRegister};
 
 use crate::step::StepError;
@@ -136,8 +136,8 @@ pub fn value_read(token: Token) -> Result<Value, StepError>
 }
 
 /// Whether a token that is a number is below the number of threads; other tokens pass.
-pub fn is_there(threads: usize, token: &Token) -> bool
-    ensures { result ≡ is_there threads token.now }
+pub fn has_thread(threads: usize, token: &Token) -> bool
+    ensures { result ≡ has_thread threads token.now }
 {
     match token {
         Token::Number(_, digits) => decimal(digits.as_bytes()) < threads,

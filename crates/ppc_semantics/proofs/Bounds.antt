@@ -8,12 +8,12 @@ use Rattle.std.proofs.lemmas.List.Sums.{sum_by-le-sum_by}
 use Rattle.std.proofs.lemmas.List.Elements.{Contains-get_or, Contains-push, Contains-push_cases, Contains-append_left, All-contains, All-weaker}
 use Rattle.thread_runs.specs.declared.value.Value.{Value}
 use Rattle.thread_runs.specs.declared.instruction.Instruction.{Instruction}
-use Rattle.thread_runs.specs.declared.instruction.Instruction.TheVariants.{Immediate, Move, AddImmediate, Operate, Load, LoadIndexed, Store, StoreIndexed, Compare, CompareImmediate, Branch, Jump, Barrier}
+use Rattle.thread_runs.specs.declared.instruction.Instruction.TheVariants.{Immediate, Move, AddImmediate, Operate, Load, LoadIndexed, Store, StoreIndexed, Compare, CompareImmediate, Branch, Jump, Fence}
 use Rattle.thread_runs.specs.declared.instruction.Line.{Line}
 use Rattle.thread_runs.specs.declared.instruction.Line.TheVariants.{Label, Does}
 use Rattle.thread_runs.specs.declared.instruction.Program.{Program}
 use Rattle.thread_runs.specs.declared.state.State.{State}
-use Rattle.ppc_semantics.specs.declared.fault.DomainRefusal.TheVariants.{TooManyEvents, TooManyValues, TooManyRuns, TooManyCombinations}
+use Rattle.ppc_semantics.specs.declared.fault.EvalRefusal.TheVariants.{TooManyEvents, TooManyValues, TooManyRuns, TooManyCandidates, AddressFault, TooManyCombinations}
 use Rattle.ppc_semantics.specs.declared.fault.DomainFault.{DomainFault}
 use Rattle.ppc_semantics.specs.declared.fault.DomainFault.TheVariants.{Refused, OutOfMemory}
 use Rattle.thread_runs.specs.Machine.{is_load}
@@ -137,6 +137,8 @@ module _ (p : Program) where
       )
   round_fault k V events bound before n (Refused TooManyEvents) h = absurd h
   round_fault k V events bound before n (Refused TooManyCombinations) h = absurd h
+  round_fault k V events bound before n (Refused TooManyCandidates) h = absurd h
+  round_fault k V events bound before n (Refused AddressFault) h = absurd h
   round_fault k V events bound before n (OutOfMemory e) h = h
 
   pub combination_fault : (V : List Value) → event_total p ≤ 128
@@ -156,6 +158,8 @@ module _ (p : Program) where
   combination_fault V events rounds last (Refused TooManyRuns) h = absurd h
   combination_fault V events rounds last (Refused TooManyValues) h = absurd h
   combination_fault V events rounds last (Refused TooManyEvents) h = absurd h
+  combination_fault V events rounds last (Refused TooManyCandidates) h = absurd h
+  combination_fault V events rounds last (Refused AddressFault) h = absurd h
   combination_fault V events rounds last (OutOfMemory e) h = h
 
   -- where nothing is added, nothing is added later
@@ -193,7 +197,7 @@ load_one (Compare a b) = omega arith
 load_one (CompareImmediate a n) = omega arith
 load_one (Branch c l) = omega arith
 load_one (Jump l) = omega arith
-load_one (Barrier f) = omega arith
+load_one (Fence f) = omega arith
 
 load_event : (x : Line) → cond (has_load x) 1 0 ≤ cond (has_event x) 1 0
 load_event (Label m) = omega arith

@@ -4,12 +4,12 @@ use Rattle.std.specs.List.{sum_by, count_by}
 use Rattle.std.specs.declared.alloc.Global.{Global}
 use Rattle.thread_runs.specs.declared.value.Value.{Value}
 use Rattle.thread_runs.specs.declared.instruction.Instruction.{Instruction}
-use Rattle.thread_runs.specs.declared.instruction.Instruction.TheVariants.{Store, StoreIndexed, Barrier}
+use Rattle.thread_runs.specs.declared.instruction.Instruction.TheVariants.{Store, StoreIndexed, Fence}
 use Rattle.thread_runs.specs.declared.instruction.Line.{Line}
 use Rattle.thread_runs.specs.declared.instruction.Line.TheVariants.{Label, Does}
 use Rattle.thread_runs.specs.declared.instruction.Program.{Program}
-use Rattle.ppc_semantics.specs.declared.fault.DomainRefusal.{DomainRefusal}
-use Rattle.ppc_semantics.specs.declared.fault.DomainRefusal.TheVariants.{TooManyEvents, TooManyValues, TooManyRuns, TooManyCombinations}
+use Rattle.ppc_semantics.specs.declared.fault.EvalRefusal.{EvalRefusal}
+use Rattle.ppc_semantics.specs.declared.fault.EvalRefusal.TheVariants.{TooManyEvents, TooManyValues, TooManyRuns, TooManyCandidates, AddressFault, TooManyCombinations}
 use Rattle.ppc_semantics.specs.declared.fault.DomainFault.{DomainFault}
 use Rattle.ppc_semantics.specs.declared.fault.DomainFault.TheVariants.{Refused, OutOfMemory}
 use Rattle.thread_runs.specs.Machine.{is_load}
@@ -30,7 +30,7 @@ threads_of p = threads_from p (vec_len p.threads)
 abbrev pub makes_event : Instruction → Bool
 makes_event (Store d a) = true
 makes_event (StoreIndexed d a b) = true
-makes_event (Barrier f) = true
+makes_event (Fence f) = true
 makes_event i = is_load i
 
 abbrev pub has_event : Line → Bool
@@ -114,11 +114,14 @@ pub record HasManyCombinations (p : Program) : Type 0 where
   pub counted : HasCombinations (threads_of p) values combinations
   pub many : 1048576 < combinations
 
-abbrev pub IsDomainRefusal : Program → DomainRefusal → Type 0
+-- a domain is not refused for candidates
+abbrev pub IsDomainRefusal : Program → EvalRefusal → Type 0
 IsDomainRefusal p TooManyEvents = 128 < event_total p
 IsDomainRefusal p TooManyValues = (k : ℕ) × IsFirstFailure p k HasManyValues
 IsDomainRefusal p TooManyRuns = (k : ℕ) × IsFirstFailure p k HasManyRuns
 IsDomainRefusal p TooManyCombinations = HasManyCombinations p
+IsDomainRefusal p TooManyCandidates = ⊥
+IsDomainRefusal p AddressFault = ⊥
 
 abbrev pub LacksDomain : Program → DomainFault → Type 0
 LacksDomain p (Refused r) = IsDomainRefusal p r

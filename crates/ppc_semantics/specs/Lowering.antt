@@ -22,7 +22,7 @@ use Rattle.text_values.specs.declared.test.Test.{Test}
 use Rattle.thread_runs.specs.declared.value.Value.{Value}
 use Rattle.thread_runs.specs.declared.value.Value.TheVariants.{Number, Address, NoValue}
 use Rattle.thread_runs.specs.declared.instruction.Instruction.{Instruction}
-use Rattle.thread_runs.specs.declared.instruction.Instruction.TheVariants.{Immediate, Move, AddImmediate, Operate, Load, LoadIndexed, Store, StoreIndexed, Compare, CompareImmediate, Branch, Jump, Barrier}
+use Rattle.thread_runs.specs.declared.instruction.Instruction.TheVariants.{Immediate, Move, AddImmediate, Operate, Load, LoadIndexed, Store, StoreIndexed, Compare, CompareImmediate, Branch, Jump, Fence}
 use Rattle.thread_runs.specs.declared.instruction.Line.{Line}
 use Rattle.thread_runs.specs.declared.instruction.Line.TheVariants.{Label, Does}
 use Rattle.thread_runs.specs.declared.instruction.Program.{Program}
@@ -67,7 +67,7 @@ lowered_instruction labels (texts.Compare a b) = Compare a b
 lowered_instruction labels (texts.CompareImmediate a n) = CompareImmediate a (cast_unsigned w32 n)
 lowered_instruction labels (texts.BranchIf c l) = Branch c (name_index labels l)
 lowered_instruction labels (texts.Branch l) = Jump (name_index labels l)
-lowered_instruction labels (texts.Fence f) = Barrier f
+lowered_instruction labels (texts.Fence f) = Fence f
 
 abbrev pub lowered_line : List (List ℕ) → Step → Line
 lowered_line labels (steps.Label l) = Label (name_index labels l)

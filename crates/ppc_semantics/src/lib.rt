@@ -8,7 +8,7 @@ mod rounds;
 mod test_runs;
 
 pub use bit_relations::MAX_EVENTS;
-pub use fault::{DomainFault, DomainRefusal};
+pub use fault::{DomainFault, EvalRefusal};
 pub use lowering::{locations_of, program};
 pub use rounds::{MAX_COMBINATIONS, domain, domain_of};
 pub use test_runs::runs;

@@ -305,7 +305,7 @@ fn instruction_of(labels: &[Name], instruction: &Written) -> Instruction
             Instruction::Branch(*condition, number_of(labels, label))
         }
         Written::Branch { label } => Instruction::Jump(number_of(labels, label)),
-        Written::Fence(fence) => Instruction::Barrier(*fence),
+        Written::Fence(fence) => Instruction::Fence(*fence),
     }
 }
 

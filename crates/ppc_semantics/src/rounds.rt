@@ -11,7 +11,7 @@ ghost use Rattle.thread_runs.specs.FreeWalks.{AreAdded};
 ghost use Rattle.ppc_semantics.specs.Domain as dom;
 ghost use Rattle.ppc_semantics.specs.Lowering as low;
 
-use crate::fault::{DomainFault, DomainRefusal};
+use crate::fault::{DomainFault, EvalRefusal};
 use crate::lowering::program;
 use bit_relations::MAX_EVENTS;
 use std::alloc::{AllocError, Global};
@@ -36,7 +36,7 @@ fn makes_event(line: Line) -> bool
                 | Instruction::LoadIndexed(_, _, _)
                 | Instruction::Store(_, _)
                 | Instruction::StoreIndexed(_, _, _)
-                | Instruction::Barrier(_)
+                | Instruction::Fence(_)
         ),
     }
 }
@@ -156,13 +156,13 @@ fn check_round(alloc: Global, program: &Program, values: &[Value]) -> Result<(),
     ensures fault { IfErr result (λ e. dom.IsRoundFault program.now values.now e) }
 {
     if values.len() > MAX_VALUES {
-        return Err(DomainFault::Refused(DomainRefusal::TooManyValues));
+        return Err(DomainFault::Refused(EvalRefusal::TooManyValues));
     }
     for thread in 0..program.threads.len() {
         match thread_count(alloc, program, thread, values.len()) {
             Ok(count) => {
                 if count >= MANY {
-                    return Err(DomainFault::Refused(DomainRefusal::TooManyRuns));
+                    return Err(DomainFault::Refused(EvalRefusal::TooManyRuns));
                 }
             }
             Err(fault) => return Err(fault),
@@ -237,7 +237,7 @@ fn count_combinations(alloc: Global, program: &Program, values: &[Value]) -> Res
         }
     }
     if product > MAX_COMBINATIONS {
-        return Err(DomainFault::Refused(DomainRefusal::TooManyCombinations));
+        return Err(DomainFault::Refused(EvalRefusal::TooManyCombinations));
     }
     Ok(())
 }
@@ -324,7 +324,7 @@ pub fn domain_of(alloc: Global, program: &Program) -> Result<Domain, DomainFault
     ensures fault { IfErr result (λ e. dom.AreProper program.now → dom.LacksDomain program.now e) }
 {
     if event_count(program) > MAX_EVENTS {
-        return Err(DomainFault::Refused(DomainRefusal::TooManyEvents));
+        return Err(DomainFault::Refused(EvalRefusal::TooManyEvents));
     }
     let values = last_round(alloc, program)?;
     check_combinations(alloc, program, &values)?;

@@ -2,10 +2,10 @@
 //! `specs/Runs.antt`: contracts see one value a candidate.
 #![tactic(auto)]
 
-mod places;
 mod relations;
 mod runs;
 mod sets;
+mod spans;
 
 pub use relations::RunColumn;
 pub use runs::Cursor;

@@ -2,8 +2,8 @@
 ghost use Rattle.std.specs.Prelude.{◌≡◌, ℕ, ◌-◌, ◌<◌, ◌≤◌, ◌++◌, ◌∷◌, [], ◌↔◌, length, replicate, IsTrue, OnOk, OnErr};
 ghost use Rattle.relation_columns.specs.Runs.{rel_at};
 
-use crate::places::{Place, is_value, next_place, read_value};
 use crate::runs::{Cursor, Run, end_at, end_of, run_at, set_end};
+use crate::spans::{Span, is_value, next_span, read_value};
 use bit_relations::Rel;
 use std::alloc::{AllocError, Global};
 use std::marker::Model;
@@ -12,7 +12,7 @@ use std::marker::Model;
 /// relation a candidate.
 #[derive(Drop)]
 pub struct RunColumn {
-    runs: Vec<Run<Place>>,
+    runs: Vec<Run<Span>>,
     /// The words of the relations, one after another.
     words: Vec<u64>,
 }
@@ -71,10 +71,10 @@ impl RunColumn {
         if 0 < count && is_value(&self.runs, &self.words, count - 1, value) {
             set_end(&mut self.runs, count - 1, end);
         } else {
-            let place = next_place(&self.words, value)?;
+            let span = next_span(&self.words, value)?;
             self.runs.reserve(1)?;
             value.append_to(&mut self.words)?;
-            self.runs.push_reserved(Run { end, value: place });
+            self.runs.push_reserved(Run { end, value: span });
         }
         Ok(())
     }

@@ -59,9 +59,9 @@ pub record IsAhead (R S : ℕ → ℕ → Type 0) (a b n event : ℕ) : Type 0 w
 
 -- ---- which list comes first
 
-pub no_later_front : (xs ys : List ℕ) → ComesNoLater xs (xs ++ ys)
-no_later_front [] ys = tt
-no_later_front (x ∷ xs) ys = inr (refl, no_later_front xs ys)
+pub no_later_prefix : (xs ys : List ℕ) → ComesNoLater xs (xs ++ ys)
+no_later_prefix [] ys = tt
+no_later_prefix (x ∷ xs) ys = inr (refl, no_later_prefix xs ys)
 
 -- a smaller event behind the same ones
 smaller_behind : (xs : List ℕ) (a b : ℕ) (ys zs : List ℕ) → a < b
@@ -342,21 +342,21 @@ module _ (R : ℕ → ℕ → Type 0) (event to steps : ℕ) (events : List ℕ)
   comes_first others p lt = elim (t.first others p lt) [
     | inl before ↦ subst (λ (xs : List ℕ). ComesNoLater xs others) (append-nil events) (before [])
     | inr on ↦ subst (λ (xs : List ℕ). ComesNoLater events xs) (sym on.parts)
-        (no_later_front events on.rest)
+        (no_later_prefix events on.rest)
   ]
 
--- a list with an event has a front and a back
+-- a list with an event has a prefix and a back
 record IsCut (xs : List ℕ) (a : ℕ) : Type 0 where
-  front : List ℕ
+  prefix : List ℕ
   back : List ℕ
-  parts : xs ≡ front ++ a ∷ back
+  parts : xs ≡ prefix ++ a ∷ back
 
 cut : (xs : List ℕ) (k a : ℕ) → k < length xs → get_or xs k a ≡ a → IsCut xs a
 cut [] k a lt e = absurd (omega (arith, lt))
-cut (x ∷ xs) zero a lt e = record { front = []; back = xs; parts = ap (λ (y : ℕ). y ∷ xs) e }
+cut (x ∷ xs) zero a lt e = record { prefix = []; back = xs; parts = ap (λ (y : ℕ). y ∷ xs) e }
 cut (x ∷ xs) (suc k) a lt e =
     let rest : IsCut xs a = cut xs k a (omega (arith, lt)) e in
-    record { front = x ∷ rest.front; back = rest.back; parts = ap (λ (ys : List ℕ). x ∷ ys) rest.parts }
+    record { prefix = x ∷ rest.prefix; back = rest.back; parts = ap (λ (ys : List ℕ). x ∷ ys) rest.parts }
 
 Path-split : (R : ℕ → ℕ → Type 0) (a : ℕ) (xs : List ℕ) (c : ℕ) (ys : List ℕ) (b : ℕ)
     → Path R a (xs ++ c ∷ ys) b → Path R a xs c × Path R c ys b
@@ -365,8 +365,8 @@ Path-split R a (x ∷ xs) c ys b p =
     let rest = Path-split R x xs c ys b p.1 in ((p.0, rest.0), rest.1)
 
 -- a cycle through an event can begin there
-rotated : (R : ℕ → ℕ → Type 0) (front : List ℕ) (a : ℕ) (back : List ℕ)
-    → IsCycle R (front ++ a ∷ back) → Path R a (back ++ front) a
+rotated : (R : ℕ → ℕ → Type 0) (prefix : List ℕ) (a : ℕ) (back : List ℕ)
+    → IsCycle R (prefix ++ a ∷ back) → Path R a (back ++ prefix) a
 rotated R [] a back p = rw append-nil p
 rotated R (x ∷ xs) a back p =
     let parts = Path-split R x xs a back x p in Path-append R a back x xs a parts.1 parts.0
@@ -385,17 +385,17 @@ shortest_through R event steps events cycle short first none =
         → length events ≤ length others
     least others other at =
         let parts : IsCut others event = cut others at.0 event at.1 at.2 in
-        let same : length others ≡ length (parts.front ++ event ∷ parts.back) = ap length parts.parts in
-        let long : length (parts.front ++ event ∷ parts.back) ≡ length parts.front + length (event ∷ parts.back) = length-append parts.front (event ∷ parts.back) in
-        let round : length (parts.back ++ parts.front) ≡ length parts.back + length parts.front = length-append parts.back parts.front in
+        let same : length others ≡ length (parts.prefix ++ event ∷ parts.back) = ap length parts.parts in
+        let long : length (parts.prefix ++ event ∷ parts.back) ≡ length parts.prefix + length (event ∷ parts.back) = length-append parts.prefix (event ∷ parts.back) in
+        let round : length (parts.back ++ parts.prefix) ≡ length parts.back + length parts.prefix = length-append parts.back parts.prefix in
         elim (cases_lt (length others) (length events)) [
           | inr le ↦ le
           | inl gt ↦ absurd (none (length others) (omega arith) (record {
             through =
-                parts.back ++ parts.front;
+                parts.back ++ parts.prefix;
             short = omega arith;
             path =
-                rotated R parts.front event parts.back
+                rotated R parts.prefix event parts.back
                 (subst (λ (xs : List ℕ). IsCycle R xs) parts.parts other);
           }))
         ]

@@ -65,21 +65,21 @@ product_up_to (suc a) (suc b) most = elim (cases_lt most (suc a)) [
       | inr nothing ↦ omega (arith, nothing)
     ]
 
--- the stores that a front lacks
+-- the stores that a prefix lacks
 lacking : List ℕ → List ℕ → List ℕ
-lacking others front = filter (λ s. not (has_store front s)) others
+lacking others prefix = filter (λ s. not (has_store prefix s)) others
 
 unlike : ℕ → ℕ → Bool
 unlike x s = not (nat_eq x s)
 
-lacking_more : (others front : List ℕ) (x : ℕ)
-    → lacking others (front ++ x ∷ []) ≡ filter (unlike x) (lacking others front)
+lacking_more : (others prefix : List ℕ) (x : ℕ)
+    → lacking others (prefix ++ x ∷ []) ≡ filter (unlike x) (lacking others prefix)
 unfolding lacking unlike
-lacking_more [] front x = refl
-lacking_more (s ∷ ss) front x =
-    step (has_store front s) (nat_eq x s) (has_store (front ++ x ∷ []) s)
-    (has_store-append front x s) refl (lacking ss (front ++ x ∷ [])) (lacking ss front)
-    (lacking_more ss front x)
+lacking_more [] prefix x = refl
+lacking_more (s ∷ ss) prefix x =
+    step (has_store prefix s) (nat_eq x s) (has_store (prefix ++ x ∷ []) s)
+    (has_store-append prefix x s) refl (lacking ss (prefix ++ x ∷ [])) (lacking ss prefix)
+    (lacking_more ss prefix x)
   where
     step : (b d h : Bool) → h ≡ (b || (d || false)) → nat_eq x s ≡ d → (ls ms : List ℕ)
         → ls ≡ filter (λ y. not (nat_eq x y)) ms
@@ -155,11 +155,11 @@ distinct_filter p (x ∷ xs) d =
     go true zs k l = (k, l)
     go false zs k l = l
 
-distinct_lacking : (others front : List ℕ) → AreDistinct others → AreDistinct (lacking others front)
+distinct_lacking : (others prefix : List ℕ) → AreDistinct others → AreDistinct (lacking others prefix)
 unfolding lacking
-distinct_lacking others front d = distinct_filter (λ s. not (has_store front s)) others d
+distinct_lacking others prefix d = distinct_filter (λ s. not (has_store prefix s)) others d
 
--- each of the fronts lacks so many
+-- each of the prefixes lacks so many
 EachLacks : List ℕ → ℕ → List (List ℕ) → Type 0
 EachLacks others m [] = Unit {0}
 EachLacks others m (f ∷ fs) = (length (lacking others f) ≡ m) × EachLacks others m fs
@@ -170,17 +170,17 @@ unfolding EachLacks
 each_append others m [] gs h k = k
 each_append others m (f ∷ fs) gs h k = (h.0, each_append others m fs gs h.1 k)
 
-each_next : (others front : List ℕ) (m : ℕ) → AreDistinct others
-    → length (lacking others front) ≡ suc m → (xs : List ℕ)
-    → ((x : ℕ) → has_store xs x ≡ true → has_store (lacking others front) x ≡ true)
-    → EachLacks others m (map (λ x. front ++ x ∷ []) xs)
+each_next : (others prefix : List ℕ) (m : ℕ) → AreDistinct others
+    → length (lacking others prefix) ≡ suc m → (xs : List ℕ)
+    → ((x : ℕ) → has_store xs x ≡ true → has_store (lacking others prefix) x ≡ true)
+    → EachLacks others m (map (λ x. prefix ++ x ∷ []) xs)
 unfolding EachLacks
-each_next others front m d long [] inside = tt
-each_next others front m d long (x ∷ xs) inside = (
-  let one : suc (length (filter (unlike x) (lacking others front))) ≡ length (lacking others front) = one_less (lacking others front) x (distinct_lacking others front d) (inside x (here (nat_eq x x) (has_store xs x) (eq_self x))) in
-      let more : length (lacking others (front ++ x ∷ [])) ≡ length (filter (unlike x) (lacking others front)) = ap (λ (l : List ℕ). length l) (lacking_more others front x) in
+each_next others prefix m d long [] inside = tt
+each_next others prefix m d long (x ∷ xs) inside = (
+  let one : suc (length (filter (unlike x) (lacking others prefix))) ≡ length (lacking others prefix) = one_less (lacking others prefix) x (distinct_lacking others prefix d) (inside x (here (nat_eq x x) (has_store xs x) (eq_self x))) in
+      let more : length (lacking others (prefix ++ x ∷ [])) ≡ length (filter (unlike x) (lacking others prefix)) = ap (λ (l : List ℕ). length l) (lacking_more others prefix x) in
       omega (arith, one, more, long),
-  each_next others front m d long xs (λ y h. inside y (there (nat_eq x y) (has_store xs y) h)),
+  each_next others prefix m d long xs (λ y h. inside y (there (nat_eq x y) (has_store xs y) h)),
 )
   where
     here : (a b : Bool) → a ≡ true → (a || b) ≡ true
@@ -191,7 +191,7 @@ each_next others front m d long (x ∷ xs) inside = (
     there true b h = refl
     there false b h = h
 
--- one index more for each of the fronts
+-- one index more for each of the prefixes
 each_round : (others : List ℕ) (m : ℕ) → AreDistinct others → (fs : List (List ℕ))
     → EachLacks others (suc m) fs → EachLacks others m (flat_map (with_new others) fs)
 unfolding EachLacks lacking

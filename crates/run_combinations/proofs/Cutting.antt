@@ -13,8 +13,8 @@ use Rattle.run_combinations.specs.declared.search.PrefixEnd.{PrefixEnd}
 -- the second prefix is as the first
 pub record IsBack (f g : Prefix) : Type 0 where
   pub lists : prefix_lists g ≡ prefix_lists f
-  pub reads : g.reads ≡ f.reads
-  pub writes : g.writes ≡ f.writes
+  pub loads : g.loads ≡ f.loads
+  pub stores : g.stores ≡ f.stores
 
 piece : {A : Type 0} (xs ys : List A) (n : ℕ) → n ≡ length xs → take n (xs ++ ys) ≡ xs
 piece xs ys n e = ap (λ (k : ℕ). take k (xs ++ ys)) e ∙ take-append_seam xs ys
@@ -26,16 +26,16 @@ cut_run f e i p h =
     rw (
       piece f.runs.events.items p.events.items e.events h.events,
       piece f.runs.dependencies.addr_pairs.items
-          (renumbered_pairs (length f.runs.events.items) p.links.dependencies.addr_pairs.items)
+          (renumbered_pairs (length f.runs.events.items) p.links.addr_pairs.items)
           e.addr_pairs h.addr_pairs,
       piece f.runs.dependencies.data_pairs.items
-          (renumbered_pairs (length f.runs.events.items) p.links.dependencies.data_pairs.items)
+          (renumbered_pairs (length f.runs.events.items) p.links.data_pairs.items)
           e.data_pairs h.data_pairs,
       piece f.runs.dependencies.ctrl_pairs.items
-          (renumbered_pairs (length f.runs.events.items) p.links.dependencies.ctrl_pairs.items)
+          (renumbered_pairs (length f.runs.events.items) p.links.ctrl_pairs.items)
           e.ctrl_pairs h.ctrl_pairs,
       piece f.runs.dependencies.ctrlisync_pairs.items
-          (renumbered_pairs (length f.runs.events.items) p.links.dependencies.ctrlisync_pairs.items)
+          (renumbered_pairs (length f.runs.events.items) p.links.ctrlisync_pairs.items)
           e.ctrlisync_pairs h.ctrlisync_pairs,
       piece f.runs.runs.items (i ∷ []) e.runs h.runs,
       piece f.needs.items (renumbered_pairs (length f.runs.events.items) p.links.need_pairs.items)
@@ -47,23 +47,23 @@ pub cut_back : (f g longer searched cut : Prefix) (e : PrefixEnd) (i : ℕ) (p :
     → IsBack f g → prefix_lists longer ≡ with_run i p (prefix_lists g)
     → prefix_lists searched ≡ prefix_lists longer
     → prefix_lists cut ≡ cut_lists e (prefix_lists searched)
-    → (cut.reads ≡ e.reads) × (cut.writes ≡ e.writes) → IsBack f cut
+    → (cut.loads ≡ e.loads) × (cut.stores ≡ e.stores) → IsBack f cut
 cut_back f g longer searched cut e i p end back more same lists keys = record {
   lists =
       lists
       ∙ ap (λ (b : PrefixLists). cut_lists e b) (same ∙ more
       ∙ ap (λ (b : PrefixLists). with_run i p b) back.lists)
       ∙ cut_run f e i p end;
-  reads = keys.0 ∙ end.reads;
-  writes = keys.1 ∙ end.writes;
+  loads = keys.0 ∙ end.loads;
+  stores = keys.1 ∙ end.stores;
 }
 
 pub joined_back : (f g h : Prefix) (p : Part) → IsBack f g → HasJoined g p h → HasJoined f p h
 joined_back f g h p back j = (
-  (λ a b. subst (λ (s : KeySet). HasKey h.reads a b ↔ (HasKey s a b ⊎ HasKey p.reads a b))
-      back.reads (j.0 a b)),
-  (λ a b. subst (λ (s : KeySet). HasKey h.writes a b ↔ (HasKey s a b ⊎ HasKey p.writes a b))
-      back.writes (j.1 a b)),
+  (λ a b. subst (λ (s : KeySet). HasKey h.loads a b ↔ (HasKey s a b ⊎ HasKey p.loads a b))
+      back.loads (j.0 a b)),
+  (λ a b. subst (λ (s : KeySet). HasKey h.stores a b ↔ (HasKey s a b ⊎ HasKey p.stores a b))
+      back.stores (j.1 a b)),
 )
 
 pub told_back : (f g : Prefix) (p : Part) (after : KeySet) (is : Bool) → IsBack f g
@@ -72,11 +72,11 @@ pub told_back : (f g : Prefix) (p : Part) (after : KeySet) (is : Bool) → IsBac
 told_back f g p after is back told =
     subst
     (λ (s : KeySet).
-    TellsSubset is (λ a b. HasKey s a b ⊎ HasKey p.reads a b) (IsStoredKey f p after))
-    back.reads
+    TellsSubset is (λ a b. HasKey s a b ⊎ HasKey p.loads a b) (IsStoredKey f p after))
+    back.loads
     (subst
     (λ (s : KeySet). TellsSubset is (IsLoadedKey g p) (λ a b. (HasKey after a b ⊎ HasKey s a b)
-    ⊎ HasKey p.writes a b)) back.writes told)
+    ⊎ HasKey p.stores a b)) back.stores told)
 
 -- where a run goes on, the lists are those of the first prefix with a run more
 pub longer_back : (f g longer : Prefix) (i : ℕ) (p : Part) → IsBack f g
@@ -85,4 +85,4 @@ pub longer_back : (f g longer : Prefix) (i : ℕ) (p : Part) → IsBack f g
 longer_back f g longer i p back more = more ∙ ap (λ (b : PrefixLists). with_run i p b) back.lists
 
 pub same_back : (f : Prefix) → IsBack f f
-same_back f = record { lists = refl; reads = refl; writes = refl }
+same_back f = record { lists = refl; loads = refl; stores = refl }

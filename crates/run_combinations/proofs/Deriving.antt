@@ -1,89 +1,89 @@
--- Which values can arise, and which ways to read there are.
+-- Which values can arise, and which read choices there are.
 use Rattle.std.proofs.Common.{ℕ, ◌≡◌, ◌<◌, ◌≤◌, ◌+◌, ◌⊎◌, inl, inr, List, [], ◌∷◌, ◌++◌, length, get_or, Option, Some, None, arith, sym, subst, refl, ap, ◌∙◌, length-append}
 use Rattle.std.proofs.lemmas.Bool.{cases_eq, cases_lt}
 use Rattle.std.proofs.lemmas.Option.{same_Some}
 use lib.ListN.{get_or-append}
 use Rattle.bit_relations.specs.Pairs.{Union, Plus}
 use Rattle.run_combinations.specs.Events.{ReadsFrom}
-use Rattle.run_combinations.specs.Ways.{Accesses, MayReadFrom, IsReadChoice, Derived, stored, read, chosen, IsPossible, AreProperAccesses}
+use Rattle.run_combinations.specs.ReadChoices.{Accesses, MayReadFrom, IsReadChoice, Derived, stored, read, chosen, IsPossible, AreProperAccesses}
 use Rattle.run_combinations.proofs.Cycles.{turned_back, none_fails, none_first}
 
 abbrev Linked : Accesses → List ℕ → ℕ → ℕ → Type 0
-Linked g way = Union g.Need (ReadsFrom g.loads way)
+Linked g reads_from = Union g.Need (ReadsFrom g.loads reads_from)
 
 none_is_left : {i : ℕ} → (let o : Option ℕ = None in o) ≡ Some i → ⊥
 none_is_left e = cc
 
 -- what has arisen is on no cycle
-uncycled : (n : ℕ) (g : Accesses) (way : List ℕ) → AreProperAccesses n g → length g.loads ≤ length way
-    → (x : ℕ) → Derived g way None x → Plus (Linked g way) x x → ⊥
-uncycled n g way p full x (stored st needs) round =
-    let e : (c : ℕ) × Linked g way c x × Plus (Linked g way) c c = turned_back (Linked g way) x round in
+uncycled : (n : ℕ) (g : Accesses) (reads_from : List ℕ) → AreProperAccesses n g → length g.loads ≤ length reads_from
+    → (x : ℕ) → Derived g reads_from None x → Plus (Linked g reads_from) x x → ⊥
+uncycled n g reads_from p full x (stored st needs) round =
+    let e : (c : ℕ) × Linked g reads_from c x × Plus (Linked g reads_from) c c = turned_back (Linked g reads_from) x round in
     elim e.1 [
-      | inl need ↦ uncycled n g way p full e.0 (needs e.0 need) e.2
+      | inl need ↦ uncycled n g reads_from p full e.0 (needs e.0 need) e.2
       | inr r ↦ p.never_both r.0 r.2 (subst (λ (y : ℕ). g.Store y) r.4 st)
     ]
-uncycled n g way p full x (read i lt other is within d) round =
-    let e : (c : ℕ) × Linked g way c x × Plus (Linked g way) c c = turned_back (Linked g way) x round in
+uncycled n g reads_from p full x (read i lt other is within d) round =
+    let e : (c : ℕ) × Linked g reads_from c x × Plus (Linked g reads_from) c c = turned_back (Linked g reads_from) x round in
     elim e.1 [
       | inl need ↦ p.never_both i lt (subst (λ (y : ℕ). g.Store y) is (p.needing e.0 x need))
       | inr r ↦
           let same : r.0 ≡ i = p.apart r.0 i r.2 lt (sym r.4 ∙ is) in
-          uncycled n g way p full (get_or way i 0) d (subst (λ (y : ℕ). Plus (Linked g way) y y)
-          (r.3 ∙ ap (λ (k : ℕ). get_or way k 0) same) e.2)
+          uncycled n g reads_from p full (get_or reads_from i 0) d (subst (λ (y : ℕ). Plus (Linked g reads_from) y y)
+          (r.3 ∙ ap (λ (k : ℕ). get_or reads_from k 0) same) e.2)
     ]
-uncycled n g way p full x (chosen i s lt other is past source d) round =
+uncycled n g reads_from p full x (chosen i s lt other is past source d) round =
     absurd (omega (arith, lt, past, full))
 
-pub possible_is_way : (n : ℕ) (g : Accesses) (way : List ℕ) → AreProperAccesses n g
-    → length g.loads ≤ length way → IsPossible g way → IsReadChoice g way
-possible_is_way n g way p full h a round =
-    let e : (c : ℕ) × Linked g way c a × Plus (Linked g way) c c = turned_back (Linked g way) a round in
+pub possible_is_read_choice : (n : ℕ) (g : Accesses) (reads_from : List ℕ) → AreProperAccesses n g
+    → length g.loads ≤ length reads_from → IsPossible g reads_from → IsReadChoice g reads_from
+possible_is_read_choice n g reads_from p full h a round =
+    let e : (c : ℕ) × Linked g reads_from c a × Plus (Linked g reads_from) c c = turned_back (Linked g reads_from) a round in
     elim e.1 [
       | inl need ↦
           let l : (i : ℕ) × (i < length g.loads) × (e.0 ≡ get_or g.loads i 0) = p.needed e.0 a need in
-          uncycled n g way p full e.0
-          (subst (λ (y : ℕ). Derived g way None y) (sym l.2) (h.arises l.0 l.1)) e.2
-      | inr r ↦ uncycled n g way p full a
-          (subst (λ (y : ℕ). Derived g way None y) (sym r.4) (h.arises r.0 r.2)) round
+          uncycled n g reads_from p full e.0
+          (subst (λ (y : ℕ). Derived g reads_from None y) (sym l.2) (h.arises l.0 l.1)) e.2
+      | inr r ↦ uncycled n g reads_from p full a
+          (subst (λ (y : ℕ). Derived g reads_from None y) (sym r.4) (h.arises r.0 r.2)) round
     ]
 
--- a way without a cycle cannot be impossible
-pub way_is_possible : (n : ℕ) (g : Accesses) (way : List ℕ) → AreProperAccesses n g
-    → length way ≡ length g.loads → ((i : ℕ) → i < length way → MayReadFrom g i (get_or way i 0))
-    → IsReadChoice g way → (IsPossible g way → ⊥) → ⊥
-way_is_possible n g way p long allowed acyclic never_possible =
-    none_fails (length g.loads) (λ i. Derived g way None (get_or g.loads i 0))
-    (λ i lt never. none_first n (Linked g way) Left acyclic (λ x u. u.0) one_before
+-- a read choice without a cycle cannot be impossible
+pub read_choice_is_possible : (n : ℕ) (g : Accesses) (reads_from : List ℕ) → AreProperAccesses n g
+    → length reads_from ≡ length g.loads → ((i : ℕ) → i < length reads_from → MayReadFrom g i (get_or reads_from i 0))
+    → IsReadChoice g reads_from → (IsPossible g reads_from → ⊥) → ⊥
+read_choice_is_possible n g reads_from p long allowed acyclic never_possible =
+    none_fails (length g.loads) (λ i. Derived g reads_from None (get_or g.loads i 0))
+    (λ i lt never. none_first n (Linked g reads_from) Left acyclic (λ x u. u.0) one_before
     (get_or g.loads i 0) (p.loads_within i lt, never, inr (i, lt, refl)))
     (λ all. never_possible (record { few = omega (arith, long); allowed = allowed; arises = all }))
   where
     Left : ℕ → Type 0
     Left x =
-        (x < n) × (Derived g way None x → ⊥)
+        (x < n) × (Derived g reads_from None x → ⊥)
         × (g.Store x ⊎ ((i : ℕ) × (i < length g.loads) × (x ≡ get_or g.loads i 0)))
 
-    one_before : (x : ℕ) → Left x → ((y : ℕ) → Left y → Linked g way y x → ⊥) → ⊥
+    one_before : (x : ℕ) → Left x → ((y : ℕ) → Left y → Linked g reads_from y x → ⊥) → ⊥
     one_before x u none = elim u.2 [
       | inl st ↦
-          none_fails n (λ a. g.Need a x → Derived g way None a)
+          none_fails n (λ a. g.Need a x → Derived g reads_from None a)
           (λ a lt never. never (λ need. absurd (none a
           (lt, (λ d. never (λ again. d)), inr (p.needed a x need)) (inl need))))
           (λ all. u.1 (stored st (λ a need.
           let l : (i : ℕ) × (i < length g.loads) × (a ≡ get_or g.loads i 0) = p.needed a x need in
           all a (subst (λ (y : ℕ). y < n) (sym l.2) (p.loads_within l.0 l.1)) need)))
       | inr l ↦
-          let within : l.0 < length way = omega (arith, l.1, long) in
-          let st : g.Store (get_or way l.0 0) = p.sources l.0 (get_or way l.0 0) l.1 (allowed l.0 within) in
-          none (get_or way l.0 0) (
-            p.stores_within (get_or way l.0 0) st,
+          let within : l.0 < length reads_from = omega (arith, l.1, long) in
+          let st : g.Store (get_or reads_from l.0 0) = p.sources l.0 (get_or reads_from l.0 0) l.1 (allowed l.0 within) in
+          none (get_or reads_from l.0 0) (
+            p.stores_within (get_or reads_from l.0 0) st,
             (λ d. u.1 (read l.0 l.1 none_is_left l.2 within d)),
             inl st,
           )
           (inr (l.0, within, l.1, refl, l.2))
     ]
 
--- a way with one store more
+-- a read choice with one store more
 pub longer : (f : List ℕ) (s : ℕ) → length (f ++ s ∷ []) ≡ length f + 1
 longer f s = omega (arith, length-append f (s ∷ []))
 
@@ -233,7 +233,7 @@ possible_front g f s h =
       arises = λ i l. with_choice g f s source (get_or g.loads i 0) (h.arises i l);
     }
 
--- a possible way goes on
+-- a possible read choice goes on
 pub possible_goes_on : (n : ℕ) (g : Accesses) (f : List ℕ) → AreProperAccesses n g
     → length f < length g.loads → IsPossible g f
     → ((s : ℕ) → MayReadFrom g (length f) s → IsPossible g (f ++ s ∷ []) → ⊥) → ⊥

@@ -84,18 +84,18 @@ IsFiltered-through Q P f fails (x ∷ xs) ys zs (left q t) g =
     (IsFiltered-through Q P f fails xs ys zs t g)
 
 -- tuples of two lists of choices
-pub tuples-append : (cs bs : List (List ℕ)) (front : List ℕ)
-    → tuples front (cs ++ bs) ≡ flat_map (λ f. tuples f bs) (tuples front cs)
-tuples-append [] bs front = sym (append-nil (tuples front bs))
-tuples-append (a ∷ cs) bs front =
-    flat_map-flat_map (λ x. tuples (front ++ x ∷ []) (cs ++ bs)) (λ x. tuples (front ++ x ∷ []) cs)
-    (λ f. tuples f bs) (λ x. tuples-append cs bs (front ++ x ∷ [])) a
+pub tuples-append : (cs bs : List (List ℕ)) (prefix : List ℕ)
+    → tuples prefix (cs ++ bs) ≡ flat_map (λ f. tuples f bs) (tuples prefix cs)
+tuples-append [] bs prefix = sym (append-nil (tuples prefix bs))
+tuples-append (a ∷ cs) bs prefix =
+    flat_map-flat_map (λ x. tuples (prefix ++ x ∷ []) (cs ++ bs)) (λ x. tuples (prefix ++ x ∷ []) cs)
+    (λ f. tuples f bs) (λ x. tuples-append cs bs (prefix ++ x ∷ [])) a
 
 -- tuples with one list of choices more
-pub tuples_more : (cs : List (List ℕ)) (c front : List ℕ)
-    → tuples front (cs ++ c ∷ []) ≡ flat_map (λ t. map (λ x. t ++ x ∷ []) c) (tuples front cs)
-tuples_more [] c front = flat_map-single (λ x. front ++ x ∷ []) c ∙ rw append-nil refl
-tuples_more (d ∷ ds) c front =
-    flat_map-flat_map (λ x. tuples (front ++ x ∷ []) (ds ++ c ∷ []))
-    (λ x. tuples (front ++ x ∷ []) ds) (λ t. map (λ x. t ++ x ∷ []) c)
-    (λ x. tuples_more ds c (front ++ x ∷ [])) d
+pub tuples_more : (cs : List (List ℕ)) (c prefix : List ℕ)
+    → tuples prefix (cs ++ c ∷ []) ≡ flat_map (λ t. map (λ x. t ++ x ∷ []) c) (tuples prefix cs)
+tuples_more [] c prefix = flat_map-single (λ x. prefix ++ x ∷ []) c ∙ rw append-nil refl
+tuples_more (d ∷ ds) c prefix =
+    flat_map-flat_map (λ x. tuples (prefix ++ x ∷ []) (ds ++ c ∷ []))
+    (λ x. tuples (prefix ++ x ∷ []) ds) (λ t. map (λ x. t ++ x ∷ []) c)
+    (λ x. tuples_more ds c (prefix ++ x ∷ [])) d

@@ -1,4 +1,4 @@
--- All ways are found.
+-- All read choices are found.
 use Rattle.std.proofs.Common.{ℕ, ◌≡◌, ◌<◌, ◌≤◌, ◌+◌, inl, inr, Bool, true, false, IsTrue, List, [], ◌∷◌, ◌++◌, map, length, take, get_or, slice_get, Some, None, Vec, arith, rules, sym, subst, ap, ◌∙◌}
 use Rattle.std.specs.List.{flat_map}
 use Rattle.std.specs.declared.alloc.Global.{Global}
@@ -9,7 +9,7 @@ use Rattle.std.proofs.lemmas.Option.{slice_get_within, get_or_from_slice_get}
 use Rattle.bit_relations.specs.Relation.{Events, IsMember}
 use Rattle.run_combinations.specs.Lists.{lists_of, tuples, IsFiltered, none, kept, left}
 use Rattle.run_combinations.specs.Events.{numbers, is_load}
-use Rattle.run_combinations.specs.Ways.{Derived, IsReadChoice, IsPossible, nexts, accesses_in}
+use Rattle.run_combinations.specs.ReadChoices.{Derived, IsReadChoice, IsPossible, nexts, accesses_in}
 use Rattle.run_combinations.specs.Rounds.{IsReadingOf, HasDerived, TellsPossible, ArePossible, GainsNext, AreNext, AreOver, HasOver, HasReadChoices, load_event}
 use Rattle.run_combinations.specs.Search.{Tells}
 use Rattle.run_combinations.specs.declared.combination.Event.{Event}
@@ -17,7 +17,7 @@ use Rattle.run_combinations.specs.declared.reading.Reading.{Reading}
 use Rattle.run_combinations.specs.declared.reading.Load.{Load}
 use Rattle.run_combinations.proofs.Filters.{IsFiltered-append, IsFiltered-unique}
 use Rattle.run_combinations.proofs.Numbers.{Behind, behind_at, mapped_at, element_at, proper}
-use Rattle.run_combinations.proofs.WayLists.{ways_more, ways_all, no_fewer_ways, all_fit, Each, Each-at, Each-map}
+use Rattle.run_combinations.proofs.ReadChoiceLists.{read_choices_more, read_choices_all, no_fewer_read_choices, all_fit, Each, Each-at, Each-map}
 
 -- all loads arise, or one does not
 pub all_there : (r : Reading) (derived : Events) → HasDerived r [] None derived
@@ -66,20 +66,20 @@ there_more derived xs i x at there before k y lt is = elim (cases_lt k i) [
     some_same : {X : Type 0} {u v : X} → Some u ≡ Some v → u ≡ v
     some_same h = cc
 
--- what is next of one way more
-pub no_next : (r : Reading) (load : Load) (index : ℕ) (ways : List (List ℕ))
-    (vs : List (Vec ℕ Global)) → vs ≡ [] → AreNext r load index 0 ways (lists_of vs)
-no_next r load index ways vs e es pairs shows at fit = rw e none
+-- what is next of one read choice more
+pub no_next : (r : Reading) (load : Load) (index : ℕ) (read_choices : List (List ℕ))
+    (vs : List (Vec ℕ Global)) → vs ≡ [] → AreNext r load index 0 read_choices (lists_of vs)
+no_next r load index read_choices vs e es pairs shows at fit = rw e none
 
-pub next_more : (r : Reading) (load : Load) (index i : ℕ) (ways : List (List ℕ)) (w : List ℕ)
-    (mid new : List (List ℕ)) → i < length ways → w ≡ get_or ways i w
-    → AreNext r load index i ways mid → GainsNext r load index w mid new
-    → AreNext r load index (i + 1) ways new
-next_more r load index i ways w mid new lt is before gains es pairs shows at fit =
+pub next_more : (r : Reading) (load : Load) (index i : ℕ) (read_choices : List (List ℕ)) (w : List ℕ)
+    (mid new : List (List ℕ)) → i < length read_choices → w ≡ get_or read_choices i w
+    → AreNext r load index i read_choices mid → GainsNext r load index w mid new
+    → AreNext r load index (i + 1) read_choices new
+next_more r load index i read_choices w mid new lt is before gains es pairs shows at fit =
     subst (λ (l : List (List ℕ)). IsFiltered P l new) (sym whole)
-    (subst (λ (l : List (List ℕ)). IsFiltered P (flat_map N (take i ways) ++ N w) l)
+    (subst (λ (l : List (List ℕ)). IsFiltered P (flat_map N (take i read_choices) ++ N w) l)
     (sym gains.added)
-    (IsFiltered-append P (flat_map N (take i ways)) mid (N w) gains.more
+    (IsFiltered-append P (flat_map N (take i read_choices)) mid (N w) gains.more
     (before es pairs shows at fit) (gains.next es pairs shows at here.0 here.1)))
   where
     P : List ℕ → Type 0
@@ -93,45 +93,45 @@ next_more r load index i ways w mid new lt is before gains es pairs shows at fit
         subst (λ (f : List ℕ). (length f ≡ index) × IsPossible (accesses_in es pairs) f) (sym is)
         (fit i w lt)
 
-    whole : flat_map N (take (i + 1) ways) ≡ flat_map N (take i ways) ++ N w
+    whole : flat_map N (take (i + 1) read_choices) ≡ flat_map N (take i read_choices) ++ N w
     whole =
-        ap (λ (l : List (List ℕ)). flat_map N l) (take_more ways i w lt
-        ∙ ap (λ (f : List ℕ). take i ways ++ f ∷ []) (sym is))
-        ∙ flat_map-append N (take i ways) (w ∷ [])
-        ∙ ap (λ (l : List (List ℕ)). flat_map N (take i ways) ++ l) (append-nil (N w))
+        ap (λ (l : List (List ℕ)). flat_map N l) (take_more read_choices i w lt
+        ∙ ap (λ (f : List ℕ). take i read_choices ++ f ∷ []) (sym is))
+        ∙ flat_map-append N (take i read_choices) (w ∷ [])
+        ∙ ap (λ (l : List (List ℕ)). flat_map N (take i read_choices) ++ l) (append-nil (N w))
 
-pub one_way : (r : Reading) (b : Bool) (v : Vec ℕ Global) (vs : List (Vec ℕ Global))
+pub one_read_choice : (r : Reading) (b : Bool) (v : Vec ℕ Global) (vs : List (Vec ℕ Global))
     → TellsPossible r b → b ≡ true → vs ≡ v ∷ [] → v.items ≡ [] → ArePossible r 0 (lists_of vs)
-one_way r b v vs tells t e i es pairs shows =
+one_read_choice r b v vs tells t e i es pairs shows =
     rw (e, i) (kept ((tells es pairs shows).0 (subst (λ (c : Bool). IsTrue c) (sym t) yes_true))
     none)
   where
     yes_true : IsTrue true
     yes_true = search rules
 
-pub no_way : (r : Reading) (b : Bool) (vs : List (Vec ℕ Global)) → TellsPossible r b → b ≡ false
+pub no_read_choice : (r : Reading) (b : Bool) (vs : List (Vec ℕ Global)) → TellsPossible r b → b ≡ false
     → vs ≡ [] → ArePossible r 0 (lists_of vs)
-no_way r b vs tells f e es pairs shows =
+no_read_choice r b vs tells f e es pairs shows =
     rw e (left (λ h. no_false (subst (λ (c : Bool). IsTrue c) f ((tells es pairs shows).1 h))) none)
   where
     no_false : IsTrue false → ⊥
     no_false t = search rules
 
--- the ways that fit are all of one length
-fitting : (es : List Event) (pairs : List (ℕ × ℕ)) (p : ℕ) (fronts : List (List ℕ))
+-- the read choices that fit are all of one length
+fitting : (es : List Event) (pairs : List (ℕ × ℕ)) (p : ℕ) (prefixes : List (List ℕ))
     → p < length (accesses_in es pairs).sources
     → IsFiltered (IsPossible (accesses_in es pairs))
-    (tuples [] (take p (accesses_in es pairs).sources)) fronts
-    → Each (λ f. (length f ≡ p) × IsPossible (accesses_in es pairs) f) fronts
-fitting es pairs p fronts lt h =
+    (tuples [] (take p (accesses_in es pairs).sources)) prefixes
+    → Each (λ f. (length f ≡ p) × IsPossible (accesses_in es pairs) f) prefixes
+fitting es pairs p prefixes lt h =
     let l : length {A = List ℕ} (take p (accesses_in es pairs).sources) ≡ p = length-take-le p (accesses_in es pairs).sources (omega (arith, lt)) in
     Each-map
     (λ f. (length f ≡ 0 + length (take p (accesses_in es pairs).sources))
     × IsPossible (accesses_in es pairs) f)
     (λ f. (length f ≡ p) × IsPossible (accesses_in es pairs) f)
-    (λ f a. (omega (arith, a.0, l), a.1)) fronts
+    (λ f a. (omega (arith, a.0, l), a.1)) prefixes
     (all_fit (IsPossible (accesses_in es pairs)) (take p (accesses_in es pairs).sources) []
-    fronts h)
+    prefixes h)
 
 has_source : (es : List Event) (pairs : List (ℕ × ℕ)) (r : Reading) (p : ℕ) (load : Load)
     → IsReadingOf es pairs r → slice_get r.loads.items p ≡ Some load
@@ -141,36 +141,36 @@ has_source es pairs r p load shows at =
     let e : length (accesses_in es pairs).sources ≡ length (numbers is_load 0 es) = (proper es pairs).paired in
     omega (arith, lt, e)
 
-pub one_load_more : (r : Reading) (p : ℕ) (load : Load) (fronts next : List (List ℕ))
-    → slice_get r.loads.items p ≡ Some load → ArePossible r p fronts
-    → AreNext r load p (length fronts) fronts next → ArePossible r (p + 1) next
-one_load_more r p load fronts next at before step es pairs shows =
+pub one_load_more : (r : Reading) (p : ℕ) (load : Load) (prefixes next : List (List ℕ))
+    → slice_get r.loads.items p ≡ Some load → ArePossible r p prefixes
+    → AreNext r load p (length prefixes) prefixes next → ArePossible r (p + 1) next
+one_load_more r p load prefixes next at before step es pairs shows =
     let lt : p < length (accesses_in es pairs).sources = has_source es pairs r p load shows at in
-    let fit : Each (λ f. (length f ≡ p) × IsPossible (accesses_in es pairs) f) fronts = fitting es pairs p fronts lt (before es pairs shows) in
-    ways_more (accesses_in es pairs) p lt fronts next (before es pairs shows)
+    let fit : Each (λ f. (length f ≡ p) × IsPossible (accesses_in es pairs) f) prefixes = fitting es pairs p prefixes lt (before es pairs shows) in
+    read_choices_more (accesses_in es pairs) p lt prefixes next (before es pairs shows)
     (subst
     (λ (l : List (List ℕ)). IsFiltered (IsPossible (accesses_in es pairs))
     (flat_map (nexts (get_or (accesses_in es pairs).sources p [])) l) next)
-    (take_all (length fronts) fronts (omega arith))
+    (take_all (length prefixes) prefixes (omega arith))
     (step es pairs shows at (λ k d l. Each-at
-    (λ f. (length f ≡ p) × IsPossible (accesses_in es pairs) f) fronts k d l fit)))
+    (λ f. (length f ≡ p) × IsPossible (accesses_in es pairs) f) prefixes k d l fit)))
 
-pub over_at : (r : Reading) (p limit : ℕ) (load : Load) (fronts : List (List ℕ))
-    → slice_get r.loads.items p ≡ Some load → ArePossible r p fronts → AreOver r load p fronts limit
+pub over_at : (r : Reading) (p limit : ℕ) (load : Load) (prefixes : List (List ℕ))
+    → slice_get r.loads.items p ≡ Some load → ArePossible r p prefixes → AreOver r load p prefixes limit
     → HasOver r limit
-over_at r p limit load fronts at before over es pairs all shows ways =
+over_at r p limit load prefixes at before over es pairs all shows read_choices =
     let lt : p < length (accesses_in es pairs).sources = has_source es pairs r p load shows at in
-    let fit : Each (λ f. (length f ≡ p) × IsPossible (accesses_in es pairs) f) fronts = fitting es pairs p fronts lt (before es pairs shows) in
-    let le : length over.1 ≤ length all = no_fewer_ways (length es) (accesses_in es pairs) (proper es pairs) p over.0 lt fronts over.1 all (before es pairs shows) fit (over.3 es pairs shows at (λ k d l. Each-at (λ f. (length f ≡ p) × IsPossible (accesses_in es pairs) f) fronts k d l fit)) ways in
+    let fit : Each (λ f. (length f ≡ p) × IsPossible (accesses_in es pairs) f) prefixes = fitting es pairs p prefixes lt (before es pairs shows) in
+    let le : length over.1 ≤ length all = no_fewer_read_choices (length es) (accesses_in es pairs) (proper es pairs) p over.0 lt prefixes over.1 all (before es pairs shows) fit (over.3 es pairs shows at (λ k d l. Each-at (λ f. (length f ≡ p) × IsPossible (accesses_in es pairs) f) prefixes k d l fit)) read_choices in
     omega (arith, le, over.2)
 
-pub all_loads : (r : Reading) (p : ℕ) (ways : List (List ℕ)) → length r.loads.items ≤ p
-    → ArePossible r p ways → HasReadChoices r ways
-all_loads r p ways past h es pairs shows =
-    ways_all (length es) (accesses_in es pairs) (proper es pairs) ways
+pub all_loads : (r : Reading) (p : ℕ) (read_choices : List (List ℕ)) → length r.loads.items ≤ p
+    → ArePossible r p read_choices → HasReadChoices r read_choices
+all_loads r p read_choices past h es pairs shows =
+    read_choices_all (length es) (accesses_in es pairs) (proper es pairs) read_choices
     (subst
     (λ (l : List (List ℕ)).
-    IsFiltered (IsPossible (accesses_in es pairs)) (tuples [] l) ways)
+    IsFiltered (IsPossible (accesses_in es pairs)) (tuples [] l) read_choices)
     (take_all p (accesses_in es pairs).sources few)
     (h es pairs shows))
   where
@@ -181,14 +181,14 @@ all_loads r p ways past h es pairs shows =
         let n : length (map load_event r.loads.items) ≡ length (numbers is_load 0 es) = ap (λ (l : List ℕ). length l) shows.loads in
         omega (arith, e, m, n, past)
 
-pub over_all : (r : Reading) (limit : ℕ) (ways : List (List ℕ)) → HasReadChoices r ways
-    → limit < length ways → HasOver r limit
-over_all r limit ways h lt es pairs all shows are =
+pub over_all : (r : Reading) (limit : ℕ) (read_choices : List (List ℕ)) → HasReadChoices r read_choices
+    → limit < length read_choices → HasOver r limit
+over_all r limit read_choices h lt es pairs all shows are =
     subst (λ (l : List (List ℕ)). limit < length l)
     (IsFiltered-unique (IsReadChoice (accesses_in es pairs)) (tuples [] (accesses_in es pairs).sources)
-    ways all (h es pairs shows) are) lt
+    read_choices all (h es pairs shows) are) lt
 
--- what is next of all ways, or some are over a limit
+-- what is next of all read choices, or some are over a limit
 pub told_next : (r : Reading) (load : Load) (p limit : ℕ) (vs : List (Vec ℕ Global))
     (next : List (List ℕ)) (b : Bool) → b ≡ true
     → Tells b (AreNext r load p (length vs) (lists_of vs) next)

@@ -12,11 +12,11 @@ use Rattle.std.proofs.lemmas.List.Folds.{concat-append}
 use Rattle.run_combinations.specs.Lists.{rows_in}
 use Rattle.run_combinations.specs.Events.{numbers, has_store}
 use Rattle.run_combinations.specs.Orders.{is_thread_store, stores_of, all_orders}
-use Rattle.run_combinations.specs.Growing.{with_new_from, rows_from, store_lists, all_stores, orders_from, width_of}
+use Rattle.run_combinations.specs.OrderPrefixes.{with_new_from, rows_from, store_lists, all_stores, orders_from, width_of}
 use Rattle.run_combinations.specs.declared.combination.Event.{Event}
 use Rattle.run_combinations.specs.declared.orders.LocationStores.{LocationStores}
 use Rattle.run_combinations.proofs.Counting.{few_numbers}
-use Rattle.run_combinations.proofs.Fronts.{orders_are_all}
+use Rattle.run_combinations.proofs.OrderPrefixLaws.{orders_are_all}
 
 -- each of the lists has so many members
 abbrev pub HaveWidth : ℕ → List (List ℕ) → Type 0
@@ -28,9 +28,9 @@ pub rows_joined : (n : ℕ) (xs : List (List ℕ)) → HaveWidth n xs
     → rows_in n (length xs) (concat xs) ≡ xs
 rows_joined n [] h = refl
 rows_joined n (x ∷ xs) h =
-    let front : take n (x ++ concat xs) ≡ x = subst (λ (k : ℕ). take k (x ++ concat xs) ≡ x) h.0 (take-append_seam x (concat xs)) in
+    let prefix : take n (x ++ concat xs) ≡ x = subst (λ (k : ℕ). take k (x ++ concat xs) ≡ x) h.0 (take-append_seam x (concat xs)) in
     let back : drop n (x ++ concat xs) ≡ concat xs = subst (λ (k : ℕ). drop k (x ++ concat xs) ≡ concat xs) h.0 (drop-append_seam x (concat xs)) in
-    ap (λ (l : List ℕ). l ∷ rows_in n (length xs) (drop n (x ++ concat xs))) front
+    ap (λ (l : List ℕ). l ∷ rows_in n (length xs) (drop n (x ++ concat xs))) prefix
     ∙ ap (λ (l : List ℕ). x ∷ rows_in n (length xs) l) back
     ∙ ap (λ (l : List (List ℕ)). x ∷ l) (rows_joined n xs h.1)
 
@@ -68,28 +68,28 @@ all_wide m n f each [] h = tt
 all_wide m n f each (x ∷ xs) h =
     both_wide n (f x) (flat_map f xs) (each x h.0) (all_wide m n f each xs h.1)
 
-longer : (front stores : List ℕ)
-    → HaveWidth (length front + 1) (map (λ store. front ++ store ∷ []) stores)
-longer front [] = tt
-longer front (x ∷ xs) = (length-append front (x ∷ []), longer front xs)
+longer : (prefix stores : List ℕ)
+    → HaveWidth (length prefix + 1) (map (λ store. prefix ++ store ∷ []) stores)
+longer prefix [] = tt
+longer prefix (x ∷ xs) = (length-append prefix (x ∷ []), longer prefix xs)
 
-rows_wide : (others : List ℕ) (begin left : ℕ) (front : List ℕ) (n : ℕ) → n ≡ length front + left
-    → HaveWidth n (rows_from others begin left front)
-rows_wide others begin zero front n e = (omega (arith, e), tt)
-rows_wide others begin (suc left) front n e =
-    all_wide (length front + 1) n (rows_from others begin left)
+rows_wide : (others : List ℕ) (begin left : ℕ) (prefix : List ℕ) (n : ℕ) → n ≡ length prefix + left
+    → HaveWidth n (rows_from others begin left prefix)
+rows_wide others begin zero prefix n e = (omega (arith, e), tt)
+rows_wide others begin (suc left) prefix n e =
+    all_wide (length prefix + 1) n (rows_from others begin left)
     (λ x h. rows_wide others begin left x n (omega (arith, e, h)))
-    (with_new_from begin others front) (longer front (filter _ others))
+    (with_new_from begin others prefix) (longer prefix (filter _ others))
 
-pub orders_wide : (locations : List (ℕ × List ℕ)) (front : List ℕ) (n : ℕ)
-    → n ≡ length front + width_of locations → HaveWidth n (orders_from locations front)
-orders_wide [] front n e = (omega (arith, e), tt)
-orders_wide (s ∷ later) front n e =
-    let more : length (front ++ s.0 ∷ []) ≡ length front + 1 = length-append front (s.0 ∷ []) in
-    all_wide (length front + 1 + length s.1) n (orders_from later)
-    (λ x h. orders_wide later x n (omega (arith, e, h))) (rows_from s.1 (length front)
-    (length s.1) (front ++ s.0 ∷ []))
-    (rows_wide s.1 (length front) (length s.1) (front ++ s.0 ∷ []) (length front + 1 + length s.1)
+pub orders_wide : (locations : List (ℕ × List ℕ)) (prefix : List ℕ) (n : ℕ)
+    → n ≡ length prefix + width_of locations → HaveWidth n (orders_from locations prefix)
+orders_wide [] prefix n e = (omega (arith, e), tt)
+orders_wide (s ∷ later) prefix n e =
+    let more : length (prefix ++ s.0 ∷ []) ≡ length prefix + 1 = length-append prefix (s.0 ∷ []) in
+    all_wide (length prefix + 1 + length s.1) n (orders_from later)
+    (λ x h. orders_wide later x n (omega (arith, e, h))) (rows_from s.1 (length prefix)
+    (length s.1) (prefix ++ s.0 ∷ []))
+    (rows_wide s.1 (length prefix) (length s.1) (prefix ++ s.0 ∷ []) (length prefix + 1 + length s.1)
     (omega (arith, more)))
 
 pub width_more : (locations : List (ℕ × List ℕ)) (s : ℕ × List ℕ)
@@ -151,16 +151,16 @@ one_location_wide locations i s most width many sum next lt is before m e f =
 
 -- the orders of all locations
 pub all_found : (events : List Event) (n width : ℕ) (stores slice other : List LocationStores)
-    (none front found : List ℕ) → n ≤ 128 → store_lists stores ≡ all_stores events n
-    → slice ≡ stores → other ≡ stores → none ≡ [] → front ≡ []
+    (none prefix found : List ℕ) → n ≤ 128 → store_lists stores ≡ all_stores events n
+    → slice ≡ stores → other ≡ stores → none ≡ [] → prefix ≡ []
     → width ≡ min (width_of (store_lists slice)) (2 ^ 64 - 1)
-    → found ≡ none ++ concat (orders_from (store_lists other) front)
+    → found ≡ none ++ concat (orders_from (store_lists other) prefix)
     → (width ≡ width_of (all_stores events n)) × (found ≡ concat (all_orders events n))
-all_found events n width stores slice other none front found few all s o e f wide joined = (
+all_found events n width stores slice other none prefix found few all s o e f wide joined = (
   let long : width_of (store_lists slice) ≡ width_of (all_stores events n) = ap (λ (l : List LocationStores). width_of (store_lists l)) s ∙ ap width_of all in
       omega (arith, wide, long, few_wide events n, few),
   joined
-      ∙ ap (λ (l : List ℕ). l ++ concat (orders_from (store_lists other) front)) e
+      ∙ ap (λ (l : List ℕ). l ++ concat (orders_from (store_lists other) prefix)) e
       ∙ ap (λ (l : List ℕ). concat (orders_from (store_lists other) l)) f
       ∙ ap (λ (l : List LocationStores). concat (orders_from (store_lists l) [])) o
       ∙ ap (λ (l : List (ℕ × List ℕ)). concat (orders_from l [])) all
@@ -206,54 +206,54 @@ found_rows events n width count found are many =
     ∙ ap (rows_in (width_of (all_stores events n)) (length (all_orders events n))) are.1
     ∙ rows_joined (width_of (all_stores events n)) (all_orders events n) (all_orders_wide events n)
 
--- the front with one more of the stores, if it lacks it
-one_store_more : (begin : ℕ) (stores front : List ℕ) (i store d : ℕ) (has : Bool)
-    → i < length stores → store ≡ get_or stores i d → has ≡ has_store (drop begin front) store
-    → with_new_from begin (take (i + 1) stores) front
-    ≡ with_new_from begin (take i stores) front ++ cond has [] ((front ++ store ∷ []) ∷ [])
-one_store_more begin stores front i store d has lt is test =
-    let behind : ℕ → List ℕ = λ x. front ++ x ∷ [] in
-    let lacks : ℕ → Bool = λ x. not (has_store (drop begin front) x) in
+-- the prefix with one more of the stores, if it lacks it
+one_store_more : (begin : ℕ) (stores prefix : List ℕ) (i store d : ℕ) (has : Bool)
+    → i < length stores → store ≡ get_or stores i d → has ≡ has_store (drop begin prefix) store
+    → with_new_from begin (take (i + 1) stores) prefix
+    ≡ with_new_from begin (take i stores) prefix ++ cond has [] ((prefix ++ store ∷ []) ∷ [])
+one_store_more begin stores prefix i store d has lt is test =
+    let behind : ℕ → List ℕ = λ x. prefix ++ x ∷ [] in
+    let lacks : ℕ → Bool = λ x. not (has_store (drop begin prefix) x) in
     ap (λ (l : List ℕ). map behind (filter lacks l)) (take_more stores i d lt
     ∙ ap (λ (x : ℕ). take i stores ++ x ∷ []) (sym is))
     ∙ ap (map behind) (filter-append lacks (take i stores) (store ∷ []))
     ∙ map-append behind (filter lacks (take i stores)) (filter lacks (store ∷ []))
     ∙ ap (λ (l : List (List ℕ)). map behind (filter lacks (take i stores)) ++ l)
-    (last has (has_store (drop begin front) store) test)
+    (last has (has_store (drop begin prefix) store) test)
   where
     last : (b h : Bool) → b ≡ h
-        → map (λ x. front ++ x ∷ []) (cond (not h) (store ∷ []) [])
-        ≡ cond b [] ((front ++ store ∷ []) ∷ [])
+        → map (λ x. prefix ++ x ∷ []) (cond (not h) (store ∷ []) [])
+        ≡ cond b [] ((prefix ++ store ∷ []) ∷ [])
     last true true e = refl
     last false false e = refl
     last true false e = absurd cc
     last false true e = absurd cc
 
-pub store_passed : (on : List ℕ → List (List ℕ)) (begin : ℕ) (stores front before found : List ℕ)
+pub store_passed : (on : List ℕ → List (List ℕ)) (begin : ℕ) (stores prefix before found : List ℕ)
     (i store d : ℕ) (has : Bool) → i < length stores → store ≡ get_or stores i d
-    → has ≡ has_store (drop begin front) store → has ≡ true
-    → found ≡ before ++ concat (flat_map on (with_new_from begin (take i stores) front))
-    → found ≡ before ++ concat (flat_map on (with_new_from begin (take (i + 1) stores) front))
-store_passed on begin stores front before found i store d has lt is test there e =
-    let same : with_new_from begin (take (i + 1) stores) front ≡ with_new_from begin (take i stores) front =
-    one_store_more begin stores front i store d has lt is test
+    → has ≡ has_store (drop begin prefix) store → has ≡ true
+    → found ≡ before ++ concat (flat_map on (with_new_from begin (take i stores) prefix))
+    → found ≡ before ++ concat (flat_map on (with_new_from begin (take (i + 1) stores) prefix))
+store_passed on begin stores prefix before found i store d has lt is test there e =
+    let same : with_new_from begin (take (i + 1) stores) prefix ≡ with_new_from begin (take i stores) prefix =
+    one_store_more begin stores prefix i store d has lt is test
     ∙ ap
-    (λ (b : Bool). with_new_from begin (take i stores) front
-    ++ cond b [] ((front ++ store ∷ []) ∷ [])) there
-    ∙ append-nil (with_new_from begin (take i stores) front) in
+    (λ (b : Bool). with_new_from begin (take i stores) prefix
+    ++ cond b [] ((prefix ++ store ∷ []) ∷ [])) there
+    ∙ append-nil (with_new_from begin (take i stores) prefix) in
     e ∙ ap (λ (l : List (List ℕ)). before ++ concat (flat_map on l)) (sym same)
 
 pub store_found : (on : List ℕ → List (List ℕ)) (begin : ℕ)
-    (stores front before found more : List ℕ) (i store d : ℕ) (has : Bool) → i < length stores
-    → store ≡ get_or stores i d → has ≡ has_store (drop begin front) store → has ≡ false
-    → found ≡ before ++ concat (flat_map on (with_new_from begin (take i stores) front))
-    → more ≡ found ++ concat (on (front ++ store ∷ []))
-    → more ≡ before ++ concat (flat_map on (with_new_from begin (take (i + 1) stores) front))
-store_found on begin stores front before found more i store d has lt is test lacks e f =
-    let old : List (List ℕ) = with_new_from begin (take i stores) front in
-    let new : List ℕ = front ++ store ∷ [] in
-    let grown : with_new_from begin (take (i + 1) stores) front ≡ old ++ new ∷ [] =
-    one_store_more begin stores front i store d has lt is test
+    (stores prefix before found more : List ℕ) (i store d : ℕ) (has : Bool) → i < length stores
+    → store ≡ get_or stores i d → has ≡ has_store (drop begin prefix) store → has ≡ false
+    → found ≡ before ++ concat (flat_map on (with_new_from begin (take i stores) prefix))
+    → more ≡ found ++ concat (on (prefix ++ store ∷ []))
+    → more ≡ before ++ concat (flat_map on (with_new_from begin (take (i + 1) stores) prefix))
+store_found on begin stores prefix before found more i store d has lt is test lacks e f =
+    let old : List (List ℕ) = with_new_from begin (take i stores) prefix in
+    let new : List ℕ = prefix ++ store ∷ [] in
+    let grown : with_new_from begin (take (i + 1) stores) prefix ≡ old ++ new ∷ [] =
+    one_store_more begin stores prefix i store d has lt is test
     ∙ ap (λ (b : Bool). old ++ cond b [] (new ∷ [])) lacks in
     let both : concat (flat_map on (old ++ new ∷ [])) ≡ concat (flat_map on old) ++ concat (on new) =
     ap concat (flat_map-append on old (new ∷ [])
@@ -265,13 +265,13 @@ store_found on begin stores front before found more i store d has lt is test lac
     ∙ ap (λ (l : List ℕ). before ++ l) (sym both)
     ∙ ap (λ (l : List (List ℕ)). before ++ concat (flat_map on l)) (sym grown)
 
--- a front that is cut back
-pub cut_back : (front pushed longer after : List ℕ) (store n : ℕ) → pushed ≡ front ++ store ∷ []
-    → longer ≡ pushed → n ≡ length longer → after ≡ take (n - 1) longer → after ≡ front
-cut_back front pushed longer after store n p l many e =
-    let whole : longer ≡ front ++ store ∷ [] = l ∙ p in
-    let long : length (front ++ store ∷ []) ≡ length front + 1 = length-append front (store ∷ []) in
-    let same : length longer ≡ length (front ++ store ∷ []) = ap (λ (xs : List ℕ). length xs) whole in
-    let back : n - 1 ≡ length front = omega (arith, many, same, long) in
-    e ∙ ap (λ (k : ℕ). take k longer) back ∙ ap (take (length front)) whole
-    ∙ take-append_seam front (store ∷ [])
+-- a prefix that is cut back
+pub cut_back : (prefix pushed longer after : List ℕ) (store n : ℕ) → pushed ≡ prefix ++ store ∷ []
+    → longer ≡ pushed → n ≡ length longer → after ≡ take (n - 1) longer → after ≡ prefix
+cut_back prefix pushed longer after store n p l many e =
+    let whole : longer ≡ prefix ++ store ∷ [] = l ∙ p in
+    let long : length (prefix ++ store ∷ []) ≡ length prefix + 1 = length-append prefix (store ∷ []) in
+    let same : length longer ≡ length (prefix ++ store ∷ []) = ap (λ (xs : List ℕ). length xs) whole in
+    let back : n - 1 ≡ length prefix = omega (arith, many, same, long) in
+    e ∙ ap (λ (k : ℕ). take k longer) back ∙ ap (take (length prefix)) whole
+    ∙ take-append_seam prefix (store ∷ [])

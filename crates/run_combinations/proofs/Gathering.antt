@@ -7,7 +7,7 @@ use Rattle.std.proofs.Math.Seq.{take-length}
 use Rattle.std.specs.Option.{option_map}
 use Rattle.bit_relations.specs.Relation.{Events, IsMember, IsEvents}
 use Rattle.run_combinations.specs.Events.{numbers, is_load, is_store}
-use Rattle.run_combinations.specs.Ways.{MayReadFrom, accesses_in, stores_for, may_read}
+use Rattle.run_combinations.specs.ReadChoices.{MayReadFrom, accesses_in, stores_for, may_read}
 use Rattle.run_combinations.specs.Rounds.{IsReadingOf, AreLoads, AreStores, load_event}
 use Rattle.run_combinations.specs.declared.combination.Event.{Event}
 use Rattle.run_combinations.specs.declared.reading.Reading.{Reading}
@@ -436,6 +436,6 @@ shown_reading es slice pairs r same few count loads stores = record {
 
 pub fronted : (es slice : List Event) (n : ℕ) → n ≡ min (length es) 128 → slice ≡ take n es
     → length es ≤ 128 → slice ≡ es
-fronted es slice n is front few =
+fronted es slice n is prefix few =
     let m : n ≡ length es = omega (arith, is, few) in
-    front ∙ ap (λ (k : ℕ). take k es) m ∙ take-length es
+    prefix ∙ ap (λ (k : ℕ). take k es) m ∙ take-length es

@@ -5,7 +5,7 @@ use Rattle.std.proofs.lemmas.List.{length-map}
 use Rattle.std.proofs.Math.Nat.{div-lt_iff_lt-mul, div-mul-le_self, mul-le-mul_left, mul-le-mul_right, le-mul_of_pos_right, mul_comm}
 use Rattle.run_combinations.specs.Lists.{lists_of}
 use Rattle.run_combinations.specs.Orders.{all_orders, AreInitialStoresApart}
-use Rattle.run_combinations.specs.Ways.{AreReadChoices}
+use Rattle.run_combinations.specs.ReadChoices.{AreReadChoices}
 use Rattle.run_combinations.specs.Rounds.{IsReadingOf, HasOver, HasReadChoices}
 use Rattle.run_combinations.specs.Search.{PrefixLists, Tally, capped_tally_with, PrefixFits, TalliesOneMore, ExceedsCandidates}
 use Rattle.run_combinations.specs.declared.combination.Event.{Event}
@@ -43,25 +43,25 @@ known n b r es us pairs raw orders left count e u p fits counted o shown l few =
 
 pub too_much : (n : ℕ) (b : PrefixLists) (t : Tally) (r : Reading) (orders left : ℕ)
     → Known n b r orders left t.count → HasOver r (left / orders) → ExceedsCandidates n b t
-too_much n b t r orders left k over ways are =
+too_much n b t r orders left k over read_choices are =
     let one : 0 < orders = omega (arith, k.orders) in
-    let x : left < length ways * orders = (div-lt_iff_lt-mul one).0 (over b.combination.events b.needs ways k.shows are) in
+    let x : left < length read_choices * orders = (div-lt_iff_lt-mul one).0 (over b.combination.events b.needs read_choices k.shows are) in
     let fewer : orders ≤ length (all_orders b.combination.events n) = omega (arith, k.orders, k.some) in
-    let y : length ways * orders ≤ length ways * length (all_orders b.combination.events n) = mul-le-mul_left (length ways) fewer in
+    let y : length read_choices * orders ≤ length read_choices * length (all_orders b.combination.events n) = mul-le-mul_left (length read_choices) fewer in
     omega (arith, x, y, k.left, k.few)
 
 -- the count of one combination more
-counted : (ways orders left count all : ℕ) → 1 ≤ ways → ways ≤ left / orders
+counted : (read_choices orders left count all : ℕ) → 1 ≤ read_choices → read_choices ≤ left / orders
     → orders ≡ max (min all (2 ^ 64 - 1)) 1 → 1 ≤ all → left ≡ 16384 - count → count ≤ 16384
-    → (min (count + min (ways * orders) (2 ^ 64 - 1)) (2 ^ 64 - 1) ≡ count + ways * all)
-    × (count + ways * all ≤ 16384)
-counted ways orders left count all some few o one l small =
-    let a : ways * orders ≤ (left / orders) * orders = mul-le-mul_right orders few in
+    → (min (count + min (read_choices * orders) (2 ^ 64 - 1)) (2 ^ 64 - 1) ≡ count + read_choices * all)
+    × (count + read_choices * all ≤ 16384)
+counted read_choices orders left count all some few o one l small =
+    let a : read_choices * orders ≤ (left / orders) * orders = mul-le-mul_right orders few in
     let b : (left / orders) * orders ≤ left = div-mul-le_self left orders in
-    let c : orders ≤ orders * ways = le-mul_of_pos_right orders (omega (arith, some)) in
-    let d : orders * ways ≡ ways * orders = mul_comm orders ways in
+    let c : orders ≤ orders * read_choices = le-mul_of_pos_right orders (omega (arith, some)) in
+    let d : orders * read_choices ≡ read_choices * orders = mul_comm orders read_choices in
     let same : orders ≡ all = omega (arith, o, one, a, b, c, d, l) in
-    let f : ways * orders ≡ ways * all = ap (λ (k : ℕ). ways * k) same in
+    let f : read_choices * orders ≡ read_choices * all = ap (λ (k : ℕ). read_choices * k) same in
     (omega (arith, a, b, l, f, small), omega (arith, a, b, l, f, small))
 
 pub judged : (n : ℕ) (b : PrefixLists) (old new : Tally) (r : Reading) (orders left : ℕ)
@@ -73,17 +73,17 @@ judged n b old new r orders left vs k has e =
     (let l : length (lists_of vs) ≡ length vs = length-map vs (λ v. v.items) in
     let h : length vs ≤ left / orders = has.1 in omega (arith, l, h)) e
   where
-    go : (ways : List (List ℕ)) → AreReadChoices b.combination.events b.needs ways
-        → length ways ≤ left / orders → new ≡ capped_tally_with b ways orders old
+    go : (read_choices : List (List ℕ)) → AreReadChoices b.combination.events b.needs read_choices
+        → length read_choices ≤ left / orders → new ≡ capped_tally_with b read_choices orders old
         → TalliesOneMore n b old new × (new.count ≤ 16384)
     go [] are few same = (
       ([], are, same),
       let c : new.count ≡ old.count = ap (λ (t : Tally). t.count) same in
           omega (arith, c, k.few),
     )
-    go (way ∷ ways) are few same =
-        let c : (min (old.count + min (length (way ∷ ways) * orders) (2 ^ 64 - 1)) (2 ^ 64 - 1) ≡ old.count + length (way ∷ ways) * length (all_orders b.combination.events n)) × (old.count + length (way ∷ ways) * length (all_orders b.combination.events n) ≤ 16384) = counted (length (way ∷ ways)) orders left old.count (length (all_orders b.combination.events n)) (omega arith) few k.orders k.some k.left k.few in
-        let f : ℕ → Tally = λ m. record { kept = if old.faulted || b.faulted then old.kept else old.kept ++ record b.combination { sources = way ∷ ways } ∷ []; count = m; faulted = old.faulted || b.faulted } in
-        let s : new ≡ f (old.count + length (way ∷ ways) * length (all_orders b.combination.events n)) = same ∙ ap f c.0 in
-        let m : new.count ≡ old.count + length (way ∷ ways) * length (all_orders b.combination.events n) = ap (λ (t : Tally). t.count) s in
-        ((way ∷ ways, are, s), omega (arith, m, c.1))
+    go (reads_from ∷ read_choices) are few same =
+        let c : (min (old.count + min (length (reads_from ∷ read_choices) * orders) (2 ^ 64 - 1)) (2 ^ 64 - 1) ≡ old.count + length (reads_from ∷ read_choices) * length (all_orders b.combination.events n)) × (old.count + length (reads_from ∷ read_choices) * length (all_orders b.combination.events n) ≤ 16384) = counted (length (reads_from ∷ read_choices)) orders left old.count (length (all_orders b.combination.events n)) (omega arith) few k.orders k.some k.left k.few in
+        let f : ℕ → Tally = λ m. record { kept = if old.faulted || b.faulted then old.kept else old.kept ++ record b.combination { reads_from = reads_from ∷ read_choices } ∷ []; count = m; faulted = old.faulted || b.faulted } in
+        let s : new ≡ f (old.count + length (reads_from ∷ read_choices) * length (all_orders b.combination.events n)) = same ∙ ap f c.0 in
+        let m : new.count ≡ old.count + length (reads_from ∷ read_choices) * length (all_orders b.combination.events n) = ap (λ (t : Tally). t.count) s in
+        ((reads_from ∷ read_choices, are, s), omega (arith, m, c.1))

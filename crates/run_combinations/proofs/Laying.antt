@@ -9,10 +9,10 @@ use Rattle.run_combinations.proofs.Parting.{each_append}
 use Rattle.run_combinations.proofs.Pruning.{load_front, load_behind, store_split}
 use Rattle.run_combinations.specs.Keys.{HasKey, AreKeysIn, AreKeys, PartsAreKeyed, ThreadsAreKeyed, bit_of}
 use Rattle.run_combinations.specs.Events.{thread_events, initial_stores, HasLoad, HasStore, CannotRead}
-use Rattle.run_combinations.specs.Parts.{IsSketch, AreSketches, HasWritesOf, AreSome, end, kept_one, left_out, Among, IsChoice, HasRead, HasWrite, IsUnread, IsSifted, IsMade, AreBelow, NamesRuns, AreThreadParts}
+use Rattle.run_combinations.specs.Parts.{IsSketch, AreSketches, HasStoresOf, AreSome, end, kept_one, left_out, Among, IsChoice, HasLoadKey, HasStoreKey, IsUnread, IsSifted, IsMade, AreBelow, NamesRuns, AreThreadParts}
 use Rattle.std.specs.List.{AllZip}
 use Rattle.run_combinations.specs.Layouts.{ArePartsOf, AreThreadsOf, AreChosen, chosen_events, HasRun, HaveParts}
-use Rattle.run_combinations.specs.declared.combination.Action.TheVariants.{Write}
+use Rattle.run_combinations.specs.declared.combination.Action.TheVariants.{Store}
 use Rattle.run_combinations.specs.declared.combination.Event.{Event}
 use Rattle.run_combinations.specs.declared.keys.KeySet.{KeySet}
 use Rattle.run_combinations.specs.declared.layout.ThreadParts.{ThreadParts}
@@ -125,14 +125,14 @@ all_threads values t (r ∷ runs) (s ∷ sks) (p ∷ ts) f m = (
 -- their sets
 part_keyed : (values : List Value) (t : ℕ) (runs : List Run) (s : Sketch) (p : Part)
     → IsSketch values runs s → IsMade t runs s p
-    → AreKeys (bit_of values) p.events.items p.reads p.writes
+    → AreKeys (bit_of values) p.events.items p.loads p.stores
 part_keyed values t runs s p f m =
     let same : m.3 ≡ f.0 = some_is (sym m.4 ∙ f.1) in
-    subst (λ (es : List Event). AreKeys (bit_of values) es p.reads p.writes)
+    subst (λ (es : List Event). AreKeys (bit_of values) es p.loads p.stores)
     (sym (m.5.events ∙ ap (λ (r : Run). thread_events t r.events.items) same))
-    (subst (λ (k : KeySet). AreKeys (bit_of values) (thread_events t f.0.events.items) k p.writes)
+    (subst (λ (k : KeySet). AreKeys (bit_of values) (thread_events t f.0.events.items) k p.stores)
     (sym m.1)
-    (subst (λ (k : KeySet). AreKeys (bit_of values) (thread_events t f.0.events.items) s.reads k)
+    (subst (λ (k : KeySet). AreKeys (bit_of values) (thread_events t f.0.events.items) s.loads k)
     (sym m.2) (f.2 t)))
   where
     some_is : {x y : Run} → Some x ≡ Some y → x ≡ y
@@ -140,7 +140,7 @@ part_keyed values t runs s p f m =
 
 parts_keyed : (values : List Value) (t : ℕ) (runs : List Run) (n : ℕ) (all : KeySet)
     (ss : List Sketch) (ps : List Part) → Facts values runs n ss → AllZip (IsMade t runs) ss ps
-    → HasWritesOf all ss → PartsAreKeyed (bit_of values) all ps
+    → HasStoresOf all ss → PartsAreKeyed (bit_of values) all ps
 parts_keyed values t runs n all [] [] f m w = tt
 parts_keyed values t runs n all [] (p ∷ ps) f m w = absurd m
 parts_keyed values t runs n all (s ∷ ss) [] f m w = absurd m
@@ -159,7 +159,7 @@ all_keyed values t [] (s ∷ sks) ts f m = absurd f
 all_keyed values t (r ∷ runs) [] ts f m = absurd f
 all_keyed values t (r ∷ runs) (s ∷ sks) [] f m = absurd m
 all_keyed values t (r ∷ runs) (s ∷ sks) (p ∷ ts) f m = (
-  parts_keyed values t r.items 0 p.writes s.items p.parts.items f.0 m.1 m.0,
+  parts_keyed values t r.items 0 p.stores s.items p.parts.items f.0 m.1 m.0,
   all_keyed values (t + 1) runs sks ts f.1 m.2,
 )
 
@@ -168,7 +168,7 @@ abbrev pub AreTheirs : List Value → List ℕ → List Run → List Sketch → 
 AreTheirs values [] [] [] = Unit {0}
 AreTheirs values (k ∷ ks) (r ∷ rs) (c ∷ cs) =
     (c.run ≡ k)
-    × ((t : ℕ) → AreKeys (bit_of values) (thread_events t r.events.items) c.reads c.writes)
+    × ((t : ℕ) → AreKeys (bit_of values) (thread_events t r.events.items) c.loads c.stores)
     × AreTheirs values ks rs cs
 AreTheirs values _ _ _ = ⊥
 
@@ -204,7 +204,7 @@ their_sketches values (v ∷ runs) (s ∷ sks) (k ∷ ks) (r ∷ rs) h c =
         e.0,
         (λ t. subst
             (λ (q : Run). AreKeys (bit_of values) (thread_events t q.events.items)
-            x.0.reads x.0.writes) same
+            x.0.loads x.0.stores) same
             (e.1.2 t)),
         rest.2,
       ),
@@ -214,7 +214,7 @@ their_sketches values (v ∷ runs) (s ∷ sks) (k ∷ ks) (r ∷ rs) h c =
     some_is e = cc
 
 read_there : (values : List Value) (t : ℕ) (ks : List ℕ) (rs : List Run) (cs : List Sketch)
-    (a b : ℕ) → AreTheirs values ks rs cs → HasRead cs a b
+    (a b : ℕ) → AreTheirs values ks rs cs → HasLoadKey cs a b
     → (l : ℕ) × (v : Value) × (bit_of values l v ≡ Some (a, b)) × HasLoad l v (chosen_events t rs)
 read_there values t [] [] [] a b h r = absurd r
 read_there values t [] [] (c ∷ cs) a b h r = absurd h
@@ -238,7 +238,7 @@ read_there values t (k ∷ ks) (x ∷ rs) (c ∷ cs) a b h (inr r) =
 
 written_there : (values : List Value) (t : ℕ) (ks : List ℕ) (rs : List Run) (cs : List Sketch)
     (l : ℕ) (v : Value) (a b : ℕ) → AreTheirs values ks rs cs → bit_of values l v ≡ Some (a, b)
-    → HasStore l v (chosen_events t rs) → HasWrite cs a b
+    → HasStore l v (chosen_events t rs) → HasStoreKey cs a b
 written_there values t [] [] [] l v a b h e s = absurd s
 written_there values t [] [] (c ∷ cs) l v a b h e s = absurd h
 written_there values t [] (x ∷ rs) cs l v a b h e s = absurd h
@@ -250,12 +250,12 @@ written_there values t (k ∷ ks) (x ∷ rs) (c ∷ cs) l v a b h e s =
       | inr q ↦ inr (written_there values (t + 1) ks rs cs l v a b h.2 e q)
     ]
 
-unread_there : (values : List Value) (initial : List Event) (writes : KeySet) (ks : List ℕ)
+unread_there : (values : List Value) (initial : List Event) (stores : KeySet) (ks : List ℕ)
     (rs : List Run) (cs : List Sketch)
     → ((l : ℕ) (v : Value) (a b : ℕ) → HasStore l v initial → bit_of values l v ≡ Some (a, b)
-    → HasKey writes a b) → AreTheirs values ks rs cs → IsUnread writes cs
+    → HasKey stores a b) → AreTheirs values ks rs cs → IsUnread stores cs
     → CannotRead (initial ++ chosen_events 0 rs)
-unread_there values initial writes ks rs cs keys h u =
+unread_there values initial stores ks rs cs keys h u =
     let g : (l : ℕ) × (v : Value) × (bit_of values l v ≡ Some (u.0, u.1)) × HasLoad l v (chosen_events 0 rs) = read_there values 0 ks rs cs u.0 u.1 h u.2 in (
       g.0,
       g.1,
@@ -294,39 +294,39 @@ all_there values t (v ∷ runs) (s ∷ sks) (p ∷ ts) (k ∷ ks) (r ∷ rs) (x 
   all_there values (t + 1) runs sks ts ks rs cs m.2 c.1 h.2 i.1,
 )
 
-pub left_out_there : (values : List Value) (initial : List Event) (writes : KeySet)
+pub left_out_there : (values : List Value) (initial : List Event) (stores : KeySet)
     (runs : List (Vec Run Global)) (olds news : List (Vec Sketch Global))
     (ts : List ThreadParts)
     → ((l : ℕ) (v : Value) (a b : ℕ) → HasStore l v initial → bit_of values l v ≡ Some (a, b)
-    → HasKey writes a b) → AllSketches values runs olds → IsSifted writes olds news
+    → HasKey stores a b) → AllSketches values runs olds → IsSifted stores olds news
     → AreThreadParts 0 runs news ts → (ks : List ℕ) (rs : List Run) → AreChosen runs ks rs
     → HaveParts ts ks ⊎ CannotRead (initial ++ chosen_events 0 rs)
-left_out_there values initial writes runs olds news ts keys sketched sifted made ks rs c =
+left_out_there values initial stores runs olds news ts keys sketched sifted made ks rs c =
     let x : (cs : List Sketch) × IsChoice olds cs × AreTheirs values ks rs cs = their_sketches values runs olds ks rs sketched c in
     elim (sifted.choices x.0 x.1) [
       | inl there ↦ inl (all_there values 0 runs news ts ks rs x.0 made c x.2 there)
-      | inr u ↦ inr (unread_there values initial writes ks rs x.0 keys x.2 u)
+      | inr u ↦ inr (unread_there values initial stores ks rs x.0 keys x.2 u)
     ]
 
 -- the initial stores
 initial_append : (at n : ℕ) (vs : List Value) (v : Value) → n ≡ at + length vs
     → initial_stores at (vs ++ v ∷ [])
-    ≡ initial_stores at vs ++ record { thread = None; action = Write n v } ∷ []
+    ≡ initial_stores at vs ++ record { thread = None; action = Store n v } ∷ []
 initial_append at n [] v e =
     let z : at ≡ n = omega (arith, e) in
-    ap (λ (k : ℕ). record { thread = None; action = Write k v } ∷ []) z
+    ap (λ (k : ℕ). record { thread = None; action = Store k v } ∷ []) z
 initial_append at n (x ∷ vs) v e =
-    ap (λ (l : List Event). record { thread = None; action = Write at x } ∷ l)
+    ap (λ (l : List Event). record { thread = None; action = Store at x } ∷ l)
     (initial_append (at + 1) n vs v (omega (arith, e)))
 
 pub initial_step : (vs : List Value) (i : ℕ) (d : Value) (old new : List Event) → i < length vs
-    → new ≡ old ++ record { thread = None; action = Write i (get_or vs i d) } ∷ []
+    → new ≡ old ++ record { thread = None; action = Store i (get_or vs i d) } ∷ []
     → old ≡ initial_stores 0 (take i vs) → new ≡ initial_stores 0 (take (i + 1) vs)
 initial_step vs i d old new lt is e =
     is
     ∙ ap
     (λ (l : List Event). l
-    ++ record { thread = None; action = Write i (get_or vs i d) } ∷ []) e
+    ++ record { thread = None; action = Store i (get_or vs i d) } ∷ []) e
     ∙ sym (ap (λ (l : List Value). initial_stores 0 l) (take_more vs i d lt)
     ∙ initial_append 0 i (take i vs) (get_or vs i d) (long (length-take-le i vs (few lt))))
   where

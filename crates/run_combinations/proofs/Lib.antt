@@ -7,7 +7,7 @@ pub mod Extending
 pub mod Filters
 pub mod Finding
 pub mod Flat
-pub mod Fronts
+pub mod OrderPrefixLaws
 pub mod Gathering
 pub mod Judging
 pub mod Keying
@@ -21,4 +21,4 @@ pub mod Pruning
 pub mod Searching
 pub mod Serving
 pub mod Stores
-pub mod WayLists
+pub mod ReadChoiceLists

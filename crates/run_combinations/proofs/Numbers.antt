@@ -4,11 +4,11 @@ use Rattle.std.specs.Option.{option_map}
 use Rattle.std.proofs.lemmas.List.{length-map}
 use Rattle.std.proofs.lemmas.Bool.{false≢true, cases_lt, cases_eq}
 use Rattle.std.proofs.lemmas.Option.{slice_get_within, get_or_from_slice_get, slice_get-map, slice_get_cases}
-use Rattle.run_combinations.specs.Events.{numbers, is_load, is_store, reads, writes}
-use Rattle.run_combinations.specs.Ways.{AreProperAccesses, accesses_in, stores_for, may_read}
+use Rattle.run_combinations.specs.Events.{numbers, is_load, is_store, is_load_action, is_store_action}
+use Rattle.run_combinations.specs.ReadChoices.{AreProperAccesses, accesses_in, stores_for, may_read}
 use Rattle.run_combinations.specs.declared.combination.Event.{Event}
 use Rattle.run_combinations.specs.declared.combination.Action.{Action}
-use Rattle.run_combinations.specs.declared.combination.Action.TheVariants.{Read, Write, Fence}
+use Rattle.run_combinations.specs.declared.combination.Action.TheVariants.{Load, Store, Fence}
 
 some_same : {X : Type 0} {u v : X} → Some u ≡ Some v → u ≡ v
 some_same h = cc
@@ -161,26 +161,26 @@ as_many test at (e ∷ es) = go (test e) (as_many test (at + 1) es)
     go true h = ap (λ (n : ℕ). suc n) h
     go false h = h
 
-not_both : (a : Action) → reads a ≡ true → writes a ≡ true → ⊥
-not_both (Read l v) r w = false≢true w
-not_both (Write l v) r w = false≢true r
+not_both : (a : Action) → is_load_action a ≡ true → is_store_action a ≡ true → ⊥
+not_both (Load l v) r w = false≢true w
+not_both (Store l v) r w = false≢true r
 not_both (Fence f) r w = false≢true r
 
-read_is_store : (a b : Action) → may_read a b ≡ true → writes b ≡ true
-read_is_store (Read l v) (Read m w) h = absurd (false≢true h)
-read_is_store (Read l v) (Write m w) h = refl
-read_is_store (Read l v) (Fence f) h = absurd (false≢true h)
-read_is_store (Write l v) b h = absurd (nothing b h)
+read_is_store : (a b : Action) → may_read a b ≡ true → is_store_action b ≡ true
+read_is_store (Load l v) (Load m w) h = absurd (false≢true h)
+read_is_store (Load l v) (Store m w) h = refl
+read_is_store (Load l v) (Fence f) h = absurd (false≢true h)
+read_is_store (Store l v) b h = absurd (nothing b h)
   where
-    nothing : (c : Action) → may_read (Write l v) c ≡ true → ⊥
-    nothing (Read m w) k = false≢true k
-    nothing (Write m w) k = false≢true k
+    nothing : (c : Action) → may_read (Store l v) c ≡ true → ⊥
+    nothing (Load m w) k = false≢true k
+    nothing (Store m w) k = false≢true k
     nothing (Fence f) k = false≢true k
 read_is_store (Fence f) b h = absurd (nothing b h)
   where
     nothing : (c : Action) → may_read (Fence f) c ≡ true → ⊥
-    nothing (Read m w) k = false≢true k
-    nothing (Write m w) k = false≢true k
+    nothing (Load m w) k = false≢true k
+    nothing (Store m w) k = false≢true k
     nothing (Fence f) k = false≢true k
 
 -- the accesses among events are each a load or a store
@@ -203,7 +203,7 @@ proper es pairs = record {
       let s : Numbered is_store 0 es (get_or (numbers is_load 0 es) i 0) = contained is_store es (get_or (numbers is_load 0 es) i 0) st in
       let same_index : l.index ≡ s.index = omega (arith, l.is, s.is) in
       let same_event : l.item ≡ s.item = some_same (sym l.there ∙ ap (λ (k : ℕ). slice_get es k) same_index ∙ s.there) in
-      not_both l.item.action l.passes (ap (λ (e : Event). writes e.action) same_event ∙ s.passes);
+      not_both l.item.action l.passes (ap (λ (e : Event). is_store_action e.action) same_event ∙ s.passes);
   sources = λ i s lt source.
       let at : slice_get (map (stores_for es) (filter is_load es)) i ≡ Some (get_or (map (stores_for es) (filter is_load es)) i []) = list_at (map (stores_for es) (filter is_load es)) i (omega (arith, lt, mapped_long, as_many is_load 0 es)) in
       let load : Behind (stores_for es) (filter is_load es) i (get_or (map (stores_for es) (filter is_load es)) i []) = behind_at (stores_for es) (filter is_load es) (map (stores_for es) (filter is_load es)) i (get_or (map (stores_for es) (filter is_load es)) i []) refl at in

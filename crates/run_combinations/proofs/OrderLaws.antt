@@ -60,16 +60,16 @@ new_ones t d [] = none
 new_ones t d (s ∷ ss) = next_store t s ss (has_store t s) refl d (new_ones t d ss)
 
 -- one index more
-pub orders_more : (first : ℕ) (others : List ℕ) (i : ℕ) (fronts next : List (List ℕ))
-    → IsFiltered AreDistinct (tuples [] ((first ∷ []) ∷ replicate i others)) fronts
-    → next ≡ flat_map (with_new others) fronts
+pub orders_more : (first : ℕ) (others : List ℕ) (i : ℕ) (prefixes next : List (List ℕ))
+    → IsFiltered AreDistinct (tuples [] ((first ∷ []) ∷ replicate i others)) prefixes
+    → next ≡ flat_map (with_new others) prefixes
     → IsFiltered AreDistinct (tuples [] ((first ∷ []) ∷ replicate (i + 1) others)) next
-orders_more first others i fronts next before e =
-    let stages : IsFiltered AreDistinct (flat_map (λ t. map (λ x. t ++ x ∷ []) others) (tuples [] ((first ∷ []) ∷ replicate i others))) (flat_map (with_new others) fronts) =
+orders_more first others i prefixes next before e =
+    let stages : IsFiltered AreDistinct (flat_map (λ t. map (λ x. t ++ x ∷ []) others) (tuples [] ((first ∷ []) ∷ replicate i others))) (flat_map (with_new others) prefixes) =
     IsFiltered-stages AreDistinct AreDistinct (λ t. map (λ x. t ++ x ∷ []) others) (with_new others)
     (λ t no. none_of_map AreDistinct (λ x. t ++ x ∷ []) (λ x h. no (distinct_front t x h).0) others)
     (λ t d. new_ones t d others)
-    (tuples [] ((first ∷ []) ∷ replicate i others)) fronts before in
+    (tuples [] ((first ∷ []) ∷ replicate i others)) prefixes before in
     let Next : List (List ℕ) → Type 0 = λ ys. IsFiltered AreDistinct (flat_map (λ t. map (λ x. t ++ x ∷ []) others) (tuples [] ((first ∷ []) ∷ replicate i others))) ys in
     let All : List (List ℕ) → Type 0 = λ xs. IsFiltered AreDistinct xs next in
     let Choices : List (List ℕ) → Type 0 = λ cs. IsFiltered AreDistinct (tuples [] ((first ∷ []) ∷ cs)) next in

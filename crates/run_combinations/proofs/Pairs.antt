@@ -57,40 +57,40 @@ get_or-pairs {X} {Y} xs ys p x y d some lt =
 
 -- how many candidates a combination has
 pub length-candidates : (c : Combination)
-    → length (candidates_of c) ≡ length c.sources.items * length c.orders
+    → length (candidates_of c) ≡ length c.reads_from.items * length c.orders
 unfolding candidates_of
 length-candidates c =
-    let s : length (lists_of c.sources.items) ≡ length c.sources.items = length-map c.sources.items (λ v. v.items) in
-    length-pairs (lists_of c.sources.items) c.orders ∙ ap (λ (n : ℕ). n * length c.orders) s
+    let s : length (lists_of c.reads_from.items) ≡ length c.reads_from.items = length-map c.reads_from.items (λ v. v.items) in
+    length-pairs (lists_of c.reads_from.items) c.orders ∙ ap (λ (n : ℕ). n * length c.orders) s
 
 pub has_none : (c : Combination) (p : ℕ) → length c.orders ≡ 0 → p < length (candidates_of c) → ⊥
 has_none c p none lt =
-    let e : length (candidates_of c) ≡ length c.sources.items * length c.orders = length-candidates c in
-    let z : length c.sources.items * 0 ≡ 0 = mul-zero (length c.sources.items) in
-    let f : length c.sources.items * length c.orders ≡ length c.sources.items * 0 = ap (λ (n : ℕ). length c.sources.items * n) none in
+    let e : length (candidates_of c) ≡ length c.reads_from.items * length c.orders = length-candidates c in
+    let z : length c.reads_from.items * 0 ≡ 0 = mul-zero (length c.reads_from.items) in
+    let f : length c.reads_from.items * length c.orders ≡ length c.reads_from.items * 0 = ap (λ (n : ℕ). length c.reads_from.items * n) none in
     omega arith
 
 pub has_index : (c : Combination) (p : ℕ) → 0 < length c.orders
-    → (p / length c.orders < length c.sources.items) ↔ (p < length (candidates_of c))
+    → (p / length c.orders < length c.reads_from.items) ↔ (p < length (candidates_of c))
 has_index c p some =
-    subst (λ (n : ℕ). (p / length c.orders < length c.sources.items) ↔ (p < n))
+    subst (λ (n : ℕ). (p / length c.orders < length c.reads_from.items) ↔ (p < n))
     (sym (length-candidates c)) (div-lt_iff_lt-mul some)
 
 -- the candidate at an index
 pub candidate_at : (c : Combination) (p : ℕ) (d : List ℕ × List ℕ) (v : Vec ℕ Global)
-    → 0 < length c.orders → p / length c.orders < length c.sources.items
+    → 0 < length c.orders → p / length c.orders < length c.reads_from.items
     → get_or (candidates_of c) p d
     ≡ (
-      (get_or c.sources.items (p / length c.orders) v).items,
+      (get_or c.reads_from.items (p / length c.orders) v).items,
       get_or c.orders (p % length c.orders) [],
     )
 unfolding candidates_of
 candidate_at c p d v some lt =
-    let s : length (lists_of c.sources.items) ≡ length c.sources.items = length-map c.sources.items (λ v. v.items) in
-    get_or-pairs (lists_of c.sources.items) c.orders p v.items [] d some
+    let s : length (lists_of c.reads_from.items) ≡ length c.reads_from.items = length-map c.reads_from.items (λ v. v.items) in
+    get_or-pairs (lists_of c.reads_from.items) c.orders p v.items [] d some
     (subst (λ (n : ℕ). p / length c.orders < n) (sym s) lt)
     ∙ ap (λ (l : List ℕ). (l, get_or c.orders (p % length c.orders) [])) (get_or-map
-    (λ (u : Vec ℕ Global). u.items) c.sources.items (p / length c.orders) v v.items lt)
+    (λ (u : Vec ℕ Global). u.items) c.reads_from.items (p / length c.orders) v v.items lt)
 
 -- where there is a candidate there are orders
 pub has_orders : (c : Combination) (p : ℕ) → p < length (candidates_of c) → 0 < length c.orders

@@ -10,8 +10,8 @@ use Rattle.thread_runs.specs.declared.run.Run.{Run}
 use Rattle.run_combinations.proofs.Pruning.{load_front, load_behind, store_split}
 use Rattle.run_combinations.specs.Keys.{HasKey, AreKeysIn, AreKeys, TellsSubset, bit_of}
 use Rattle.run_combinations.specs.Events.{thread_events, HasLoad}
-use Rattle.run_combinations.specs.Parts.{IsSketch, HasWritesOf, HasWritesOfAll, AreSketchesKept, none, kept, left, AreSome, end, kept_one, left_out, Among, IsChoice, HasRead, HasWrite, IsSifted, IsMade, AreBelow, NamesRuns, AreThreadParts}
-use Rattle.run_combinations.specs.declared.combination.Action.TheVariants.{Read, Write}
+use Rattle.run_combinations.specs.Parts.{IsSketch, HasStoresOf, HasStoresOfAll, AreSketchesKept, none, kept, left, AreSome, end, kept_one, left_out, Among, IsChoice, HasLoadKey, HasStoreKey, IsSifted, IsMade, AreBelow, NamesRuns, AreThreadParts}
+use Rattle.run_combinations.specs.declared.combination.Action.TheVariants.{Load, Store}
 use Rattle.run_combinations.specs.declared.combination.Event.{Event}
 use Rattle.run_combinations.specs.declared.keys.KeySet.{KeySet}
 use Rattle.run_combinations.specs.declared.layout.ThreadParts.{ThreadParts}
@@ -24,55 +24,55 @@ HasMore old new bit = (a b : ℕ) → HasKey new a b ↔ (HasKey old a b ⊎ (bi
 
 pub read_more : (key : ℕ → Value → Option (ℕ × ℕ)) (es : List Event) (t : Option ℕ) (l : ℕ)
     (v : Value) (old new w : KeySet) → HasMore old new (key l v) → AreKeys key es old w
-    → AreKeys key (es ++ record { thread = t; action = Read l v } ∷ []) new w
+    → AreKeys key (es ++ record { thread = t; action = Load l v } ∷ []) new w
 read_more key es t l v old new w m k = record {
   loads = λ a b h. elim ((m a b).0 h) [
     | inl o ↦
         let x : (location : ℕ) × (value : Value) × (key location value ≡ Some (a, b))
         × HasLoad location value es = k.loads a b o in
-        (x.0, x.1, x.2, load_front x.0 x.1 es (record { thread = t; action = Read l v } ∷ []) x.3)
+        (x.0, x.1, x.2, load_front x.0 x.1 es (record { thread = t; action = Load l v } ∷ []) x.3)
     | inr e ↦ (
       l,
       v,
       e,
-      load_behind l v es (record { thread = t; action = Read l v } ∷ []) (inl refl),
+      load_behind l v es (record { thread = t; action = Load l v } ∷ []) (inl refl),
     )
   ];
   stores =
       λ location value a b h e. elim
-      (store_split location value es (record { thread = t; action = Read l v } ∷ []) h) [
+      (store_split location value es (record { thread = t; action = Load l v } ∷ []) h) [
         | inl s ↦ k.stores location value a b s e
         | inr s ↦ elim s
             [ inl q ↦ absurd (never q) | inr n ↦ absurd n ]
       ];
 }
   where
-    never : {location : ℕ} {value : Value} → Read l v ≡ Write location value → ⊥
+    never : {location : ℕ} {value : Value} → Load l v ≡ Store location value → ⊥
     never q = cc
 
 pub write_more : (key : ℕ → Value → Option (ℕ × ℕ)) (es : List Event) (t : Option ℕ) (l : ℕ)
     (v : Value) (r old new : KeySet) → HasMore old new (key l v) → AreKeys key es r old
-    → AreKeys key (es ++ record { thread = t; action = Write l v } ∷ []) r new
+    → AreKeys key (es ++ record { thread = t; action = Store l v } ∷ []) r new
 write_more key es t l v r old new m k = record {
   loads =
       λ a b h.
       let x : (location : ℕ) × (value : Value) × (key location value ≡ Some (a, b))
       × HasLoad location value es = k.loads a b h in
-      (x.0, x.1, x.2, load_front x.0 x.1 es (record { thread = t; action = Write l v } ∷ []) x.3);
+      (x.0, x.1, x.2, load_front x.0 x.1 es (record { thread = t; action = Store l v } ∷ []) x.3);
   stores =
       λ location value a b h e.
-      elim (store_split location value es (record { thread = t; action = Write l v } ∷ []) h) [
+      elim (store_split location value es (record { thread = t; action = Store l v } ∷ []) h) [
         | inl s ↦ (m a b).1 (inl (k.stores location value a b s e))
         | inr s ↦ elim s [ inl q ↦ (m a b).1 (inr (there q e)) | inr n ↦ absurd n ]
       ];
 }
   where
-    there : {location : ℕ} {value : Value} {a b : ℕ} → Write l v ≡ Write location value
+    there : {location : ℕ} {value : Value} {a b : ℕ} → Store l v ≡ Store location value
         → key location value ≡ Some (a, b) → key l v ≡ Some (a, b)
     there q e = cc
 
 pub fence_more : (key : ℕ → Value → Option (ℕ × ℕ)) (es : List Event) (e : Event) (r w : KeySet)
-    → ((l : ℕ) (v : Value) → e.action ≡ Write l v → ⊥) → AreKeys key es r w
+    → ((l : ℕ) (v : Value) → e.action ≡ Store l v → ⊥) → AreKeys key es r w
     → AreKeys key (es ++ e ∷ []) r w
 fence_more key es e r w never k = record {
   loads =
@@ -108,7 +108,7 @@ pub record AreFirst (values : List Value) (runs : List Run) (i : ℕ) (ss : List
 
 pub first_more : (values : List Value) (runs : List Run) (i : ℕ) (ss : List Sketch) (s : Sketch)
     (r : Run) → AreFirst values runs i ss → s.run ≡ i → slice_get runs i ≡ Some r
-    → ((t : ℕ) → AreKeys (bit_of values) (thread_events t r.events.items) s.reads s.writes)
+    → ((t : ℕ) → AreKeys (bit_of values) (thread_events t r.events.items) s.loads s.stores)
     → AreFirst values runs (i + 1) (ss ++ s ∷ [])
 first_more values runs i ss s r f at there keys = record {
   whole = let e : length ss ≡ i = f.whole in simp length-append (omega (arith, e));
@@ -120,44 +120,44 @@ first_more values runs i ss s r f at there keys = record {
 }
 
 -- sets with what more runs store
-writes_longer : (ss : List Sketch) (s : Sketch) (old new : KeySet) → AreKeysIn old new
-    → AreKeysIn s.writes new → HasWritesOf old ss → HasWritesOf new (ss ++ s ∷ [])
-writes_longer [] s old new w v h = (v, tt)
-writes_longer (x ∷ xs) s old new w v h =
-    ((λ a b k. w a b (h.0 a b k)), writes_longer xs s old new w v h.1)
+stores_longer : (ss : List Sketch) (s : Sketch) (old new : KeySet) → AreKeysIn old new
+    → AreKeysIn s.stores new → HasStoresOf old ss → HasStoresOf new (ss ++ s ∷ [])
+stores_longer [] s old new w v h = (v, tt)
+stores_longer (x ∷ xs) s old new w v h =
+    ((λ a b k. w a b (h.0 a b k)), stores_longer xs s old new w v h.1)
 
 pub joined_more : (first : KeySet) (ss : List Sketch) (i : ℕ) (d : Sketch) (old new : KeySet)
     → i < length ss
-    → ((a b : ℕ) → HasKey new a b ↔ (HasKey old a b ⊎ HasKey (get_or ss i d).writes a b))
-    → AreKeysIn first old × HasWritesOf old (take i ss)
-    → AreKeysIn first new × HasWritesOf new (take (i + 1) ss)
+    → ((a b : ℕ) → HasKey new a b ↔ (HasKey old a b ⊎ HasKey (get_or ss i d).stores a b))
+    → AreKeysIn first old × HasStoresOf old (take i ss)
+    → AreKeysIn first new × HasStoresOf new (take (i + 1) ss)
 joined_more first ss i d old new lt j h = (
   (λ a b k. (j a b).1 (inl (h.0 a b k))),
-  subst (λ (l : List Sketch). HasWritesOf new l) (sym (take_more ss i d lt))
-      (writes_longer (take i ss) (get_or ss i d) old new (λ a b k. (j a b).1 (inl k))
+  subst (λ (l : List Sketch). HasStoresOf new l) (sym (take_more ss i d lt))
+      (stores_longer (take i ss) (get_or ss i d) old new (λ a b k. (j a b).1 (inl k))
       (λ a b k. (j a b).1 (inr k)) h.1),
 )
 
-writes_still : (ss : List Sketch) (old new : KeySet) → AreKeysIn old new → HasWritesOf old ss
-    → HasWritesOf new ss
-writes_still [] old new w h = tt
-writes_still (s ∷ ss) old new w h = ((λ a b k. w a b (h.0 a b k)), writes_still ss old new w h.1)
+stores_still : (ss : List Sketch) (old new : KeySet) → AreKeysIn old new → HasStoresOf old ss
+    → HasStoresOf new ss
+stores_still [] old new w h = tt
+stores_still (s ∷ ss) old new w h = ((λ a b k. w a b (h.0 a b k)), stores_still ss old new w h.1)
 
 all_longer : (vs : List (Vec Sketch Global)) (v : Vec Sketch Global) (old new : KeySet)
-    → AreKeysIn old new → HasWritesOf new v.items → HasWritesOfAll old vs
-    → HasWritesOfAll new (vs ++ v ∷ [])
+    → AreKeysIn old new → HasStoresOf new v.items → HasStoresOfAll old vs
+    → HasStoresOfAll new (vs ++ v ∷ [])
 all_longer [] v old new w h k = (h, tt)
 all_longer (x ∷ xs) v old new w h k =
-    (writes_still x.items old new w k.0, all_longer xs v old new w h k.1)
+    (stores_still x.items old new w k.0, all_longer xs v old new w h k.1)
 
 pub all_more : (first : KeySet) (vs : List (Vec Sketch Global)) (i : ℕ) (v : Vec Sketch Global)
     (old new : KeySet) → i < length vs → v ≡ get_or vs i v
-    → AreKeysIn old new × HasWritesOf new v.items
-    → AreKeysIn first old × HasWritesOfAll old (take i vs)
-    → AreKeysIn first new × HasWritesOfAll new (take (i + 1) vs)
+    → AreKeysIn old new × HasStoresOf new v.items
+    → AreKeysIn first old × HasStoresOfAll old (take i vs)
+    → AreKeysIn first new × HasStoresOfAll new (take (i + 1) vs)
 all_more first vs i v old new lt is j h = (
   (λ a b k. j.0 a b (h.0 a b k)),
-  subst (λ (l : List (Vec Sketch Global)). HasWritesOfAll new l) (sym (take_more vs i v lt
+  subst (λ (l : List (Vec Sketch Global)). HasStoresOfAll new l) (sym (take_more vs i v lt
       ∙ ap (λ (q : Vec Sketch Global). take i vs ++ q ∷ []) (sym is)))
       (all_longer (take i vs) v old new j.0 j.1 h.1),
 )
@@ -165,13 +165,13 @@ all_more first vs i v old new lt is j h = (
 -- what `retain` leaves
 pub retained : {F : Type 0} (R : F → Sketch → Bool → F → Type 0) (stored : KeySet) (f : F)
     → ((s : Sketch) (b : Bool) (g : F) → R f s b g
-    → (g ≡ f) × TellsSubset b (HasKey s.reads) (HasKey stored)) → (ss ts : List Sketch)
+    → (g ≡ f) × TellsSubset b (HasKey s.loads) (HasKey stored)) → (ss ts : List Sketch)
     → IsFiltered R f ss ts → AreSketchesKept stored ss ts
 retained {F = F} R stored f one ss ts h =
     subst (λ (l : List Sketch). AreSketchesKept stored ss l) (sym h.4) (in_turn h.0 ss h.1 f refl h.2 h.3)
   where
     step : (b : Bool) (bs : List Bool) (x : Sketch) (xs : List Sketch)
-        → TellsSubset b (HasKey x.reads) (HasKey stored)
+        → TellsSubset b (HasKey x.loads) (HasKey stored)
         → AreSketchesKept stored xs (items_where_true bs xs)
         → AreSketchesKept stored (x ∷ xs) (items_where_true (b ∷ bs) (x ∷ xs))
     step true bs x xs told rest = kept rest
@@ -183,7 +183,7 @@ retained {F = F} R stored f one ss ts h =
     in_turn [] (x ∷ xs) q g e l r = absurd (omega (arith, l))
     in_turn (b ∷ bs) [] q g e l r = absurd r
     in_turn (b ∷ bs) (x ∷ xs) q g e l r =
-        let o : (r.0 ≡ f) × TellsSubset b (HasKey x.reads) (HasKey stored) = one x b r.0 (subst (λ (y : F). R y x b r.0) e r.1) in
+        let o : (r.0 ≡ f) × TellsSubset b (HasKey x.loads) (HasKey stored) = one x b r.0 (subst (λ (y : F). R y x b r.0) e r.1) in
         step b bs x xs o.1 (in_turn bs xs q r.0 o.0 (omega (arith, l)) r.2)
 
 -- the runs of each thread that stay
@@ -199,16 +199,16 @@ each_append R (z ∷ xs) (w ∷ ys) x y h r = (h.0, each_append R xs ys x y h.1 
 
 -- a run that does not stay reads what is not stored
 abbrev pub Lacks : KeySet → List Sketch → Type 0
-Lacks stored cs = (a b : ℕ) × HasRead cs a b × (HasKey stored a b → ⊥)
+Lacks stored cs = (a b : ℕ) × HasLoadKey cs a b × (HasKey stored a b → ⊥)
 
 kept_or_not : (stored : KeySet) (ss ts : List Sketch) (s : Sketch) → AreSketchesKept stored ss ts
-    → Among ss s → Among ts s ⊎ ((a b : ℕ) × HasKey s.reads a b × (HasKey stored a b → ⊥))
+    → Among ss s → Among ts s ⊎ ((a b : ℕ) × HasKey s.loads a b × (HasKey stored a b → ⊥))
 kept_or_not stored [] ts s k m = absurd m
 kept_or_not stored (x ∷ ss) ts s (kept k) (inl e) = inl (inl e)
 kept_or_not stored (x ∷ ss) ts s (kept {ts = us} k) (inr m) =
     elim (kept_or_not stored ss us s k m) [ inl n ↦ inl (inr n) | inr n ↦ inr n ]
 kept_or_not stored (x ∷ ss) ts s (left a b h n k) (inl e) =
-    inr (a, b, subst (λ (y : Sketch). HasKey y.reads a b) e h, n)
+    inr (a, b, subst (λ (y : Sketch). HasKey y.loads a b) e h, n)
 kept_or_not stored (x ∷ ss) ts s (left a b h n k) (inr m) = kept_or_not stored ss ts s k m
 
 choice_kept : (stored : KeySet) (olds news : List (Vec Sketch Global)) (cs : List Sketch)
@@ -227,14 +227,14 @@ choice_kept stored (v ∷ olds) (w ∷ news) (s ∷ cs) k c =
       ]
     ]
 
-among_written : (stored : KeySet) (ss : List Sketch) (s : Sketch) → HasWritesOf stored ss
-    → Among ss s → AreKeysIn s.writes stored
+among_written : (stored : KeySet) (ss : List Sketch) (s : Sketch) → HasStoresOf stored ss
+    → Among ss s → AreKeysIn s.stores stored
 among_written stored [] s h m = absurd m
-among_written stored (x ∷ ss) s h (inl e) = subst (λ (y : Sketch). AreKeysIn y.writes stored) e h.0
+among_written stored (x ∷ ss) s h (inl e) = subst (λ (y : Sketch). AreKeysIn y.stores stored) e h.0
 among_written stored (x ∷ ss) s h (inr m) = among_written stored ss s h.1 m
 
 choice_written : (stored : KeySet) (olds : List (Vec Sketch Global)) (cs : List Sketch)
-    → HasWritesOfAll stored olds → IsChoice olds cs → (a b : ℕ) → HasWrite cs a b
+    → HasStoresOfAll stored olds → IsChoice olds cs → (a b : ℕ) → HasStoreKey cs a b
     → HasKey stored a b
 choice_written stored olds [] h c a b w = absurd w
 choice_written stored [] (s ∷ cs) h c a b w = absurd c
@@ -293,7 +293,7 @@ up_to_all stored (suc i) (v ∷ olds) (w ∷ news) e h =
     (h.0, up_to_all stored i olds news (omega (arith, e)) h.1)
 
 pub sifted_once : (initial stored : KeySet) (olds news : List (Vec Sketch Global))
-    → AreKeysIn initial stored × HasWritesOfAll stored olds → AreKeptOfEach stored olds news
+    → AreKeysIn initial stored × HasStoresOfAll stored olds → AreKeptOfEach stored olds news
     → IsSifted initial olds news
 sifted_once initial stored olds news h k = record {
   some = each_some stored olds news k;
@@ -380,7 +380,7 @@ named_at (x ∷ rs) (y ∷ ss) (suc i) r s h lt er es =
 
 threads_append : (t n : ℕ) (rs : List (Vec Run Global)) (ss : List (Vec Sketch Global))
     (ts : List ThreadParts) (r : Vec Run Global) (s : Vec Sketch Global) (p : ThreadParts)
-    → AreThreadParts t rs ss ts → n ≡ t + length rs → HasWritesOf p.writes s.items
+    → AreThreadParts t rs ss ts → n ≡ t + length rs → HasStoresOf p.stores s.items
     → AllZip (IsMade n r.items) s.items p.parts.items
     → AreThreadParts t (rs ++ r ∷ []) (ss ++ s ∷ []) (ts ++ p ∷ [])
 threads_append t n [] [] [] r s p h e w m =
@@ -401,7 +401,7 @@ threads_append t n (x ∷ rs) (y ∷ ss) (z ∷ ts) r s p h e w m =
 pub threads_more : (rs : List (Vec Run Global)) (ss : List (Vec Sketch Global)) (i : ℕ)
     (ts us : List ThreadParts) (r : Vec Run Global) (s : Vec Sketch Global) (p : ThreadParts)
     → i < length rs → i < length ss → r ≡ get_or rs i r → s ≡ get_or ss i s → us ≡ ts ++ p ∷ []
-    → HasWritesOf p.writes s.items → AllZip (IsMade i r.items) s.items p.parts.items
+    → HasStoresOf p.stores s.items → AllZip (IsMade i r.items) s.items p.parts.items
     → AreThreadParts 0 (take i rs) (take i ss) ts → AreThreadParts 0 (take (i + 1) rs) (take (i + 1) ss) us
 threads_more rs ss i ts us r s p lr ls er es is w m h =
     subst (λ (l : List ThreadParts). AreThreadParts 0 (take (i + 1) rs) (take (i + 1) ss) l) (sym is)

@@ -7,12 +7,12 @@ use Rattle.thread_runs.specs.declared.value.Value.{Value}
 use Rattle.thread_runs.specs.declared.value.Value.TheVariants.{Number, Address, NoValue}
 use Rattle.run_combinations.proofs.Counting.{eq_true}
 use Rattle.run_combinations.specs.Lists.{tuples, IsFiltered, none}
-use Rattle.run_combinations.specs.Events.{numbers, reads, is_load, HasLoad, HasStore}
-use Rattle.run_combinations.specs.Ways.{AreReadChoices, IsReadChoice, accesses_in, stores_for, may_read, same_value}
-use Rattle.run_combinations.specs.Keys.{HasKey, AreKeysIn, HasWrites, AreKeys, PartsAreKeyed, ThreadsAreKeyed, IsKeyed, IsLoadedKey, IsStoredKey, TellsSubset}
+use Rattle.run_combinations.specs.Events.{numbers, is_load_action, is_load, HasLoad, HasStore}
+use Rattle.run_combinations.specs.ReadChoices.{AreReadChoices, IsReadChoice, accesses_in, stores_for, may_read, same_value}
+use Rattle.run_combinations.specs.Keys.{HasKey, AreKeysIn, HasStores, AreKeys, PartsAreKeyed, ThreadsAreKeyed, IsKeyed, IsLoadedKey, IsStoredKey, TellsSubset}
 use Rattle.run_combinations.specs.Search.{PrefixLists, prefix_lists, with_run, initial_prefix, HasJoined}
 use Rattle.run_combinations.specs.declared.combination.Action.{Action}
-use Rattle.run_combinations.specs.declared.combination.Action.TheVariants.{Read, Write, Fence}
+use Rattle.run_combinations.specs.declared.combination.Action.TheVariants.{Load, Store, Fence}
 use Rattle.run_combinations.specs.declared.combination.Event.{Event}
 use Rattle.run_combinations.specs.declared.keys.KeySet.{KeySet}
 use Rattle.run_combinations.specs.declared.layout.Layout.{Layout}
@@ -49,15 +49,15 @@ value_is NoValue (Number n) e = absurd cc
 value_is NoValue (Address n) e = absurd cc
 value_is NoValue NoValue e = refl
 
-pub is_store_of : (l : ℕ) (v : Value) (a : Action) → may_read (Read l v) a ≡ true → a ≡ Write l v
-is_store_of l v (Read location value) e = absurd cc
+pub is_store_of : (l : ℕ) (v : Value) (a : Action) → may_read (Load l v) a ≡ true → a ≡ Store l v
+is_store_of l v (Load location value) e = absurd cc
 is_store_of l v (Fence fence) e = absurd cc
-is_store_of l v (Write location written) e =
+is_store_of l v (Store location written) e =
     let b : (nat_eq location l ≡ true) × (same_value written v ≡ true) = and_parts (nat_eq location l) (same_value written v) e in
-    ap (λ (k : ℕ). Write k written) (eq_true location l b.0)
-    ∙ ap (λ (w : Value). Write l w) (value_is written v b.1)
+    ap (λ (k : ℕ). Store k written) (eq_true location l b.0)
+    ∙ ap (λ (w : Value). Store l w) (value_is written v b.1)
 
-no_source : (l : ℕ) (v : Value) (a : Action) → a ≡ Read l v → (at : ℕ) (es : List Event)
+no_source : (l : ℕ) (v : Value) (a : Action) → a ≡ Load l v → (at : ℕ) (es : List Event)
     → (HasStore l v es → ⊥) → numbers (λ e. may_read a e.action) at es ≡ []
 no_source l v a is at [] never = refl
 no_source l v a is at (e ∷ es) never =
@@ -85,18 +85,18 @@ flat_none f each [] = refl
 flat_none f each (x ∷ xs) =
     ap (λ (l : List (List ℕ)). l ++ flat_map f xs) (each x) ∙ flat_none f each xs
 
-no_tuples : (cs : List (List ℕ)) → HasEmpty cs → (front : List ℕ) → tuples front cs ≡ []
-no_tuples [] h front = absurd h
-no_tuples (c ∷ cs) (inl e) front =
-    ap (λ (d : List ℕ). flat_map (λ x. tuples (front ++ x ∷ []) cs) d) e
-no_tuples (c ∷ cs) (inr h) front =
-    flat_none (λ x. tuples (front ++ x ∷ []) cs) (λ x. no_tuples cs h (front ++ x ∷ [])) c
+no_tuples : (cs : List (List ℕ)) → HasEmpty cs → (prefix : List ℕ) → tuples prefix cs ≡ []
+no_tuples [] h prefix = absurd h
+no_tuples (c ∷ cs) (inl e) prefix =
+    ap (λ (d : List ℕ). flat_map (λ x. tuples (prefix ++ x ∷ []) cs) d) e
+no_tuples (c ∷ cs) (inr h) prefix =
+    flat_none (λ x. tuples (prefix ++ x ∷ []) cs) (λ x. no_tuples cs h (prefix ++ x ∷ [])) c
 
 loads_alone : (l : ℕ) (v : Value) (all es : List Event) → (HasStore l v all → ⊥) → HasLoad l v es
     → HasEmpty (map (stores_for all) (filter is_load es))
 loads_alone l v all [] never h = absurd h
 loads_alone l v all (e ∷ es) never (inl is) =
-    go (is_load e) (ap (λ (a : Action). reads a) is) (filter is_load es)
+    go (is_load e) (ap (λ (a : Action). is_load_action a) is) (filter is_load es)
   where
     go : (b : Bool) → b ≡ true → (rest : List Event)
         → HasEmpty (map (stores_for all) (cond b (e ∷ rest) rest))
@@ -116,9 +116,9 @@ loads_alone l v all (e ∷ es) never (inr h) =
 abbrev pub IsStuck : ℕ → Value → PrefixLists → Type 0
 IsStuck l v b = HasLoad l v b.combination.events × (HasStore l v b.combination.events → ⊥)
 
-pub no_ways : (l : ℕ) (v : Value) (b : PrefixLists) → IsStuck l v b
+pub no_read_choices : (l : ℕ) (v : Value) (b : PrefixLists) → IsStuck l v b
     → AreReadChoices b.combination.events b.needs []
-no_ways l v b s =
+no_read_choices l v b s =
     subst (λ (ts : List (List ℕ)).
     IsFiltered (IsReadChoice (accesses_in b.combination.events b.needs)) ts [])
     (sym (no_tuples (accesses_in b.combination.events b.needs).sources
@@ -149,11 +149,11 @@ parts_lack key l v a b e all (p ∷ ps) k never =
     ((λ s. never (k.1 a b (k.0.stores l v a b s e))), parts_lack key l v a b e all ps k.2 never)
 
 threads_lack : (key : ℕ → Value → Option (ℕ × ℕ)) (l : ℕ) (v : Value) (a b : ℕ)
-    → key l v ≡ Some (a, b) → (after : KeySet) (ts : List ThreadParts) → HasWrites after ts
+    → key l v ≡ Some (a, b) → (after : KeySet) (ts : List ThreadParts) → HasStores after ts
     → ThreadsAreKeyed key ts → (HasKey after a b → ⊥) → ThreadsLack l v ts
 threads_lack key l v a b e after [] w k never = tt
 threads_lack key l v a b e after (t ∷ ts) w k never = (
-  parts_lack key l v a b e t.writes t.parts.items k.0 (λ h. never (w.0 a b h)),
+  parts_lack key l v a b e t.stores t.parts.items k.0 (λ h. never (w.0 a b h)),
   threads_lack key l v a b e after ts w.1 k.1 never,
 )
 
@@ -165,8 +165,8 @@ pub record Stuck (b : PrefixLists) (ts : List ThreadParts) : Type 0 where
   pub lack : ThreadsLack location value ts
 
 pub does_not_fit : (key : ℕ → Value → Option (ℕ × ℕ)) (f : Prefix) (p : Part) (after : KeySet)
-    (ts : List ThreadParts) (i : ℕ) → AreKeys key f.runs.events.items f.reads f.writes
-    → AreKeys key p.events.items p.reads p.writes → ThreadsAreKeyed key ts → HasWrites after ts
+    (ts : List ThreadParts) (i : ℕ) → AreKeys key f.runs.events.items f.loads f.stores
+    → AreKeys key p.events.items p.loads p.stores → ThreadsAreKeyed key ts → HasStores after ts
     → TellsSubset false (IsLoadedKey f p) (IsStoredKey f p after) → Stuck (with_run i p (prefix_lists f)) ts
 does_not_fit key f p after ts i fk pk tk w m =
     elim m.2 [
@@ -197,9 +197,9 @@ does_not_fit key f p after ts i fk pk tk w m =
 
 -- the answer of the test
 pub told : (f : Prefix) (p : Part) (after s t r : KeySet) (is : Bool)
-    → ((a b : ℕ) → HasKey s a b ↔ (HasKey after a b ⊎ HasKey f.writes a b))
-    → ((a b : ℕ) → HasKey t a b ↔ (HasKey s a b ⊎ HasKey p.writes a b))
-    → ((a b : ℕ) → HasKey r a b ↔ (HasKey f.reads a b ⊎ HasKey p.reads a b))
+    → ((a b : ℕ) → HasKey s a b ↔ (HasKey after a b ⊎ HasKey f.stores a b))
+    → ((a b : ℕ) → HasKey t a b ↔ (HasKey s a b ⊎ HasKey p.stores a b))
+    → ((a b : ℕ) → HasKey r a b ↔ (HasKey f.loads a b ⊎ HasKey p.loads a b))
     → TellsSubset is (HasKey r) (HasKey t) → TellsSubset is (IsLoadedKey f p) (IsStoredKey f p after)
 told f p after s t r true js jt jr tells =
     λ a b h.
@@ -218,25 +218,25 @@ told_false true R S e h = absurd cc
 told_false false R S e h = h
 
 -- what the later threads store
-writes_append : (ts : List ThreadParts) (t : ThreadParts) (s u : KeySet) → AreKeysIn s u
-    → AreKeysIn t.writes u → HasWrites s ts → HasWrites u (ts ++ t ∷ [])
-writes_append [] t s u w v h = (v, tt)
-writes_append (x ∷ xs) t s u w v h = ((λ a b k. w a b (h.0 a b k)), writes_append xs t s u w v h.1)
+stores_append : (ts : List ThreadParts) (t : ThreadParts) (s u : KeySet) → AreKeysIn s u
+    → AreKeysIn t.stores u → HasStores s ts → HasStores u (ts ++ t ∷ [])
+stores_append [] t s u w v h = (v, tt)
+stores_append (x ∷ xs) t s u w v h = ((λ a b k. w a b (h.0 a b k)), stores_append xs t s u w v h.1)
 
-pub writes_more : (ts : List ThreadParts) (i : ℕ) (t : ThreadParts) (s u : KeySet) → i < length ts
-    → t ≡ get_or ts i t → HasWrites s (take i ts)
-    → ((a b : ℕ) → HasKey u a b ↔ (HasKey s a b ⊎ HasKey t.writes a b))
-    → HasWrites u (take (i + 1) ts)
-writes_more ts i t s u lt is h j =
-    subst (λ (l : List ThreadParts). HasWrites u l) (sym (take_more ts i t lt
+pub stores_more : (ts : List ThreadParts) (i : ℕ) (t : ThreadParts) (s u : KeySet) → i < length ts
+    → t ≡ get_or ts i t → HasStores s (take i ts)
+    → ((a b : ℕ) → HasKey u a b ↔ (HasKey s a b ⊎ HasKey t.stores a b))
+    → HasStores u (take (i + 1) ts)
+stores_more ts i t s u lt is h j =
+    subst (λ (l : List ThreadParts). HasStores u l) (sym (take_more ts i t lt
     ∙ ap (λ (q : ThreadParts). take i ts ++ q ∷ []) (sym is)))
-    (writes_append (take i ts) t s u (λ a b k. (j a b).1 (inl k)) (λ a b k. (j a b).1 (inr k)) h)
+    (stores_append (take i ts) t s u (λ a b k. (j a b).1 (inl k)) (λ a b k. (j a b).1 (inr k)) h)
 
 -- the sets of the prefix
 pub first_keys : (key : ℕ → Value → Option (ℕ × ℕ)) (l : Layout) (f : Prefix)
     → prefix_lists f ≡ initial_prefix l.initial.items
-    → ((a b : ℕ) → HasKey f.reads a b → ⊥) × (f.writes ≡ l.initial_writes) → IsKeyed key l
-    → AreKeys key f.runs.events.items f.reads f.writes
+    → ((a b : ℕ) → HasKey f.loads a b → ⊥) × (f.stores ≡ l.initial_store_keys) → IsKeyed key l
+    → AreKeys key f.runs.events.items f.loads f.stores
 first_keys key l f e s k = record {
   loads = λ a b h. absurd (s.0 a b h);
   stores =
@@ -248,10 +248,10 @@ first_keys key l f e s k = record {
 
 pub longer_keys : (key : ℕ → Value → Option (ℕ × ℕ)) (f : Prefix) (p : Part) (g : Prefix) (i : ℕ)
     → prefix_lists g ≡ with_run i p (prefix_lists f) → HasJoined f p g
-    → AreKeys key f.runs.events.items f.reads f.writes → AreKeys key p.events.items p.reads p.writes
-    → AreKeys key g.runs.events.items g.reads g.writes
+    → AreKeys key f.runs.events.items f.loads f.stores → AreKeys key p.events.items p.loads p.stores
+    → AreKeys key g.runs.events.items g.loads g.stores
 longer_keys key f p g i e j fk pk =
-    subst (λ (es : List Event). AreKeys key es g.reads g.writes)
+    subst (λ (es : List Event). AreKeys key es g.loads g.stores)
     (sym (ap (λ (b : PrefixLists). b.combination.events) e)) (record {
       loads = λ a b h. elim ((j.0 a b).0 h) [
         | inl r ↦
@@ -272,8 +272,8 @@ longer_keys key f p g i e j fk pk =
 -- the sets of one run
 pub part_keys : (key : ℕ → Value → Option (ℕ × ℕ)) (all : KeySet) (ps : List Part) (i : ℕ)
     (p : Part) → PartsAreKeyed key all ps → i < length ps → p ≡ get_or ps i p
-    → AreKeys key p.events.items p.reads p.writes
+    → AreKeys key p.events.items p.loads p.stores
 part_keys key all [] i p k lt is = absurd (omega (arith, lt))
 part_keys key all (q ∷ ps) zero p k lt is =
-    subst (λ (x : Part). AreKeys key x.events.items x.reads x.writes) (sym is) k.0
+    subst (λ (x : Part). AreKeys key x.events.items x.loads x.stores) (sym is) k.0
 part_keys key all (q ∷ ps) (suc i) p k lt is = part_keys key all ps i p k.2 (omega (arith, lt)) is

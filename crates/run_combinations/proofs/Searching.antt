@@ -6,8 +6,8 @@ use Rattle.std.proofs.lemmas.List.Concat.{flat_map-append}
 use Rattle.std.proofs.Math.Seq.{take-length}
 use Rattle.run_combinations.specs.Search.{PrefixLists, Tally, PrefixFits, AllPrefixesFit, TalliesOneMore, ExceedsCandidates, Tells, with_run, with_indices, combinations, HasJoined, TalliesAll, none, more, AreTooMuch, now, later, prefix_lists, initial_prefix, no_tally, all_combinations, location_count}
 use Rattle.thread_runs.specs.declared.value.Value.{Value}
-use Rattle.run_combinations.specs.Keys.{HasKey, HasWrites, AreKeys, PartsAreKeyed, ThreadsAreKeyed, IsKeyed, IsLoadedKey, IsStoredKey, TellsSubset}
-use Rattle.run_combinations.proofs.Pruning.{IsStuck, Stuck, PartsLack, ThreadsLack, no_ways, run_stuck, first_keys, longer_keys, part_keys, does_not_fit, told_false}
+use Rattle.run_combinations.specs.Keys.{HasKey, HasStores, AreKeys, PartsAreKeyed, ThreadsAreKeyed, IsKeyed, IsLoadedKey, IsStoredKey, TellsSubset}
+use Rattle.run_combinations.proofs.Pruning.{IsStuck, Stuck, PartsLack, ThreadsLack, no_read_choices, run_stuck, first_keys, longer_keys, part_keys, does_not_fit, told_false}
 use Rattle.run_combinations.specs.Candidates.{AreSmall}
 use Rattle.run_combinations.specs.declared.keys.KeySet.{KeySet}
 use Rattle.run_combinations.specs.declared.layout.Layout.{Layout}
@@ -269,7 +269,7 @@ found_there n b ts ps i p x is t u v g e f h =
 -- the combinations that go on with a run that does not fit
 judged_none : (n : ℕ) (l : ℕ) (v : Value) (b : PrefixLists) (t : Tally) → IsStuck l v b
     → TalliesOneMore n b t t
-judged_none n l v b t s = ([], no_ways l v b s, refl)
+judged_none n l v b t s = ([], no_read_choices l v b s, refl)
 
 none_goes_on : (n l : ℕ) (v : Value) (b : PrefixLists) (ts : List ThreadParts) (t : Tally)
     → ((x : PrefixLists) → IsStuck l v x → TalliesAll n (combinations x ts) t t) → IsStuck l v b
@@ -312,49 +312,49 @@ all_found n b ts thread ps i t u lt is same whole f =
 -- the sets of the prefix and of the threads
 pub threads_keys : (key : ℕ → Value → Option (ℕ × ℕ)) (ts : List ThreadParts) (t : ThreadParts)
     (ps : List Part) → 0 < length ts → t ≡ get_or ts 0 t → ps ≡ t.parts.items
-    → ThreadsAreKeyed key ts → PartsAreKeyed key t.writes ps × ThreadsAreKeyed key (rest_of ts)
+    → ThreadsAreKeyed key ts → PartsAreKeyed key t.stores ps × ThreadsAreKeyed key (rest_of ts)
 threads_keys key ts t ps lt is same k =
     let h : ThreadsAreKeyed key (t ∷ rest_of ts) = subst (λ (l : List ThreadParts). ThreadsAreKeyed key l) (first_and_rest ts t lt is) k in
-    (subst (λ (l : List Part). PartsAreKeyed key t.writes l) (sym same) h.0, h.1)
+    (subst (λ (l : List Part). PartsAreKeyed key t.stores l) (sym same) h.0, h.1)
 
 -- where the search goes on
 pub keyed : (key : ℕ → Value → Option (ℕ × ℕ)) (n : ℕ) (f g : Prefix) (ts : List ThreadParts)
     (ps : List Part) (i : ℕ) (p : Part) (is : Bool) (u v : Tally)
     → Going n (prefix_lists f) ts ps i p (prefix_lists g) → HasJoined f p g
-    → AreKeys key f.runs.events.items f.reads f.writes → ThreadsAreKeyed key ts
-    → ((k : ℕ → Value → Option (ℕ × ℕ)) → AreKeys k g.runs.events.items g.reads g.writes
+    → AreKeys key f.runs.events.items f.loads f.stores → ThreadsAreKeyed key ts
+    → ((k : ℕ → Value → Option (ℕ × ℕ)) → AreKeys k g.runs.events.items g.loads g.stores
     → ThreadsAreKeyed k (rest_of ts) → GoesOn n is (prefix_lists g) (rest_of ts) u v)
     → GoesOn n is (prefix_lists g) (rest_of ts) u v
 keyed key n f g ts ps i p is u v going j fk tk h =
-    let all : PartsAreKeyed key going.thread.writes ps × ThreadsAreKeyed key (rest_of ts) = threads_keys key ts going.thread ps going.some going.first going.runs tk in
+    let all : PartsAreKeyed key going.thread.stores ps × ThreadsAreKeyed key (rest_of ts) = threads_keys key ts going.thread ps going.some going.first going.runs tk in
     h key
-    (longer_keys key f p g i going.longer j fk (part_keys key going.thread.writes ps i p all.0
+    (longer_keys key f p g i going.longer j fk (part_keys key going.thread.stores ps i p all.0
     going.within going.one)) all.1
 
 -- where it leaves out a run
 pub left_out : (key : ℕ → Value → Option (ℕ × ℕ)) (n : ℕ) (f : Prefix) (ts : List ThreadParts)
     (thread : ThreadParts) (ps : List Part) (i : ℕ) (p : Part) (after : KeySet) (is : Bool)
     (t u : Tally) → 0 < length ts → thread ≡ get_or ts 0 thread → ps ≡ thread.parts.items
-    → i < length ps → p ≡ get_or ps i p → AreKeys key f.runs.events.items f.reads f.writes
-    → ThreadsAreKeyed key ts → HasWrites after (rest_of ts) → is ≡ false
+    → i < length ps → p ≡ get_or ps i p → AreKeys key f.runs.events.items f.loads f.stores
+    → ThreadsAreKeyed key ts → HasStores after (rest_of ts) → is ≡ false
     → TellsSubset is (IsLoadedKey f p) (IsStoredKey f p after)
     → TalliesAll n (going_on (prefix_lists f) (rest_of ts) 0 (take i ps)) t u × (u.count ≤ 16384)
     → TalliesAll n (going_on (prefix_lists f) (rest_of ts) 0 (take (i + 1) ps)) t u
     × (u.count ≤ 16384)
 left_out key n f ts thread ps i p after is t u some first runs lt one fk tk w e tells found =
-    let all : PartsAreKeyed key thread.writes ps × ThreadsAreKeyed key (rest_of ts) = threads_keys key ts thread ps some first runs tk in
+    let all : PartsAreKeyed key thread.stores ps × ThreadsAreKeyed key (rest_of ts) = threads_keys key ts thread ps some first runs tk in
     passed_over n (prefix_lists f) (rest_of ts) ps i p t u lt one
-    (does_not_fit key f p after (rest_of ts) i fk (part_keys key thread.writes ps i p all.0 lt one)
+    (does_not_fit key f p after (rest_of ts) i fk (part_keys key thread.stores ps i p all.0 lt one)
     all.1 w (told_false is (IsLoadedKey f p) (IsStoredKey f p after) e tells)) found
 
 -- the search through a layout
 pub searched_layout : (key : ℕ → Value → Option (ℕ × ℕ)) (l : Layout) (f : Prefix)
     (ts : List ThreadParts) (n : ℕ) (is : Bool) (old new : Tally)
     → prefix_lists f ≡ initial_prefix l.initial.items
-    → ((a b : ℕ) → HasKey f.reads a b → ⊥) × (f.writes ≡ l.initial_writes) → ts ≡ l.threads.items
+    → ((a b : ℕ) → HasKey f.loads a b → ⊥) × (f.stores ≡ l.initial_store_keys) → ts ≡ l.threads.items
     → n ≡ location_count l → old ≡ no_tally → IsKeyed key l
     → AllPrefixesFit (location_count l) (all_combinations l)
-    → ((k : ℕ → Value → Option (ℕ × ℕ)) → AreKeys k f.runs.events.items f.reads f.writes
+    → ((k : ℕ → Value → Option (ℕ × ℕ)) → AreKeys k f.runs.events.items f.loads f.stores
     → ThreadsAreKeyed k ts → AllPrefixesFit n (combinations (prefix_lists f) ts) → old.count ≤ 16384
     → Tells is (TalliesAll n (combinations (prefix_lists f) ts) old new × (new.count ≤ 16384))
     (AreTooMuch n (combinations (prefix_lists f) ts) old))

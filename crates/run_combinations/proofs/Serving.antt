@@ -4,7 +4,7 @@ use Rattle.std.specs.declared.alloc.Global.{Global}
 use Rattle.thread_runs.specs.declared.value.Value.{Value}
 use Rattle.thread_runs.specs.declared.run.Run.{Run}
 use Rattle.thread_runs.specs.declared.instruction.Program.{Program}
-use Rattle.thread_runs.specs.Held.{ShowsServed}
+use Rattle.thread_runs.specs.LocationValues.{ShowsServed}
 use Rattle.run_combinations.proofs.Gathering.{pushed_at}
 
 abbrev pub AreServed : Program → List Value → List (Vec Run Global) → Type 0

@@ -1,16 +1,18 @@
 -- The candidates of all combinations of runs, and when there are too many or one holds a fault.
 use Rattle.std.specs.Prelude.{ℕ, ◌≡◌, ◌<◌, ◌≤◌, ◌+◌, ◌*◌, ◌⊎◌, List, [], ◌∷◌, length, true}
-use Rattle.run_combinations.specs.Ways.{AreReadChoices}
+use Rattle.run_combinations.specs.ReadChoices.{AreReadChoices}
 use Rattle.run_combinations.specs.Search.{PrefixLists}
 use Rattle.run_combinations.specs.Combinations.{CombinationLists, ordered}
 
 -- each combination of runs that has a read choice, with its read choices and orders of the stores
 pub data AreCombinations (n : ℕ) : List PrefixLists → List CombinationLists → Type 0 where
   nothing_left : AreCombinations n [] []
-  with_ways : {b : PrefixLists} {bs : List PrefixLists} {cs : List CombinationLists} {way : List ℕ}
-      {ways : List (List ℕ)} → AreReadChoices b.combination.events b.needs (way ∷ ways)
+  with_read_choices : {b : PrefixLists} {bs : List PrefixLists} {cs : List CombinationLists}
+      {reads_from : List ℕ} {read_choices : List (List ℕ)}
+      → AreReadChoices b.combination.events b.needs (reads_from ∷ read_choices)
       → AreCombinations n bs cs
-      → AreCombinations n (b ∷ bs) (ordered n (record b.combination { sources = way ∷ ways }) ∷ cs)
+      → AreCombinations n (b ∷ bs)
+      (ordered n (record b.combination { reads_from = reads_from ∷ read_choices }) ∷ cs)
   without : {b : PrefixLists} {bs : List PrefixLists} {cs : List CombinationLists}
       → AreReadChoices b.combination.events b.needs [] → AreCombinations n bs cs
       → AreCombinations n (b ∷ bs) cs
@@ -18,14 +20,15 @@ pub data AreCombinations (n : ℕ) : List PrefixLists → List CombinationLists 
 -- how many candidates they have: each read choice with each order is one
 abbrev pub candidate_total : List CombinationLists → ℕ
 candidate_total [] = 0
-candidate_total (c ∷ cs) = length c.sources * length c.orders + candidate_total cs
+candidate_total (c ∷ cs) = length c.reads_from * length c.orders + candidate_total cs
 
 -- some candidate holds a run that stopped at a fault
 abbrev pub HasFaultedCandidate : List PrefixLists → Type 0
 HasFaultedCandidate [] = ⊥
 HasFaultedCandidate (b ∷ bs) =
-    ((b.faulted ≡ true) × (way : List ℕ) × (ways : List (List ℕ))
-    × AreReadChoices b.combination.events b.needs (way ∷ ways)) ⊎ HasFaultedCandidate bs
+    ((b.faulted ≡ true) × (reads_from : List ℕ) × (read_choices : List (List ℕ))
+    × AreReadChoices b.combination.events b.needs (reads_from ∷ read_choices))
+    ⊎ HasFaultedCandidate bs
 
 -- all candidates: at most 16,384, of which none holds a fault
 pub record AreCandidates (n : ℕ) (bs : List PrefixLists) (cs : List CombinationLists) : Type 0 where

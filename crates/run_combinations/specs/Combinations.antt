@@ -13,14 +13,14 @@ pairs xs ys = flat_map (λ x. map (λ y. (x, y)) ys) xs
 
 -- the candidates of a combination: each read choice with each order of the stores
 unfoldable pub candidates_of : Combination → List (List ℕ × List ℕ)
-candidates_of c = pairs (lists_of c.sources.items) c.orders
+candidates_of c = pairs (lists_of c.reads_from.items) c.orders
 
 -- a combination as plain data
 pub record CombinationLists : Type 0 where
   pub events : List Event
   pub dependencies : DependencyLists
   pub runs : List ℕ
-  pub sources : List (List ℕ)
+  pub reads_from : List (List ℕ)
   pub orders : List (List ℕ)
 
 abbrev pub combination_lists : Combination → CombinationLists
@@ -28,7 +28,7 @@ combination_lists c = record {
   events = c.events.items;
   dependencies = dependency_lists c.dependencies;
   runs = c.runs.items;
-  sources = lists_of c.sources.items;
+  reads_from = lists_of c.reads_from.items;
   orders = c.orders;
 }
 

@@ -7,19 +7,20 @@ use Rattle.thread_runs.specs.declared.value.Value.{Value}
 use Rattle.thread_runs.specs.declared.value.Value.TheVariants.{Address}
 use Rattle.text_values.specs.declared.instruction.Fence as kinds
 use Rattle.thread_runs.specs.Machine as machine
+pub use Rattle.thread_runs.specs.FreeWalks.{is_store_instruction}
 use Rattle.thread_runs.specs.declared.instruction.Instruction.{Instruction}
-use Rattle.thread_runs.specs.declared.instruction.Instruction.TheVariants.{Store, StoreIndexed, Barrier}
+use Rattle.thread_runs.specs.declared.instruction.Instruction.TheVariants.{Fence}
 use Rattle.thread_runs.specs.declared.instruction.Event as run
-use Rattle.thread_runs.specs.declared.instruction.Event.TheVariants.{Reads, Writes, Orders}
+use Rattle.thread_runs.specs.declared.instruction.Event.TheVariants as run_event
 use Rattle.run_combinations.specs.declared.combination.Action.{Action}
-use Rattle.run_combinations.specs.declared.combination.Action.TheVariants.{Read, Write, Fence}
+use Rattle.run_combinations.specs.declared.combination.Action.TheVariants as actions
 use Rattle.run_combinations.specs.declared.combination.Event.{Event}
 
 -- what an event of a run does: an access by the number of its location, or a fence
 abbrev pub action_in : run.Event → Option Action
-action_in (Reads (Address location) value) = Some (Read location value)
-action_in (Writes (Address location) value) = Some (Write location value)
-action_in (Orders fence) = Some (Fence fence)
+action_in (run_event.Load (Address location) value) = Some (actions.Load location value)
+action_in (run_event.Store (Address location) value) = Some (actions.Store location value)
+action_in (run_event.Fence fence) = Some (actions.Fence fence)
 action_in _ = None
 
 abbrev pub with_action : ℕ → Option Action → List Event
@@ -34,29 +35,29 @@ thread_events thread es = flat_map (λ e. with_action thread (action_in e)) es
 abbrev pub initial_stores : ℕ → List Value → List Event
 initial_stores location [] = []
 initial_stores location (v ∷ vs) =
-    record { thread = None; action = Write location v } ∷ initial_stores (location + 1) vs
+    record { thread = None; action = actions.Store location v } ∷ initial_stores (location + 1) vs
 
 -- loads, stores, and stores to a location
-abbrev pub reads : Action → Bool
-reads (Read location value) = true
-reads (Write location value) = false
-reads (Fence fence) = false
+abbrev pub is_load_action : Action → Bool
+is_load_action (actions.Load location value) = true
+is_load_action (actions.Store location value) = false
+is_load_action (actions.Fence fence) = false
 
-abbrev pub writes : Action → Bool
-writes (Read location value) = false
-writes (Write location value) = true
-writes (Fence fence) = false
+abbrev pub is_store_action : Action → Bool
+is_store_action (actions.Load location value) = false
+is_store_action (actions.Store location value) = true
+is_store_action (actions.Fence fence) = false
 
 abbrev pub is_store_to : ℕ → Action → Bool
-is_store_to location (Read read_from value) = false
-is_store_to location (Write written_to value) = nat_eq written_to location
-is_store_to location (Fence fence) = false
+is_store_to location (actions.Load read_from value) = false
+is_store_to location (actions.Store written_to value) = nat_eq written_to location
+is_store_to location (actions.Fence fence) = false
 
 abbrev pub is_load : Event → Bool
-is_load e = reads e.action
+is_load e = is_load_action e.action
 
 abbrev pub is_store : Event → Bool
-is_store e = writes e.action
+is_store e = is_store_action e.action
 
 -- the numbers of the events that pass the test, where the first one has the number `at`
 abbrev pub numbers : (Event → Bool) → ℕ → List Event → List ℕ
@@ -71,21 +72,23 @@ abbrev pub AreDistinct : List ℕ → Type 0
 AreDistinct [] = Unit {0}
 AreDistinct (x ∷ xs) = (has_store xs x ≡ false) × AreDistinct xs
 
--- the pairs of a store and a load that reads it, where `way` has the store that each of the loads
--- reads
+-- the pairs of a store and a load that reads it, where `reads_from` has the store that each of the
+-- loads reads
 abbrev pub ReadsFrom : List ℕ → List ℕ → ℕ → ℕ → Type 0
-ReadsFrom loads way a b =
-    (i : ℕ) × (i < length way) × (i < length loads) × (a ≡ slice_index way i)
+ReadsFrom loads reads_from a b =
+    (i : ℕ) × (i < length reads_from) × (i < length loads) × (a ≡ slice_index reads_from i)
     × (b ≡ slice_index loads i)
 
 -- there is a load, or a store, of the location and value
 abbrev pub HasLoad : ℕ → Value → List Event → Type 0
 HasLoad location value [] = ⊥
-HasLoad location value (e ∷ es) = (e.action ≡ Read location value) ⊎ HasLoad location value es
+HasLoad location value (e ∷ es) =
+    (e.action ≡ actions.Load location value) ⊎ HasLoad location value es
 
 abbrev pub HasStore : ℕ → Value → List Event → Type 0
 HasStore location value [] = ⊥
-HasStore location value (e ∷ es) = (e.action ≡ Write location value) ⊎ HasStore location value es
+HasStore location value (e ∷ es) =
+    (e.action ≡ actions.Store location value) ⊎ HasStore location value es
 
 -- some load has a location and a value that no store has
 abbrev pub CannotRead : List Event → Type 0
@@ -93,18 +96,14 @@ CannotRead es =
     (location : ℕ) × (value : Value) × HasLoad location value es × (HasStore location value es → ⊥)
 
 -- the kind of event that an instruction makes
-abbrev pub makes_store : Instruction → Bool
-makes_store (Store d a) = true
-makes_store (StoreIndexed d a b) = true
-makes_store _ = false
-
 abbrev pub fence_of_instruction : Instruction → Option kinds.Fence
-fence_of_instruction (Barrier fence) = Some fence
+fence_of_instruction (Fence fence) = Some fence
 fence_of_instruction _ = None
 
 -- the event is one of the thread, and of the kind of the instruction
 pub record IsKind (thread : ℕ) (i : Instruction) (e : Event) : Type 0 where
   pub of_thread : e.thread ≡ Some thread
   pub loads : machine.is_load i ≡ true → is_load e ≡ true
-  pub stores : makes_store i ≡ true → is_store e ≡ true
-  pub fences : (fence : kinds.Fence) → fence_of_instruction i ≡ Some fence → e.action ≡ Fence fence
+  pub stores : is_store_instruction i ≡ true → is_store e ≡ true
+  pub fences : (fence : kinds.Fence) → fence_of_instruction i ≡ Some fence
+      → e.action ≡ actions.Fence fence

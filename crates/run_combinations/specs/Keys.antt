@@ -4,7 +4,7 @@ use Rattle.std.specs.List.{position_or_len}
 use Rattle.bit_relations.specs.Rows.{RowsHave}
 use Rattle.thread_runs.specs.declared.value.Value.{Value}
 use Rattle.run_combinations.specs.Events.{HasLoad, HasStore}
-use Rattle.run_combinations.specs.Ways.{same_value}
+use Rattle.run_combinations.specs.ReadChoices.{same_value}
 use Rattle.run_combinations.specs.declared.combination.Event.{Event}
 use Rattle.run_combinations.specs.declared.keys.KeySet.{KeySet}
 use Rattle.run_combinations.specs.declared.layout.Layout.{Layout}
@@ -51,40 +51,40 @@ abbrev pub AreKeysIn : KeySet → KeySet → Type 0
 AreKeysIn s t = (a b : ℕ) → HasKey s a b → HasKey t a b
 
 -- the set has all that some run of the threads stores
-abbrev pub HasWrites : KeySet → List ThreadParts → Type 0
-HasWrites s [] = Unit {0}
-HasWrites s (t ∷ ts) = AreKeysIn t.writes s × HasWrites s ts
+abbrev pub HasStores : KeySet → List ThreadParts → Type 0
+HasStores s [] = Unit {0}
+HasStores s (t ∷ ts) = AreKeysIn t.stores s × HasStores s ts
 
 -- each pair of the first set is one that a load reads, and the second has each that a store stores,
 -- where `key` says which bit a location and a value have, if any
-pub record AreKeys (key : ℕ → Value → Option (ℕ × ℕ)) (es : List Event) (reads writes : KeySet)
-    : Type 0 where
-  pub loads : (a b : ℕ) → HasKey reads a b
+pub record AreKeys (key : ℕ → Value → Option (ℕ × ℕ)) (es : List Event)
+    (load_keys store_keys : KeySet) : Type 0 where
+  pub loads : (a b : ℕ) → HasKey load_keys a b
       → (location : ℕ) × (value : Value) × (key location value ≡ Some (a, b))
       × HasLoad location value es
   pub stores : (location : ℕ) (value : Value) (a b : ℕ) → HasStore location value es
-      → key location value ≡ Some (a, b) → HasKey writes a b
+      → key location value ≡ Some (a, b) → HasKey store_keys a b
 
 -- so are the sets of each run of a thread, of which this one has all that they store
 abbrev pub PartsAreKeyed : (ℕ → Value → Option (ℕ × ℕ)) → KeySet → List Part → Type 0
 PartsAreKeyed key all [] = Unit {0}
 PartsAreKeyed key all (p ∷ ps) =
-    AreKeys key p.events.items p.reads p.writes × AreKeysIn p.writes all × PartsAreKeyed key all ps
+    AreKeys key p.events.items p.loads p.stores × AreKeysIn p.stores all × PartsAreKeyed key all ps
 
 abbrev pub ThreadsAreKeyed : (ℕ → Value → Option (ℕ × ℕ)) → List ThreadParts → Type 0
 ThreadsAreKeyed key [] = Unit {0}
-ThreadsAreKeyed key (t ∷ ts) = PartsAreKeyed key t.writes t.parts.items × ThreadsAreKeyed key ts
+ThreadsAreKeyed key (t ∷ ts) = PartsAreKeyed key t.stores t.parts.items × ThreadsAreKeyed key ts
 
 -- the sets of a layout
 pub record IsKeyed (key : ℕ → Value → Option (ℕ × ℕ)) (l : Layout) : Type 0 where
   pub initial : (location : ℕ) (value : Value) (a b : ℕ) → HasStore location value l.initial.items
-      → key location value ≡ Some (a, b) → HasKey l.initial_writes a b
+      → key location value ≡ Some (a, b) → HasKey l.initial_store_keys a b
   pub threads : ThreadsAreKeyed key l.threads.items
 
 -- a load of the prefix or of the run reads it
 abbrev pub IsLoadedKey : Prefix → Part → ℕ → ℕ → Type 0
-IsLoadedKey f p a b = HasKey f.reads a b ⊎ HasKey p.reads a b
+IsLoadedKey f p a b = HasKey f.loads a b ⊎ HasKey p.loads a b
 
 -- the prefix, the run or a later thread stores it
 abbrev pub IsStoredKey : Prefix → Part → KeySet → ℕ → ℕ → Type 0
-IsStoredKey f p after a b = (HasKey after a b ⊎ HasKey f.writes a b) ⊎ HasKey p.writes a b
+IsStoredKey f p after a b = (HasKey after a b ⊎ HasKey f.stores a b) ⊎ HasKey p.stores a b

@@ -5,7 +5,7 @@ use Rattle.std.specs.declared.alloc.Global.{Global}
 use Rattle.thread_runs.specs.declared.value.Value.{Value}
 use Rattle.thread_runs.specs.declared.run.Run.{Run}
 use Rattle.thread_runs.specs.declared.instruction.Program.{Program}
-use Rattle.thread_runs.specs.Held.{ShowsServed}
+use Rattle.thread_runs.specs.LocationValues.{ShowsServed}
 use Rattle.run_combinations.specs.Events.{thread_events, initial_stores, CannotRead}
 use Rattle.run_combinations.specs.Parts.{IsPartOf}
 use Rattle.run_combinations.specs.declared.combination.Event.{Event}

@@ -1,7 +1,7 @@
 pub mod Candidates
 pub mod Combinations
 pub mod Events
-pub mod Growing
+pub mod OrderPrefixes
 pub mod Keys
 pub mod Layouts
 pub mod Lists
@@ -10,4 +10,4 @@ pub mod Parts
 pub mod Prefixes
 pub mod Rounds
 pub mod Search
-pub mod Ways
+pub mod ReadChoices

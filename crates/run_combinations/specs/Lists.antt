@@ -14,8 +14,8 @@ rows_in width (suc count) xs = take width xs ∷ rows_in width count (drop width
 
 -- the tuples that begin so and take one choice of each further list, in lexicographic order
 abbrev pub tuples : List ℕ → List (List ℕ) → List (List ℕ)
-tuples front [] = front ∷ []
-tuples front (c ∷ cs) = flat_map (λ x. tuples (front ++ x ∷ []) cs) c
+tuples prefix [] = prefix ∷ []
+tuples prefix (c ∷ cs) = flat_map (λ x. tuples (prefix ++ x ∷ []) cs) c
 
 -- the second list has those members of the first of which the fact holds, in order
 pub data IsFiltered {X : Type 0} (P : X → Type 0) : List X → List X → Type 0 where
@@ -23,6 +23,6 @@ pub data IsFiltered {X : Type 0} (P : X → Type 0) : List X → List X → Type
   kept : {x : X} {xs ys : List X} → P x → IsFiltered P xs ys → IsFiltered P (x ∷ xs) (x ∷ ys)
   left : {x : X} {xs ys : List X} → (P x → ⊥) → IsFiltered P xs ys → IsFiltered P (x ∷ xs) ys
 
--- the front with each of the others behind it
+-- the prefix with each of the others behind it
 abbrev pub each_behind : List (List ℕ) → List ℕ → List (List ℕ)
-each_behind others front = map (λ other. front ++ other) others
+each_behind others prefix = map (λ other. prefix ++ other) others

@@ -7,8 +7,8 @@ use Rattle.run_combinations.specs.declared.combination.Event.{Event}
 
 -- the list with each of the stores that it lacks behind it
 abbrev pub with_new : List ℕ → List ℕ → List (List ℕ)
-with_new stores front =
-    map (λ store. front ++ store ∷ []) (filter (λ store. not (has_store front store)) stores)
+with_new stores prefix =
+    map (λ store. prefix ++ store ∷ []) (filter (λ store. not (has_store prefix store)) stores)
 
 -- the orders of the first store and the others that begin with it and have no store twice, in
 -- lexicographic order

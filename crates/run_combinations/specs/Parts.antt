@@ -19,7 +19,7 @@ abbrev pub IsSketch : List Value → List Run → Sketch → Type 0
 IsSketch values runs s =
     (r : Run) × (slice_get runs s.run ≡ Some r)
     × ((thread : ℕ)
-    → AreKeys (bit_of values) (thread_events thread r.events.items) s.reads s.writes)
+    → AreKeys (bit_of values) (thread_events thread r.events.items) s.loads s.stores)
 
 -- a sketch of each run, in order
 pub record AreSketches (values : List Value) (runs : List Run) (ss : List Sketch) : Type 0 where
@@ -27,20 +27,20 @@ pub record AreSketches (values : List Value) (runs : List Run) (ss : List Sketch
   pub each : (k : ℕ) (s : Sketch) → slice_get ss k ≡ Some s → (s.run ≡ k) × IsSketch values runs s
 
 -- the set has what the runs store
-abbrev pub HasWritesOf : KeySet → List Sketch → Type 0
-HasWritesOf set [] = Unit {0}
-HasWritesOf set (s ∷ ss) = AreKeysIn s.writes set × HasWritesOf set ss
+abbrev pub HasStoresOf : KeySet → List Sketch → Type 0
+HasStoresOf set [] = Unit {0}
+HasStoresOf set (s ∷ ss) = AreKeysIn s.stores set × HasStoresOf set ss
 
-abbrev pub HasWritesOfAll : KeySet → List (Vec Sketch Global) → Type 0
-HasWritesOfAll set [] = Unit {0}
-HasWritesOfAll set (v ∷ vs) = HasWritesOf set v.items × HasWritesOfAll set vs
+abbrev pub HasStoresOfAll : KeySet → List (Vec Sketch Global) → Type 0
+HasStoresOfAll set [] = Unit {0}
+HasStoresOfAll set (v ∷ vs) = HasStoresOf set v.items × HasStoresOfAll set vs
 
 -- the second list has those of the first that stay: each other one reads what is not stored
 pub data AreSketchesKept (stored : KeySet) : List Sketch → List Sketch → Type 0 where
   none : AreSketchesKept stored [] []
   kept : {s : Sketch} {ss ts : List Sketch} → AreSketchesKept stored ss ts
       → AreSketchesKept stored (s ∷ ss) (s ∷ ts)
-  left : {s : Sketch} {ss ts : List Sketch} (a b : ℕ) → HasKey s.reads a b → (HasKey stored a b → ⊥)
+  left : {s : Sketch} {ss ts : List Sketch} (a b : ℕ) → HasKey s.loads a b → (HasKey stored a b → ⊥)
       → AreSketchesKept stored ss ts → AreSketchesKept stored (s ∷ ss) ts
 
 -- the second list has some of the first, in order
@@ -61,17 +61,18 @@ IsChoice (v ∷ vs) [] = ⊥
 IsChoice (v ∷ vs) (s ∷ ss) = Among v.items s × IsChoice vs ss
 
 -- some of these runs reads the bit, or stores it
-abbrev pub HasRead : List Sketch → ℕ → ℕ → Type 0
-HasRead [] a b = ⊥
-HasRead (s ∷ ss) a b = HasKey s.reads a b ⊎ HasRead ss a b
+abbrev pub HasLoadKey : List Sketch → ℕ → ℕ → Type 0
+HasLoadKey [] a b = ⊥
+HasLoadKey (s ∷ ss) a b = HasKey s.loads a b ⊎ HasLoadKey ss a b
 
-abbrev pub HasWrite : List Sketch → ℕ → ℕ → Type 0
-HasWrite [] a b = ⊥
-HasWrite (s ∷ ss) a b = HasKey s.writes a b ⊎ HasWrite ss a b
+abbrev pub HasStoreKey : List Sketch → ℕ → ℕ → Type 0
+HasStoreKey [] a b = ⊥
+HasStoreKey (s ∷ ss) a b = HasKey s.stores a b ⊎ HasStoreKey ss a b
 
 -- some of them reads what neither an initial store nor one of them stores
 abbrev pub IsUnread : KeySet → List Sketch → Type 0
-IsUnread initial cs = (a b : ℕ) × HasRead cs a b × (HasKey initial a b → ⊥) × (HasWrite cs a b → ⊥)
+IsUnread initial cs =
+    (a b : ℕ) × HasLoadKey cs a b × (HasKey initial a b → ⊥) × (HasStoreKey cs a b → ⊥)
 
 -- the runs of each thread that stay: a combination with one that does not has a load that reads
 -- what is not stored
@@ -90,7 +91,7 @@ pub record IsPartOf (thread : ℕ) (r : Run) (p : Part) : Type 0 where
 -- the part is made of the run that the sketch names
 abbrev pub IsMade : ℕ → List Run → Sketch → Part → Type 0
 IsMade thread runs s p =
-    (p.run ≡ s.run) × (p.reads ≡ s.reads) × (p.writes ≡ s.writes) × (r : Run)
+    (p.run ≡ s.run) × (p.loads ≡ s.loads) × (p.stores ≡ s.stores) × (r : Run)
     × (slice_get runs s.run ≡ Some r) × IsPartOf thread r p
 
 -- the sketches name runs of the thread
@@ -106,7 +107,7 @@ abbrev pub AreThreadParts : ℕ → List (Vec Run Global) → List (Vec Sketch G
     → Type 0
 AreThreadParts thread [] [] [] = Unit {0}
 AreThreadParts thread (r ∷ rs) (s ∷ ss) (t ∷ ts) =
-    HasWritesOf t.writes s.items × AllZip (IsMade thread r.items) s.items t.parts.items
+    HasStoresOf t.stores s.items × AllZip (IsMade thread r.items) s.items t.parts.items
     × AreThreadParts (thread + 1) rs ss ts
 AreThreadParts thread _ _ _ = ⊥
 

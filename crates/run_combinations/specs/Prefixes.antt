@@ -14,8 +14,8 @@ pub record IsEndOf (f : Prefix) (e : PrefixEnd) : Type 0 where
   pub ctrlisync_pairs : e.ctrlisync_pairs ≡ length f.runs.dependencies.ctrlisync_pairs.items
   pub runs : e.runs ≡ length f.runs.runs.items
   pub needs : e.needs ≡ length f.needs.items
-  pub reads : e.reads ≡ f.reads
-  pub writes : e.writes ≡ f.writes
+  pub loads : e.loads ≡ f.loads
+  pub stores : e.stores ≡ f.stores
   pub faulted : e.is_faulted ≡ f.is_faulted
 
 -- what stands before the end

@@ -4,7 +4,7 @@ use Rattle.std.specs.List.{flat_map}
 use Rattle.bit_relations.specs.Relation.{Events, IsMember, IsEvents}
 use Rattle.run_combinations.specs.Lists.{IsFiltered, tuples}
 use Rattle.run_combinations.specs.Events.{numbers, is_load, is_store}
-use Rattle.run_combinations.specs.Ways.{MayReadFrom, Derived, IsPossible, AreReadChoices, nexts, accesses_in, stores_for}
+use Rattle.run_combinations.specs.ReadChoices.{MayReadFrom, Derived, IsPossible, AreReadChoices, nexts, accesses_in, stores_for}
 use Rattle.run_combinations.specs.declared.combination.Event.{Event}
 use Rattle.run_combinations.specs.declared.reading.Reading.{Reading}
 use Rattle.run_combinations.specs.declared.reading.Load.{Load}
@@ -58,12 +58,12 @@ HasCommonEvent s t = (s.count ≡ t.count) × ((a : ℕ) × IsMember s a × IsMe
 
 -- the load at an index reads one of these
 abbrev pub CanRead : List ℕ → Events → ℕ → Load → Type 0
-CanRead way derived i l =
-    ((i < length way) × IsMember derived (slice_index way i))
-    ⊎ ((length way ≤ i) × HasCommonEvent l.sources derived)
+CanRead reads_from derived i l =
+    ((i < length reads_from) × IsMember derived (slice_index reads_from i))
+    ⊎ ((length reads_from ≤ i) × HasCommonEvent l.sources derived)
 
 abbrev pub CanArise : List ℕ → Option ℕ → Events → ℕ → Load → Type 0
-CanArise way without derived i l = (without ≡ Some i → ⊥) × CanRead way derived i l
+CanArise reads_from without derived i l = (without ≡ Some i → ⊥) × CanRead reads_from derived i l
 
 abbrev pub store_event : Store → ℕ
 store_event s = s.event
@@ -80,29 +80,29 @@ WithStores r old new =
 
 -- the events, and the loads that read one of them
 abbrev pub WithLoads : Reading → List ℕ → Option ℕ → Events → Events → Type 0
-WithLoads r way without old new =
+WithLoads r reads_from without old new =
     IsEvents new old.count (λ x. IsMember old x
-    ⊎ Stepped load_event (CanArise way without old) old.count (length r.loads.items)
+    ⊎ Stepped load_event (CanArise reads_from without old) old.count (length r.loads.items)
     r.loads.items x)
 
-pub record IsArisingRound (r : Reading) (way : List ℕ) (without : Option ℕ) (old new : Events)
-    : Type 0 where
+pub record IsArisingRound (r : Reading) (reads_from : List ℕ) (without : Option ℕ)
+    (old new : Events) : Type 0 where
   pub between : Events
   pub stores : WithStores r old between
-  pub loads : WithLoads r way without between new
+  pub loads : WithLoads r reads_from without between new
 
 -- all values of the set can arise
 abbrev pub AllArise : Reading → List ℕ → Option ℕ → Events → Type 0
-AllArise r way without derived =
+AllArise r reads_from without derived =
     (es : List Event) (pairs : List (ℕ × ℕ)) → IsReadingOf es pairs r → (x : ℕ) → IsMember derived x
-    → Derived (accesses_in es pairs) way without x
+    → Derived (accesses_in es pairs) reads_from without x
 
 -- the set has just the values that can arise
 abbrev pub HasDerived : Reading → List ℕ → Option ℕ → Events → Type 0
-HasDerived r way without derived =
+HasDerived r reads_from without derived =
     (es : List Event) (pairs : List (ℕ × ℕ)) → IsReadingOf es pairs r → (x : ℕ)
-    → (IsMember derived x → Derived (accesses_in es pairs) way without x)
-    × (Derived (accesses_in es pairs) way without x → IsMember derived x)
+    → (IsMember derived x → Derived (accesses_in es pairs) reads_from without x)
+    × (Derived (accesses_in es pairs) reads_from without x → IsMember derived x)
 
 -- whether all loads can read
 abbrev pub TellsPossible : Reading → Bool → Type 0
@@ -112,37 +112,39 @@ TellsPossible r b =
 
 -- the possible read choices of the first loads
 abbrev pub ArePossible : Reading → ℕ → List (List ℕ) → Type 0
-ArePossible r i ways =
+ArePossible r i read_choices =
     (es : List Event) (pairs : List (ℕ × ℕ)) → IsReadingOf es pairs r
     → IsFiltered (IsPossible (accesses_in es pairs))
-    (tuples [] (take i (accesses_in es pairs).sources)) ways
+    (tuples [] (take i (accesses_in es pairs).sources)) read_choices
 
 -- the possible read choices with one load more, of the first of a list
 abbrev pub AreNext : Reading → Load → ℕ → ℕ → List (List ℕ) → List (List ℕ) → Type 0
-AreNext r load index k ways next =
+AreNext r load index k read_choices next =
     (es : List Event) (pairs : List (ℕ × ℕ)) → IsReadingOf es pairs r
     → slice_get r.loads.items index ≡ Some load
-    → All (λ f. (length f ≡ index) × IsPossible (accesses_in es pairs) f) ways
+    → All (λ f. (length f ≡ index) × IsPossible (accesses_in es pairs) f) read_choices
     → IsFiltered (IsPossible (accesses_in es pairs))
-    (flat_map (nexts (slice_index_or (accesses_in es pairs).sources index [])) (take k ways))
+    (flat_map (nexts (slice_index_or (accesses_in es pairs).sources index []))
+    (take k read_choices))
     next
 
 -- the list has gained those of one read choice
-pub record GainsNext (r : Reading) (load : Load) (index : ℕ) (way : List ℕ)
+pub record GainsNext (r : Reading) (load : Load) (index : ℕ) (reads_from : List ℕ)
     (old new : List (List ℕ)) : Type 0 where
   pub more : List (List ℕ)
   pub added : new ≡ old ++ more
   pub next :
       (es : List Event) (pairs : List (ℕ × ℕ)) → IsReadingOf es pairs r
       → slice_get r.loads.items index ≡ Some load
-      → length way ≡ index → IsPossible (accesses_in es pairs) way
+      → length reads_from ≡ index → IsPossible (accesses_in es pairs) reads_from
       → IsFiltered (IsPossible (accesses_in es pairs))
-      (nexts (slice_index_or (accesses_in es pairs).sources index []) way) more
+      (nexts (slice_index_or (accesses_in es pairs).sources index []) reads_from) more
 
 -- some of the first ones are over a limit
 abbrev pub AreOver : Reading → Load → ℕ → List (List ℕ) → ℕ → Type 0
-AreOver r load index ways limit =
-    (k : ℕ) × (next : List (List ℕ)) × (limit < length next) × AreNext r load index k ways next
+AreOver r load index read_choices limit =
+    (k : ℕ) × (next : List (List ℕ)) × (limit < length next)
+    × AreNext r load index k read_choices next
 
 -- there are over so many read choices
 abbrev pub HasOver : Reading → ℕ → Type 0
@@ -152,5 +154,6 @@ HasOver r limit =
 
 -- these are the read choices
 abbrev pub HasReadChoices : Reading → List (List ℕ) → Type 0
-HasReadChoices r ways =
-    (es : List Event) (pairs : List (ℕ × ℕ)) → IsReadingOf es pairs r → AreReadChoices es pairs ways
+HasReadChoices r read_choices =
+    (es : List Event) (pairs : List (ℕ × ℕ)) → IsReadingOf es pairs r
+    → AreReadChoices es pairs read_choices

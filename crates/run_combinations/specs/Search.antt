@@ -1,10 +1,10 @@
 -- Combinations of runs, and what is found of them.
 use Rattle.std.specs.Prelude.{ℕ, ◌≡◌, ◌<◌, ◌≤◌, ◌+◌, ◌-◌, ◌*◌, ◌^◌, ◌⊎◌, ◌↔◌, min, List, [], ◌∷◌, ◌++◌, map, length, Bool, true, false, ◌||◌, if◌then◌else◌}
 use Rattle.std.specs.List.{flat_map}
-use Rattle.dataflow.specs.DependencyLists.{dependency_lists, no_dependencies, renumbered_pairs, with_dependencies}
+use Rattle.dataflow.specs.DependencyLists.{dependency_lists, link_lists, no_dependencies, renumbered_pairs, with_dependencies}
 use Rattle.run_combinations.specs.Keys.{HasKey}
 use Rattle.run_combinations.specs.Orders.{all_orders, AreInitialStoresApart}
-use Rattle.run_combinations.specs.Ways.{AreReadChoices}
+use Rattle.run_combinations.specs.ReadChoices.{AreReadChoices}
 use Rattle.run_combinations.specs.Combinations.{CombinationLists, combination_lists}
 use Rattle.run_combinations.specs.declared.combination.Event.{Event}
 use Rattle.run_combinations.specs.declared.part.Part.{Part}
@@ -27,7 +27,7 @@ runs_lists p = record {
   events = p.events.items;
   dependencies = dependency_lists p.dependencies;
   runs = p.runs.items;
-  sources = [];
+  reads_from = [];
   orders = [];
 }
 
@@ -36,7 +36,7 @@ abbrev pub combination_with_run : ℕ → Part → CombinationLists → Combinat
 combination_with_run run p s = record s {
   events = s.events ++ p.events.items;
   dependencies =
-      with_dependencies (length s.events) (dependency_lists p.links.dependencies) s.dependencies;
+      with_dependencies (length s.events) (link_lists p.links) s.dependencies;
   runs = s.runs ++ run ∷ [];
 }
 
@@ -55,8 +55,8 @@ prefix_lists f =
 -- the sets of the one prefix are those of the other with a run more
 abbrev pub HasJoined : Prefix → Part → Prefix → Type 0
 HasJoined f p g =
-    ((a b : ℕ) → HasKey g.reads a b ↔ (HasKey f.reads a b ⊎ HasKey p.reads a b))
-    × ((a b : ℕ) → HasKey g.writes a b ↔ (HasKey f.writes a b ⊎ HasKey p.writes a b))
+    ((a b : ℕ) → HasKey g.loads a b ↔ (HasKey f.loads a b ⊎ HasKey p.loads a b))
+    × ((a b : ℕ) → HasKey g.stores a b ↔ (HasKey f.stores a b ⊎ HasKey p.stores a b))
 
 -- what has been found: the combinations, with their read choices and without their orders, how many
 -- candidates they have, and whether some candidate holds a run that stopped at a fault
@@ -77,21 +77,22 @@ tally f =
 -- many orders; none is kept any more once there is a fault
 abbrev pub capped_tally_with : PrefixLists → List (List ℕ) → ℕ → Tally → Tally
 capped_tally_with b [] orders t = t
-capped_tally_with b (way ∷ ways) orders t = record {
+capped_tally_with b (reads_from ∷ read_choices) orders t = record {
   kept =
       if t.faulted || b.faulted then t.kept
-      else t.kept ++ record b.combination { sources = way ∷ ways } ∷ [];
-  count = min (t.count + min (length (way ∷ ways) * orders) (2 ^ 64 - 1)) (2 ^ 64 - 1);
+      else t.kept ++ record b.combination { reads_from = reads_from ∷ read_choices } ∷ [];
+  count =
+      min (t.count + min (length (reads_from ∷ read_choices) * orders) (2 ^ 64 - 1)) (2 ^ 64 - 1);
   faulted = t.faulted || b.faulted;
 }
 
 abbrev pub tally_with : ℕ → PrefixLists → List (List ℕ) → Tally → Tally
 tally_with n b [] t = t
-tally_with n b (way ∷ ways) t = record {
+tally_with n b (reads_from ∷ read_choices) t = record {
   kept =
       if t.faulted || b.faulted then t.kept
-      else t.kept ++ record b.combination { sources = way ∷ ways } ∷ [];
-  count = t.count + length (way ∷ ways) * length (all_orders b.combination.events n);
+      else t.kept ++ record b.combination { reads_from = reads_from ∷ read_choices } ∷ [];
+  count = t.count + length (reads_from ∷ read_choices) * length (all_orders b.combination.events n);
   faulted = t.faulted || b.faulted;
 }
 
@@ -103,14 +104,14 @@ pub record PrefixFits (n : ℕ) (b : PrefixLists) : Type 0 where
 -- one combination more
 abbrev pub TalliesOneMore : ℕ → PrefixLists → Tally → Tally → Type 0
 TalliesOneMore n b old new =
-    (ways : List (List ℕ)) × AreReadChoices b.combination.events b.needs ways
-    × (new ≡ tally_with n b ways old)
+    (read_choices : List (List ℕ)) × AreReadChoices b.combination.events b.needs read_choices
+    × (new ≡ tally_with n b read_choices old)
 
 -- with its candidates there are too many
 abbrev pub ExceedsCandidates : ℕ → PrefixLists → Tally → Type 0
 ExceedsCandidates n b old =
-    (ways : List (List ℕ)) → AreReadChoices b.combination.events b.needs ways
-    → 16384 < old.count + length ways * length (all_orders b.combination.events n)
+    (read_choices : List (List ℕ)) → AreReadChoices b.combination.events b.needs read_choices
+    → 16384 < old.count + length read_choices * length (all_orders b.combination.events n)
 
 -- the first fact where the answer is yes, else the second
 abbrev pub Tells : Bool → Type 0 → Type 0 → Type 0
@@ -153,7 +154,7 @@ initial_prefix initial = record {
         events = initial;
         dependencies = no_dependencies;
         runs = [];
-        sources = [];
+        reads_from = [];
         orders = [];
       };
   needs = [];

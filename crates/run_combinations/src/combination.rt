@@ -10,9 +10,9 @@ use thread_runs::Value;
 #[derive(Clone, Copy)]
 pub enum Action {
     /// A load of the value from the location, by its index among the test's.
-    Read { location: usize, value: Value },
+    Load { location: usize, value: Value },
     /// A store of the value at the location, by its index among the test's.
-    Write { location: usize, value: Value },
+    Store { location: usize, value: Value },
     /// A fence.
     Fence(Fence),
 }
@@ -26,8 +26,8 @@ pub struct Event {
     pub action: Action,
 }
 
-/// One run for each thread, with all ways to read and all orders of the stores that make
-/// candidates of it: each way to read with each order is one candidate, the ways outside.
+/// One run for each thread, with all read choices and all orders of the stores that make
+/// candidates of it: each read choice with each order is one candidate, the read choices outside.
 /// Events are numbered: initial stores by location, then threads in order, each in program
 /// order.
 #[derive(Drop)]
@@ -38,8 +38,8 @@ pub struct Combination {
     pub dependencies: Dependencies,
     /// For each thread, the index of its run in `Space::registers`.
     pub runs: Vec<usize>,
-    /// Each a way to read: for each load in event order, the number of the store that it reads.
-    pub sources: Vec<Vec<u8>>,
+    /// Each a read choice: for each load in event order, the number of the store that it reads.
+    pub reads_from: Vec<Vec<u8>>,
     /// The orders of the stores: in each, those of each location after one another, locations in
     /// order, the initial store first.
     pub orders: StoreOrders,
@@ -54,7 +54,7 @@ impl Combination {
     pub fn candidate_count(&self) -> usize
         ensures { result ≡ min (length (candidates_of self.now)) (2 ^ 64 - 1) }
     {
-        self.sources.len().saturating_mul(self.orders.len())
+        self.reads_from.len().saturating_mul(self.orders.len())
     }
 
     /// Whether it has a candidate at this index.
@@ -65,6 +65,6 @@ impl Combination {
         if orders == 0 {
             return false;
         }
-        index / orders < self.sources.len()
+        index / orders < self.reads_from.len()
     }
 }

@@ -6,7 +6,7 @@ ghost use Rattle.bit_relations.specs.Relation.{Bit};
 ghost use Rattle.bit_relations.specs.Rows.{RowsHave};
 ghost use Rattle.bit_relations.specs.Pairs.{WithPair, Union};
 ghost use Rattle.run_combinations.specs.Keys.{InFirst, TellsAll, TellsSubset, key_in};
-ghost use Rattle.run_combinations.specs.Ways.{same_value};
+ghost use Rattle.run_combinations.specs.ReadChoices.{same_value};
 
 use thread_runs::{Value, is_same};
 

@@ -4,17 +4,17 @@ ghost use Rattle.std.specs.Prelude.{Vec, ℕ, ◌≡◌, ◌<◌, List, Some, le
 ghost use Rattle.std.specs.declared.alloc.Global.{Global};
 ghost use Rattle.thread_runs.specs.declared.value.Value.{Value};
 ghost use Rattle.thread_runs.specs.declared.run.Run.{Run};
-ghost use Rattle.thread_runs.specs.Held.{AreLocationValues};
+ghost use Rattle.thread_runs.specs.LocationValues.{AreLocationValues};
 ghost use Rattle.thread_runs.specs.ValueSet.{IsValueSet};
 ghost use Rattle.run_combinations.specs.Keys.{HasKey, IsKeyed, bit_of};
 ghost use Rattle.run_combinations.specs.Events.{initial_stores, HasStore};
-ghost use Rattle.run_combinations.specs.Parts.{AreSketches, HasWritesOf, AreBelow, IsMade, NamesRuns, AreThreadParts, AreSiftedParts};
+ghost use Rattle.run_combinations.specs.Parts.{AreSketches, HasStoresOf, AreBelow, IsMade, NamesRuns, AreThreadParts, AreSiftedParts};
 ghost use Rattle.std.specs.List.{AllZip};
 ghost use Rattle.run_combinations.specs.Layouts.{AreServedRuns, IsLaidOut};
 
 use crate::combination::{Action, Event};
 use crate::keys::KeySet;
-use crate::part::{Part, Sketch, add_keys, join_writes, parts, sift, sketches};
+use crate::part::{Part, Sketch, add_keys, join_stores, parts, sift, sketches};
 use dataflow::Workspace;
 use std::alloc::{AllocError, Global};
 use text_values::Name;
@@ -26,7 +26,7 @@ pub struct ThreadParts {
     /// The runs.
     pub parts: Vec<Part>,
     /// The locations and values that some of them stores.
-    pub writes: KeySet,
+    pub stores: KeySet,
 }
 
 /// What the candidates of a test are made of.
@@ -37,7 +37,7 @@ pub struct Layout {
     /// The initial stores, by location.
     pub initial: Vec<Event>,
     /// The locations and values that the initial stores store.
-    pub initial_writes: KeySet,
+    pub initial_store_keys: KeySet,
     /// The runs of each thread.
     pub threads: Vec<ThreadParts>,
 }
@@ -50,7 +50,7 @@ fn initial_events(alloc: Global, initial: &[Value]) -> Result<Vec<Event>, AllocE
     for location in 0..initial.len() {
         events.push(Event {
             thread: None,
-            action: Action::Write {
+            action: Action::Store {
                 location,
                 value: initial[location],
             },
@@ -64,12 +64,12 @@ fn initial_keys(values: &[Value], initial: &[Event]) -> KeySet
     ensures { (location : ℕ) (value : Value) (a b : ℕ) → HasStore location value initial.now
         → bit_of values.now location value ≡ Some (a, b) → HasKey result a b }
 {
-    let mut reads = KeySet::empty();
-    let mut writes = KeySet::empty();
+    let mut loads = KeySet::empty();
+    let mut stores = KeySet::empty();
     for event in initial {
-        add_keys(values, event.action, &mut reads, &mut writes);
+        add_keys(values, event.action, &mut loads, &mut stores);
     }
-    writes
+    stores
 }
 
 /// The runs of each thread, where `held` says what locations may hold: but for some with a load of
@@ -125,14 +125,14 @@ fn thread_parts(
     sketches: &[Sketch],
 ) -> Result<ThreadParts, AllocError>
     requires { AreBelow (length runs.now) sketches.now }
-    ensures writes { IfOk result (λ t. HasWritesOf t.writes sketches.now) }
+    ensures stores { IfOk result (λ t. HasStoresOf t.stores sketches.now) }
     ensures parts { IfOk result (λ t. AllZip (IsMade thread runs.now) sketches.now t.parts.items) }
 {
-    let mut writes = KeySet::empty();
-    join_writes(&mut writes, sketches);
+    let mut stores = KeySet::empty();
+    join_stores(&mut stores, sketches);
     Ok(ThreadParts {
         parts: parts(alloc, workspace, thread, runs, sketches)?,
-        writes,
+        stores,
     })
 }
 
@@ -187,12 +187,12 @@ impl Layout {
             × IsKeyed (bit_of domain.now.values.items) l) }
     {
         let initial = initial_events(alloc, &program.initial)?;
-        let initial_writes = initial_keys(&domain.values, &initial);
-        let threads = sifted_parts(alloc, &program, domain, &initial_writes)?;
+        let initial_store_keys = initial_keys(&domain.values, &initial);
+        let threads = sifted_parts(alloc, &program, domain, &initial_store_keys)?;
         Ok(Layout {
             locations: program.locations,
             initial,
-            initial_writes,
+            initial_store_keys,
             threads,
         })
     }

@@ -1,8 +1,8 @@
 //! The search for the candidates of a test: the parts that runs of its threads give, the
-//! combinations of a run of each thread, and for each of them the ways to read and the orders of
+//! combinations of a run of each thread, and for each of them the read choices and the orders of
 //! the stores.
 //!
-//! Read `specs/Events` first, then `specs/Ways`, `specs/Orders` and `specs/Candidates`. What
+//! Read `specs/Events` first, then `specs/ReadChoices`, `specs/Orders` and `specs/Candidates`. What
 //! `space` makes of these, in the words of the field, stands in `candidates`.
 #![tactic(auto)]
 

@@ -2,8 +2,8 @@
 ghost use Rattle.std.specs.Prelude.{◌≡◌, ◌<◌, ◌≤◌, ◌-◌, ◌^◌, ◌++◌, ◌∷◌, [], length, drop, map, min, IfOk, OnOk};
 ghost use Rattle.std.specs.List.{concat, flat_map};
 ghost use Rattle.run_combinations.specs.Events as event_lists;
-ghost use Rattle.run_combinations.specs.Growing.{store_lists, rows_from, orders_from};
-ghost use Rattle.run_combinations.specs.Growing as growing;
+ghost use Rattle.run_combinations.specs.OrderPrefixes.{store_lists, rows_from, orders_from};
+ghost use Rattle.run_combinations.specs.OrderPrefixes as order_prefixes;
 ghost use Rattle.run_combinations.specs.Orders.{is_thread_store, stores_of, all_orders, AreInitialStoresApart};
 ghost use Rattle.run_combinations.specs.Orders as definitions;
 ghost use Rattle.run_combinations.specs.Combinations.{combination_lists, ordered};
@@ -27,7 +27,7 @@ fn is_store(event: &Event, location: usize) -> bool
     ensures { result ≡ is_thread_store location event.now }
 {
     match event.action {
-        Action::Write {
+        Action::Store {
             location: written_to,
             ..
         } => event.thread.is_some() && written_to == location,
@@ -63,7 +63,7 @@ fn fill(stores: &mut LocationStores, events: &[Event], location: usize) -> Resul
 fn fill_all(events: &[Event], locations: &mut Vec<LocationStores>) -> Result<(), AllocError>
     requires { length locations.old.items ≤ 128 }
     ensures stores { OnOk result (store_lists locations.new.items
-        ≡ growing.all_stores events.now (length locations.old.items)) }
+        ≡ order_prefixes.all_stores events.now (length locations.old.items)) }
     ensures many { OnOk result (length locations.new.items ≡ length locations.old.items) }
 {
     for location in 0..locations.len() {
@@ -86,47 +86,47 @@ fn bare_locations(alloc: Global, locations: usize) -> Result<Vec<LocationStores>
     Ok(bare)
 }
 
-/// Whether the front has the store at an index from `begin` on. It looks at all of them, since a
+/// Whether the prefix has the store at an index from `begin` on. It looks at all of them, since a
 /// branch that is guessed wrong costs more than to compare some stores.
-fn has_store(front: &[u8], begin: usize, store: u8) -> bool
-    requires { begin ≤ length front.now }
-    ensures { result ≡ event_lists.has_store (drop begin front.now) store }
+fn has_store(prefix: &[u8], begin: usize, store: u8) -> bool
+    requires { begin ≤ length prefix.now }
+    ensures { result ≡ event_lists.has_store (drop begin prefix.now) store }
 {
     let mut is_there = false;
-    for other in &front[begin..] {
+    for other in &prefix[begin..] {
         is_there |= *other == store;
     }
     is_there
 }
 
-/// Adds the orders that begin with the front and go on with the stores of these locations.
+/// Adds the orders that begin with the prefix and go on with the stores of these locations.
 #[cycle(growing)]
 fn add_orders(
     locations: &[LocationStores],
-    front: &mut Vec<u8>,
+    prefix: &mut Vec<u8>,
     found: &mut Vec<u8>,
 ) -> Result<(), AllocError>
-    ensures front { OnOk result (front.new.items ≡ front.old.items) }
+    ensures prefix { OnOk result (prefix.new.items ≡ prefix.old.items) }
     ensures found { OnOk result (found.new.items
-        ≡ found.old.items ++ concat (orders_from (store_lists locations.now) front.old.items)) }
+        ≡ found.old.items ++ concat (orders_from (store_lists locations.now) prefix.old.items)) }
 {
     match locations.split_first() {
         None => {
-            found.extend_from_slice(front)?;
+            found.extend_from_slice(prefix)?;
             Ok(())
         }
         Some((location, later)) => {
-            let begin = front.len();
-            front.push(location.initial)?;
+            let begin = prefix.len();
+            prefix.push(location.initial)?;
             let left = location.others.len();
-            add_rows(&location.others, later, left, begin, front, found)?;
-            front.pop();
+            add_rows(&location.others, later, left, begin, prefix, found)?;
+            prefix.pop();
             Ok(())
         }
     }
 }
 
-/// Adds the orders that begin with the front, in which the stores of a location begin at an index
+/// Adds the orders that begin with the prefix, in which the stores of a location begin at an index
 /// and so many of its stores by threads are left out, and go on with these and the later locations.
 #[cycle(growing)]
 fn add_rows(
@@ -134,25 +134,25 @@ fn add_rows(
     later: &[LocationStores],
     left: usize,
     begin: usize,
-    front: &mut Vec<u8>,
+    prefix: &mut Vec<u8>,
     found: &mut Vec<u8>,
 ) -> Result<(), AllocError>
-    requires { begin ≤ length front.old.items }
-    ensures front { OnOk result (front.new.items ≡ front.old.items) }
+    requires { begin ≤ length prefix.old.items }
+    ensures prefix { OnOk result (prefix.new.items ≡ prefix.old.items) }
     ensures found { OnOk result (found.new.items
         ≡ found.old.items
         ++ concat (flat_map (orders_from (store_lists later.now))
-        (rows_from others.now begin left front.old.items))) }
+        (rows_from others.now begin left prefix.old.items))) }
 {
     if left == 0 {
-        add_orders(later, front, found)?;
+        add_orders(later, prefix, found)?;
         return Ok(());
     }
     for store in others {
-        if !has_store(front, begin, *store) {
-            front.push(*store)?;
-            add_rows(others, later, left - 1, begin, front, found)?;
-            front.pop();
+        if !has_store(prefix, begin, *store) {
+            prefix.push(*store)?;
+            add_rows(others, later, left - 1, begin, prefix, found)?;
+            prefix.pop();
         }
     }
     Ok(())
@@ -160,7 +160,7 @@ fn add_rows(
 
 /// How many stores these locations have, or the greatest number where that is less.
 fn width_of(locations: &[LocationStores]) -> usize
-    ensures { result ≡ min (growing.width_of (store_lists locations.now)) (2 ^ 64 - 1) }
+    ensures { result ≡ min (order_prefixes.width_of (store_lists locations.now)) (2 ^ 64 - 1) }
 {
     let mut width = 0usize;
     for location in locations {
@@ -172,12 +172,12 @@ fn width_of(locations: &[LocationStores]) -> usize
 }
 
 /// The orders of all stores, in lexicographic order: those of each location after one another,
-/// the initial store first. What the lists of `locations` and `front` have before is replaced.
+/// the initial store first. What the lists of `locations` and `prefix` have before is replaced.
 fn orders(
     alloc: Global,
     events: &[Event],
     locations: &mut Vec<LocationStores>,
-    front: &mut Vec<u8>,
+    prefix: &mut Vec<u8>,
 ) -> Result<StoreOrders, AllocError>
     requires { length locations.old.items ≤ 128 }
     ensures orders { IfOk result (λ v. v ≡ all_orders events.now (length locations.old.items)) }
@@ -185,9 +185,9 @@ fn orders(
 {
     fill_all(events, locations)?;
     let width = width_of(locations);
-    front.clear();
+    prefix.clear();
     let mut stores = Vec::with_capacity(alloc, width)?;
-    add_orders(locations, front, &mut stores)?;
+    add_orders(locations, prefix, &mut stores)?;
     // With no location there is one order, of no store.
     let count = stores.len().checked_div(width).unwrap_or(1);
     Ok(StoreOrders {
@@ -238,7 +238,7 @@ fn add_ordered(
     alloc: Global,
     mut combination: Combination,
     stores: &mut Vec<LocationStores>,
-    front: &mut Vec<u8>,
+    prefix: &mut Vec<u8>,
     made: &mut Vec<Combination>,
 ) -> Result<(), AllocError>
     requires { length stores.old.items ≤ 128 }
@@ -247,7 +247,7 @@ fn add_ordered(
         ++ ordered (length stores.old.items) (combination_lists combination) ∷ []) }
     ensures many { OnOk result (length stores.new.items ≡ length stores.old.items) }
 {
-    combination.orders = orders(alloc, &combination.events, stores, front)?;
+    combination.orders = orders(alloc, &combination.events, stores, prefix)?;
     made.push(combination)?;
     Ok(())
 }
@@ -257,7 +257,7 @@ fn all_ordered(
     alloc: Global,
     combinations: Vec<Combination>,
     stores: &mut Vec<LocationStores>,
-    front: &mut Vec<u8>,
+    prefix: &mut Vec<u8>,
 ) -> Result<Vec<Combination>, AllocError>
     requires { length stores.old.items ≤ 128 }
     ensures { IfOk result (λ v. map combination_lists v.items
@@ -266,7 +266,7 @@ fn all_ordered(
 {
     let mut made = Vec::with_capacity(alloc, combinations.len())?;
     for combination in combinations {
-        add_ordered(alloc, combination, stores, front, &mut made)?;
+        add_ordered(alloc, combination, stores, prefix, &mut made)?;
     }
     Ok(made)
 }
@@ -281,7 +281,7 @@ pub fn with_orders(
         ≡ map (λ c. ordered (min locations 128) (combination_lists c)) combinations.items) }
 {
     let mut stores = bare_locations(alloc, locations)?;
-    let mut front = Vec::with_capacity(alloc, MAX_EVENTS)?;
-    let made = all_ordered(alloc, combinations, &mut stores, &mut front)?;
+    let mut prefix = Vec::with_capacity(alloc, MAX_EVENTS)?;
+    let made = all_ordered(alloc, combinations, &mut stores, &mut prefix)?;
     Ok(made)
 }

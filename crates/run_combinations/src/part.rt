@@ -4,7 +4,7 @@ ghost use Rattle.std.specs.Prelude.{ℕ, ◌≡◌, ◌<◌, ◌++◌, List, [],
 ghost use Rattle.run_combinations.specs.declared.combination.Event.{Event};
 ghost use Rattle.run_combinations.specs.Keys.{AreKeysIn, AreKeys, bit_of};
 ghost use Rattle.run_combinations.specs.Events.{action_in, thread_events};
-ghost use Rattle.run_combinations.specs.Parts.{AreSketches, AreSketchesKept, HasWritesOf, HasWritesOfAll, AreBelow, IsSifted, IsPartOf, IsMade};
+ghost use Rattle.run_combinations.specs.Parts.{AreSketches, AreSketchesKept, HasStoresOf, HasStoresOfAll, AreBelow, IsSifted, IsPartOf, IsMade};
 ghost use Rattle.std.specs.List.{AllZip};
 
 use crate::combination::{Action, Event};
@@ -23,9 +23,9 @@ pub struct Part {
     /// Its dependencies.
     pub links: Links,
     /// The locations and values that its loads read.
-    pub reads: KeySet,
+    pub loads: KeySet,
     /// The locations and values that its stores store.
-    pub writes: KeySet,
+    pub stores: KeySet,
     /// What the registers hold at its end.
     pub registers: [Value; 32],
     /// Whether it stopped at a fault.
@@ -38,9 +38,9 @@ pub struct Sketch {
     /// Its index.
     pub run: usize,
     /// What its loads read.
-    pub reads: KeySet,
+    pub loads: KeySet,
     /// What its stores store.
-    pub writes: KeySet,
+    pub stores: KeySet,
 }
 
 /// What an event of a run does, where its address is a location.
@@ -48,27 +48,27 @@ fn action_of(event: thread_runs::Event) -> Option<Action>
     ensures { result ≡ action_in event }
 {
     match event {
-        thread_runs::Event::Reads(Value::Address(location), value) => {
-            Some(Action::Read { location, value })
+        thread_runs::Event::Load(Value::Address(location), value) => {
+            Some(Action::Load { location, value })
         }
-        thread_runs::Event::Writes(Value::Address(location), value) => {
-            Some(Action::Write { location, value })
+        thread_runs::Event::Store(Value::Address(location), value) => {
+            Some(Action::Store { location, value })
         }
-        thread_runs::Event::Orders(fence) => Some(Action::Fence(fence)),
+        thread_runs::Event::Fence(fence) => Some(Action::Fence(fence)),
         _ => None,
     }
 }
 
 /// Adds what an action reads or stores.
-pub fn add_keys(values: &[Value], action: Action, reads: &mut KeySet, writes: &mut KeySet)
+pub fn add_keys(values: &[Value], action: Action, loads: &mut KeySet, stores: &mut KeySet)
     ensures { (es : List Event) (thread : Option ℕ)
-        → AreKeys (bit_of values.now) es reads.old writes.old
+        → AreKeys (bit_of values.now) es loads.old stores.old
         → AreKeys (bit_of values.now) (es ++ record { thread = thread; action = action } ∷ [])
-        reads.new writes.new }
+        loads.new stores.new }
 {
     match action {
-        Action::Read { location, value } => reads.insert_pair(values, location, value),
-        Action::Write { location, value } => writes.insert_pair(values, location, value),
+        Action::Load { location, value } => loads.insert_pair(values, location, value),
+        Action::Store { location, value } => stores.insert_pair(values, location, value),
         Action::Fence(_) => {}
     }
 }
@@ -84,21 +84,21 @@ fn events_in(run: &Run) -> &[thread_runs::Event]
 fn sketch_of(values: &[Value], index: usize, run: &Run) -> Sketch
     ensures index { result.run ≡ index }
     ensures keys { (thread : ℕ)
-        → AreKeys (bit_of values.now) (thread_events thread run.now.events.items) result.reads
-        result.writes }
+        → AreKeys (bit_of values.now) (thread_events thread run.now.events.items) result.loads
+        result.stores }
 {
-    let mut reads = KeySet::empty();
-    let mut writes = KeySet::empty();
+    let mut loads = KeySet::empty();
+    let mut stores = KeySet::empty();
     for event in events_in(run) {
         match action_of(*event) {
-            Some(action) => add_keys(values, action, &mut reads, &mut writes),
+            Some(action) => add_keys(values, action, &mut loads, &mut stores),
             None => {}
         }
     }
     Sketch {
         run: index,
-        reads,
-        writes,
+        loads,
+        stores,
     }
 }
 
@@ -124,21 +124,21 @@ fn total(threads: &[Vec<Sketch>]) -> usize {
 }
 
 /// Adds what the stores of these runs store.
-pub fn join_writes(set: &mut KeySet, runs: &[Sketch])
-    ensures { AreKeysIn set.old set.new × HasWritesOf set.new runs.now }
+pub fn join_stores(set: &mut KeySet, runs: &[Sketch])
+    ensures { AreKeysIn set.old set.new × HasStoresOf set.new runs.now }
 {
     for run in runs {
-        set.join(&run.writes);
+        set.join(&run.stores);
     }
 }
 
 /// What the initial stores and the stores of these runs store.
 fn stored_by(initial: &KeySet, threads: &[Vec<Sketch>]) -> KeySet
-    ensures { AreKeysIn initial.now result × HasWritesOfAll result threads.now }
+    ensures { AreKeysIn initial.now result × HasStoresOfAll result threads.now }
 {
     let mut stored = *initial;
     for runs in threads {
-        join_writes(&mut stored, runs);
+        join_stores(&mut stored, runs);
     }
     stored
 }
@@ -147,7 +147,7 @@ fn stored_by(initial: &KeySet, threads: &[Vec<Sketch>]) -> KeySet
 fn keep_stored(stored: &KeySet, runs: &mut Vec<Sketch>)
     ensures { AreSketchesKept stored.now runs.old.items runs.new.items }
 {
-    runs.retain(|run| run.reads.is_within(stored));
+    runs.retain(|run| run.loads.is_within(stored));
 }
 
 /// Leaves out the runs with a load that reads what no initial store and no store of any run
@@ -203,15 +203,15 @@ fn part_of(
     sketch: &Sketch,
 ) -> Result<Part, AllocError>
     ensures part { IfOk result (λ p. IsPartOf thread run.now p) }
-    ensures sketch { IfOk result (λ p. (p.run ≡ sketch.now.run) × (p.reads ≡ sketch.now.reads)
-        × (p.writes ≡ sketch.now.writes)) }
+    ensures sketch { IfOk result (λ p. (p.run ≡ sketch.now.run) × (p.loads ≡ sketch.now.loads)
+        × (p.stores ≡ sketch.now.stores)) }
 {
     Ok(Part {
         run: sketch.run,
         events: events_of(alloc, thread, run)?,
         links: workspace.links(alloc, run)?,
-        reads: sketch.reads,
-        writes: sketch.writes,
+        loads: sketch.loads,
+        stores: sketch.stores,
         registers: run.registers,
         is_faulted: run.faulted,
     })

@@ -1,4 +1,4 @@
-//! The ways in which the loads of a combination of runs read its stores.
+//! The read choices of a combination of runs: for each load the store that it reads.
 
 ghost use Rattle.std.specs.Prelude.{◌≡◌, ◌<◌, ◌≤◌, ◌↔◌, ◌⊎◌, ◌++◌, ◌∷◌, [], length, option_to_list, Contains, IsTrue, IfOk, OnOk, MatchOption};
 ghost use Rattle.bit_relations.specs.Relation.{IsMember, IsEvents};
@@ -6,8 +6,8 @@ ghost use Rattle.run_combinations.specs.Rounds.{IsEventSubset, HasCommonEvent, C
 ghost use Rattle.run_combinations.specs.Lists.{lists_of};
 ghost use Rattle.run_combinations.specs.Search.{Tells};
 ghost use Rattle.run_combinations.specs.Events.{numbers, is_load, is_store};
-ghost use Rattle.run_combinations.specs.Ways.{may_read};
-ghost use Rattle.run_combinations.specs.Ways as ways;
+ghost use Rattle.run_combinations.specs.ReadChoices.{may_read};
+ghost use Rattle.run_combinations.specs.ReadChoices as read_choices;
 
 use crate::combination::{Action, Event};
 use bit_relations::{EventSet, MAX_EVENTS};
@@ -86,13 +86,13 @@ fn is_left(without: Option<usize>, index: usize) -> bool
     }
 }
 
-/// Whether the load at this index reads an event of the set: the first ones what `way` says, the
-/// others any store of their location and value.
-fn can_read(load: &Load, way: &[u8], index: usize, derived: &EventSet) -> bool
-    ensures { IsTrue result ↔ CanRead way.now derived.now index load.now }
+/// Whether the load at this index reads an event of the set: the first ones what `reads_from` says,
+/// the others any store of their location and value.
+fn can_read(load: &Load, reads_from: &[u8], index: usize, derived: &EventSet) -> bool
+    ensures { IsTrue result ↔ CanRead reads_from.now derived.now index load.now }
 {
-    if index < way.len() {
-        has(derived, usize::from(way[index]))
+    if index < reads_from.len() {
+        has(derived, usize::from(reads_from[index]))
     } else {
         meets(&load.sources, derived)
     }
@@ -101,28 +101,28 @@ fn can_read(load: &Load, way: &[u8], index: usize, derived: &EventSet) -> bool
 /// Whether the load at this index reads an event of the set, and is not the one to leave out.
 fn can_arise(
     load: &Load,
-    way: &[u8],
+    reads_from: &[u8],
     without: Option<usize>,
     index: usize,
     derived: &EventSet,
 ) -> bool
-    ensures { IsTrue result ↔ CanArise way.now without derived.now index load.now }
+    ensures { IsTrue result ↔ CanArise reads_from.now without derived.now index load.now }
 {
-    !is_left(without, index) && can_read(load, way, index, derived)
+    !is_left(without, index) && can_read(load, reads_from, index, derived)
 }
 
 /// Whether the event is a load.
 fn is_read(event: &Event) -> bool
     ensures { result ≡ is_load event.now }
 {
-    matches!(event.action, Action::Read { .. })
+    matches!(event.action, Action::Load { .. })
 }
 
 /// Whether the event is a store.
 fn is_write(event: &Event) -> bool
     ensures { result ≡ is_store event.now }
 {
-    matches!(event.action, Action::Write { .. })
+    matches!(event.action, Action::Store { .. })
 }
 
 /// Whether there is a load of this number.
@@ -138,8 +138,8 @@ fn is_source(load: &Event, store: &Event) -> bool
 {
     match (load.action, store.action) {
         (
-            Action::Read { location, value },
-            Action::Write {
+            Action::Load { location, value },
+            Action::Store {
                 location: written_to,
                 value: written,
             },
@@ -151,7 +151,8 @@ fn is_source(load: &Event, store: &Event) -> bool
 /// The stores that the load may read.
 fn sources_of(events: &[Event], load: &Event) -> EventSet
     requires { length events.now ≤ MAX_EVENTS }
-    ensures { IsEvents result (length events.now) (Contains (ways.stores_for events.now load.now)) }
+    ensures { IsEvents result (length events.now)
+        (Contains (read_choices.stores_for events.now load.now)) }
 {
     let mut found = EventSet::empty(events.len());
     for number in 0..events.len() {
@@ -220,44 +221,45 @@ fn find_stores(
     Ok(())
 }
 
-/// The way with the store behind it, with room for as many stores as the way has room for.
-fn with_store(alloc: Global, way: &Vec<u8>, store: u8) -> Result<Vec<u8>, AllocError>
-    ensures { IfOk result (λ v. v.items ≡ way.now.items ++ store ∷ []) }
+/// The read choice with the store behind it, with room for as many stores as it has room for.
+fn with_store(alloc: Global, reads_from: &Vec<u8>, store: u8) -> Result<Vec<u8>, AllocError>
+    ensures { IfOk result (λ v. v.items ≡ reads_from.now.items ++ store ∷ []) }
 {
-    let mut whole = Vec::with_capacity(alloc, way.capacity())?;
-    whole.extend_from_slice(way)?;
+    let mut whole = Vec::with_capacity(alloc, reads_from.capacity())?;
+    whole.extend_from_slice(reads_from)?;
     whole.push(store)?;
     Ok(whole)
 }
 
-/// Adds a copy of the way with the store behind it, if there is one.
+/// Adds a copy of the read choice with the store behind it, if there is one.
 fn push_copy(
     alloc: Global,
-    way: &Vec<u8>,
+    reads_from: &Vec<u8>,
     store: Option<u8>,
     longer: &mut Vec<Vec<u8>>,
 ) -> Result<(), AllocError>
     ensures { OnOk result (lists_of longer.new.items
-        ≡ lists_of longer.old.items ++ ways.nexts (option_to_list store) way.now.items) }
+        ≡ lists_of longer.old.items
+        ++ read_choices.nexts (option_to_list store) reads_from.now.items) }
 {
     if let Some(store) = store {
-        longer.push(with_store(alloc, way, store)?)?;
+        longer.push(with_store(alloc, reads_from, store)?)?;
     }
     Ok(())
 }
 
-/// Adds the way with the store behind it, if there is one.
-fn push_way(
-    mut way: Vec<u8>,
+/// Adds the read choice with the store behind it, if there is one.
+fn push_reads_from(
+    mut reads_from: Vec<u8>,
     store: Option<u8>,
     longer: &mut Vec<Vec<u8>>,
 ) -> Result<(), AllocError>
     ensures { OnOk result (lists_of longer.new.items
-        ≡ lists_of longer.old.items ++ ways.nexts (option_to_list store) way.items) }
+        ≡ lists_of longer.old.items ++ read_choices.nexts (option_to_list store) reads_from.items) }
 {
     if let Some(store) = store {
-        way.push(store)?;
-        longer.push(way)?;
+        reads_from.push(store)?;
+        longer.push(reads_from)?;
     }
     Ok(())
 }
@@ -303,35 +305,35 @@ impl Reading {
     }
 
     /// The events, and the loads but for one, if any, that read one of them.
-    fn with_loads(&self, way: &[u8], without: Option<usize>, derived: &EventSet) -> EventSet
-        ensures { WithLoads self.now way.now without derived.now result }
+    fn with_loads(&self, reads_from: &[u8], without: Option<usize>, derived: &EventSet) -> EventSet
+        ensures { WithLoads self.now reads_from.now without derived.now result }
     {
         let mut next = *derived;
         let _count = derived.count();
         for (index, load) in self.loads.iter().enumerate() {
-            let is_wanted = can_arise(load, way, without, index, derived);
+            let is_wanted = can_arise(load, reads_from, without, index, derived);
             add_if(&mut next, is_wanted, load.event);
         }
         next
     }
 
     /// The events, and what arises from them at once.
-    fn round(&self, way: &[u8], without: Option<usize>, derived: &EventSet) -> EventSet
-        ensures { IsArisingRound self.now way.now without derived.now result }
+    fn round(&self, reads_from: &[u8], without: Option<usize>, derived: &EventSet) -> EventSet
+        ensures { IsArisingRound self.now reads_from.now without derived.now result }
     {
-        self.with_loads(way, without, &self.with_stores(derived))
+        self.with_loads(reads_from, without, &self.with_stores(derived))
     }
 
     /// The loads and stores whose values can arise in some order, where the first loads read as
-    /// `way` says and one load, if any, is left out.
-    fn derived(&self, way: &[u8], without: Option<usize>) -> EventSet
-        ensures { HasDerived self.now way.now without result }
+    /// `reads_from` says and one load, if any, is left out.
+    fn derived(&self, reads_from: &[u8], without: Option<usize>) -> EventSet
+        ensures { HasDerived self.now reads_from.now without result }
     {
         let mut derived = EventSet::empty(self.count.min(MAX_EVENTS));
-        let mut next = self.round(way, without, &derived);
+        let mut next = self.round(reads_from, without, &derived);
         while !next.is_same(&derived) {
             derived = next;
-            next = self.round(way, without, &derived);
+            next = self.round(reads_from, without, &derived);
         }
         derived
     }
@@ -349,51 +351,51 @@ impl Reading {
         true
     }
 
-    /// Adds to `longer` the way with each store that the load at `index`, the first without one,
-    /// can read.
+    /// Adds to `longer` the read choice with each store that the load at `index`, the first without
+    /// one, can read.
     fn extend(
         &self,
         alloc: Global,
-        way: Vec<u8>,
+        reads_from: Vec<u8>,
         load: &Load,
         index: usize,
         longer: &mut Vec<Vec<u8>>,
     ) -> Result<(), AllocError>
-        ensures { OnOk result (GainsNext self.now load.now index way.items
+        ensures { OnOk result (GainsNext self.now load.now index reads_from.items
             (lists_of longer.old.items) (lists_of longer.new.items)) }
     {
-        let derived = self.derived(&way, Some(index));
+        let derived = self.derived(&reads_from, Some(index));
         let mut last = None;
         for store in 0..self.count.min(MAX_EVENTS) {
             if has_both(&load.sources, &derived, store) {
-                push_copy(alloc, &way, last, longer)?;
+                push_copy(alloc, &reads_from, last, longer)?;
                 last = Some(store as u8);
             }
         }
-        push_way(way, last, longer)?;
+        push_reads_from(reads_from, last, longer)?;
         Ok(())
     }
 
-    /// Makes `longer` each way with each store that the load at `index` can read, of which the last
-    /// is the way itself; `false` where there are over `limit`.
+    /// Makes `longer` each read choice with each store that the load at `index` can read, of which
+    /// the last is the read choice itself; `false` where there are over `limit`.
     fn extend_all(
         &self,
         alloc: Global,
-        fronts: &mut Vec<Vec<u8>>,
+        prefixes: &mut Vec<Vec<u8>>,
         load: &Load,
         index: usize,
         limit: usize,
         longer: &mut Vec<Vec<u8>>,
     ) -> Result<bool, AllocError>
         ensures { IfOk result (λ b. Tells b
-            (AreNext self.now load.now index (length fronts.old.items)
-            (lists_of fronts.old.items) (lists_of longer.new.items))
-            (AreOver self.now load.now index (lists_of fronts.old.items) limit)) }
+            (AreNext self.now load.now index (length prefixes.old.items)
+            (lists_of prefixes.old.items) (lists_of longer.new.items))
+            (AreOver self.now load.now index (lists_of prefixes.old.items) limit)) }
     {
         longer.clear();
-        for place in 0..fronts.len() {
-            let way = replace(&mut fronts[place], Vec::new(alloc));
-            self.extend(alloc, way, load, index, longer)?;
+        for place in 0..prefixes.len() {
+            let reads_from = replace(&mut prefixes[place], Vec::new(alloc));
+            self.extend(alloc, reads_from, load, index, longer)?;
             if longer.len() > limit {
                 return Ok(false);
             }
@@ -401,52 +403,57 @@ impl Reading {
         Ok(true)
     }
 
-    /// The way of no load, if all loads can read without a cycle.
-    fn first_ways(&self, alloc: Global) -> Result<Vec<Vec<u8>>, AllocError>
+    /// The read choice of no load, if all loads can read without a cycle.
+    fn first_read_choices(&self, alloc: Global) -> Result<Vec<Vec<u8>>, AllocError>
         ensures { IfOk result (λ v. ArePossible self.now 0 (lists_of v.items)) }
     {
-        let mut ways = Vec::new(alloc);
+        let mut read_choices = Vec::new(alloc);
         if self.is_possible() {
-            ways.push(Vec::with_capacity(alloc, self.loads.len())?)?;
+            read_choices.push(Vec::with_capacity(alloc, self.loads.len())?)?;
         }
-        Ok(ways)
+        Ok(read_choices)
     }
 
-    /// Makes ways of no load those of all loads; `false` where there are over `limit`.
-    fn extend_ways(
+    /// Makes read choices of no load those of all loads; `false` where there are over `limit`.
+    fn extend_read_choices(
         &self,
         alloc: Global,
-        ways: &mut Vec<Vec<u8>>,
+        read_choices: &mut Vec<Vec<u8>>,
         limit: usize,
     ) -> Result<bool, AllocError>
-        ensures { ArePossible self.now 0 (lists_of ways.old.items)
+        ensures { ArePossible self.now 0 (lists_of read_choices.old.items)
             → IfOk result (λ b.
-            Tells b (HasReadChoices self.now (lists_of ways.new.items)) (HasOver self.now limit)) }
+            Tells b (HasReadChoices self.now (lists_of read_choices.new.items))
+            (HasOver self.now limit)) }
     {
         let mut longer = Vec::new(alloc);
         for (index, load) in self.loads.iter().enumerate() {
-            if !self.extend_all(alloc, ways, load, index, limit, &mut longer)? {
+            if !self.extend_all(alloc, read_choices, load, index, limit, &mut longer)? {
                 return Ok(false);
             }
-            swap(ways, &mut longer);
+            swap(read_choices, &mut longer);
         }
         Ok(true)
     }
 
-    /// The ways to read in which what is read and what is needed make no cycle, in lexicographic
+    /// The read choices in which what is read and what is needed make no cycle, in lexicographic
     /// order: for each load in event order the number of its store. `None` where there are over
     /// `limit`.
-    pub fn ways(&self, alloc: Global, limit: usize) -> Result<Option<Vec<Vec<u8>>>, AllocError>
+    pub fn read_choices(
+        &self,
+        alloc: Global,
+        limit: usize,
+    ) -> Result<Option<Vec<Vec<u8>>>, AllocError>
         ensures { IfOk result (λ o. MatchOption o (HasOver self.now limit)
             (λ v. HasReadChoices self.now (lists_of v.items) × (length v.items ≤ limit))) }
     {
-        let mut ways = self.first_ways(alloc)?;
-        if !self.extend_ways(alloc, &mut ways, limit)? {
+        let mut read_choices = self.first_read_choices(alloc)?;
+        if !self.extend_read_choices(alloc, &mut read_choices, limit)? {
             return Ok(None);
         }
-        if ways.len() > limit {
+        if read_choices.len() > limit {
             return Ok(None);
         }
-        Ok(Some(ways))
+        Ok(Some(read_choices))
     }
 }

@@ -1,7 +1,7 @@
 //! The combinations of runs that have candidates.
 ghost use Rattle.std.specs.Prelude.{ℕ, ◌≡◌, ◌≤◌, ◌+◌, ◌-◌, ◌*◌, ◌^◌, ◌||◌, Option, min, length, IsTrue, IfOk, OnOk, MatchOption};
 ghost use Rattle.thread_runs.specs.declared.value.Value.{Value};
-ghost use Rattle.run_combinations.specs.Keys.{HasKey, HasWrites, AreKeys, ThreadsAreKeyed, IsKeyed, IsLoadedKey, IsStoredKey, TellsSubset};
+ghost use Rattle.run_combinations.specs.Keys.{HasKey, HasStores, AreKeys, ThreadsAreKeyed, IsKeyed, IsLoadedKey, IsStoredKey, TellsSubset};
 ghost use Rattle.run_combinations.specs.Lists.{lists_of};
 ghost use Rattle.run_combinations.specs.Candidates.{AreSmall};
 ghost use Rattle.run_combinations.specs.Combinations.{combination_lists};
@@ -51,9 +51,9 @@ struct Prefix {
     /// A load and a store whose value needs that of the load.
     needs: Vec<(usize, usize)>,
     /// The locations and values that their loads read.
-    reads: KeySet,
+    loads: KeySet,
     /// The locations and values that they and the initial stores store.
-    writes: KeySet,
+    stores: KeySet,
     is_faulted: bool,
 }
 
@@ -64,22 +64,22 @@ fn fits(prefix: &Prefix, part: &Part, later: &KeySet) -> bool
         (IsStoredKey prefix.now part.now later.now) }
 {
     let mut stored = *later;
-    stored.join(&prefix.writes);
-    stored.join(&part.writes);
-    let mut read = prefix.reads;
-    read.join(&part.reads);
+    stored.join(&prefix.stores);
+    stored.join(&part.stores);
+    let mut read = prefix.loads;
+    read.join(&part.loads);
     read.is_within(&stored)
 }
 
 /// What some run of these threads stores.
-fn writes_of(threads: &[ThreadParts]) -> KeySet
-    ensures { HasWrites result threads.now }
+fn stores_of(threads: &[ThreadParts]) -> KeySet
+    ensures { HasStores result threads.now }
 {
-    let mut writes = KeySet::empty();
+    let mut stores = KeySet::empty();
     for thread in threads {
-        writes.join(&thread.writes);
+        stores.join(&thread.stores);
     }
-    writes
+    stores
 }
 
 /// The same once more.
@@ -99,7 +99,7 @@ fn add_run(made: &mut PrefixRuns, run: usize, part: &Part) -> Result<(), AllocEr
         ≡ combination_with_run run part.now (runs_lists made.old)) }
 {
     let base = made.events.len();
-    made.dependencies.add(&part.links.dependencies, base)?;
+    made.dependencies.add(&part.links, base)?;
     made.events.extend_from_slice(&part.events)?;
     made.runs.push(run)?;
     Ok(())
@@ -115,8 +115,8 @@ struct PrefixEnd {
     ctrlisync_pairs: usize,
     runs: usize,
     needs: usize,
-    reads: KeySet,
-    writes: KeySet,
+    loads: KeySet,
+    stores: KeySet,
     is_faulted: bool,
 }
 
@@ -148,8 +148,8 @@ impl Prefix {
             ctrlisync_pairs: self.runs.dependencies.ctrlisync_pairs.len(),
             runs: self.runs.runs.len(),
             needs: self.needs.len(),
-            reads: self.reads,
-            writes: self.writes,
+            loads: self.loads,
+            stores: self.stores,
             is_faulted: self.is_faulted,
         }
     }
@@ -163,8 +163,8 @@ impl Prefix {
         let base = self.runs.events.len();
         add_pairs(&mut self.needs, &part.links.need_pairs, base)?;
         add_run(&mut self.runs, run, part)?;
-        self.reads.join(&part.reads);
-        self.writes.join(&part.writes);
+        self.loads.join(&part.loads);
+        self.stores.join(&part.stores);
         self.is_faulted = self.is_faulted || part.is_faulted;
         Ok(())
     }
@@ -172,67 +172,70 @@ impl Prefix {
     /// Cuts it back to where it ended.
     fn cut(&mut self, end: &PrefixEnd)
         ensures lists { prefix_lists self.new ≡ cut_lists end.now (prefix_lists self.old) }
-        ensures keys { (self.new.reads ≡ end.now.reads) × (self.new.writes ≡ end.now.writes) }
+        ensures keys { (self.new.loads ≡ end.now.loads) × (self.new.stores ≡ end.now.stores) }
     {
         cut_runs(&mut self.runs, end);
         self.needs.truncate(end.needs);
-        self.reads = end.reads;
-        self.writes = end.writes;
+        self.loads = end.loads;
+        self.stores = end.stores;
         self.is_faulted = end.is_faulted;
     }
 }
 
-/// The combination with these ways to read, without its orders.
-fn combination(alloc: Global, made: PrefixRuns, ways: Vec<Vec<u8>>) -> Combination
+/// The combination with these read choices, without its orders.
+fn combination(alloc: Global, made: PrefixRuns, read_choices: Vec<Vec<u8>>) -> Combination
     requires { length made.events.items ≤ 128 }
     ensures { combination_lists result
-        ≡ record (runs_lists made) { sources = lists_of ways.items } }
+        ≡ record (runs_lists made) { reads_from = lists_of read_choices.items } }
 {
     Combination {
         events: made.events,
         dependencies: made.dependencies,
         runs: made.runs,
-        sources: ways,
+        reads_from: read_choices,
         orders: StoreOrders::none(alloc),
     }
 }
 
 impl Found {
-    /// Counts the candidates of a combination with so many ways to read and orders, and notes
+    /// Counts the candidates of a combination with so many read choices and orders, and notes
     /// whether it has a fault.
-    fn count_ways(&mut self, ways: usize, orders: usize, is_faulted: bool)
+    fn count_read_choices(&mut self, read_choices: usize, orders: usize, is_faulted: bool)
         ensures combinations { self.new.combinations ≡ self.old.combinations }
         ensures count { self.new.count
-            ≡ min (self.old.count + min (ways * orders) (2 ^ 64 - 1)) (2 ^ 64 - 1) }
+            ≡ min (self.old.count + min (read_choices * orders) (2 ^ 64 - 1)) (2 ^ 64 - 1) }
         ensures faulted { self.new.is_faulted ≡ (self.old.is_faulted || is_faulted) }
     {
-        self.count = self.count.saturating_add(ways.saturating_mul(orders));
+        self.count = self
+            .count
+            .saturating_add(read_choices.saturating_mul(orders));
         self.is_faulted = self.is_faulted || is_faulted;
     }
 
-    /// Keeps the combination with its ways to read, if it has some, and counts its candidates,
+    /// Keeps the combination with its read choices, if it has some, and counts its candidates,
     /// which has so many orders.
     fn keep(
         &mut self,
         alloc: Global,
         prefix: &Prefix,
-        ways: Vec<Vec<u8>>,
+        read_choices: Vec<Vec<u8>>,
         orders: usize,
     ) -> Result<(), AllocError>
         requires { length prefix.now.runs.events.items ≤ 128 }
         ensures { OnOk result (tally self.new
-            ≡ capped_tally_with (prefix_lists prefix.now) (lists_of ways.items) orders
+            ≡ capped_tally_with (prefix_lists prefix.now) (lists_of read_choices.items) orders
             (tally self.old)) }
     {
-        if ways.is_empty() {
+        if read_choices.is_empty() {
             return Ok(());
         }
-        self.count_ways(ways.len(), orders, prefix.is_faulted);
+        self.count_read_choices(read_choices.len(), orders, prefix.is_faulted);
         if self.is_faulted {
             return Ok(());
         }
         let runs = copied(alloc, &prefix.runs)?;
-        self.combinations.push(combination(alloc, runs, ways))?;
+        self.combinations
+            .push(combination(alloc, runs, read_choices))?;
         Ok(())
     }
 
@@ -254,10 +257,10 @@ impl Found {
         let orders = order_count(&prefix.runs.events, locations).max(1);
         let limit = MAX_CANDIDATES.saturating_sub(self.count) / orders;
         self.reading.show(&prefix.runs.events, &prefix.needs)?;
-        match self.reading.ways(alloc, limit)? {
+        match self.reading.read_choices(alloc, limit)? {
             None => Ok(false),
-            Some(ways) => {
-                self.keep(alloc, prefix, ways, orders)?;
+            Some(read_choices) => {
+                self.keep(alloc, prefix, read_choices, orders)?;
                 Ok(true)
             }
         }
@@ -275,7 +278,7 @@ fn search_from(
 ) -> Result<bool, AllocError>
     requires { AreSmall (combinations (prefix_lists prefix.old) threads.now) }
     ensures found { (key : ℕ → Value → Option (ℕ × ℕ))
-        → AreKeys key prefix.old.runs.events.items prefix.old.reads prefix.old.writes
+        → AreKeys key prefix.old.runs.events.items prefix.old.loads prefix.old.stores
         → ThreadsAreKeyed key threads.now
         → AllPrefixesFit (min locations 128) (combinations (prefix_lists prefix.old) threads.now)
         → found.old.count ≤ 16384
@@ -293,7 +296,7 @@ fn search_from(
     }
     let thread = &threads[0];
     let others = &threads[1..];
-    let later = writes_of(others);
+    let later = stores_of(others);
     let end = prefix.end();
     for (run, part) in thread.parts.iter().enumerate() {
         if fits(prefix, part, &later) {
@@ -310,8 +313,8 @@ fn search_from(
 /// The initial stores alone.
 fn first_prefix(alloc: Global, layout: &Layout) -> Result<Prefix, AllocError>
     ensures made { IfOk result (λ f. prefix_lists f ≡ initial_prefix layout.now.initial.items) }
-    ensures keys { IfOk result (λ f. ((a b : ℕ) → HasKey f.reads a b → ⊥)
-        × (f.writes ≡ layout.now.initial_writes)) }
+    ensures keys { IfOk result (λ f. ((a b : ℕ) → HasKey f.loads a b → ⊥)
+        × (f.stores ≡ layout.now.initial_store_keys)) }
 {
     Ok(Prefix {
         runs: PrefixRuns {
@@ -320,8 +323,8 @@ fn first_prefix(alloc: Global, layout: &Layout) -> Result<Prefix, AllocError>
             runs: Vec::new(alloc),
         },
         needs: Vec::new(alloc),
-        reads: KeySet::empty(),
-        writes: layout.initial_writes,
+        loads: KeySet::empty(),
+        stores: layout.initial_store_keys,
         is_faulted: false,
     })
 }

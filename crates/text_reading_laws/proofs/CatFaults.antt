@@ -8,7 +8,7 @@ use Rattle.cat_tokens.specs.Lexer.{lexing}
 use Rattle.cat_grammar.specs.declared.form.Form.{Form}
 use Rattle.cat_grammar.specs.Grammar.{Limits, limits, Means, BeginsForm, CanStand, BeginsText, BeforeAName, broken_rule, BreaksRule, Nowhere, TooMany, TooDeep, Plain, IsFormFault}
 use Rattle.cat_grammar.proofs.Faults.{tokens_of-append}
-use Rattle.cat_syntax.specs.Reads.{FaultAt, IsLong, InText}
+use Rattle.cat_grammar.specs.Reads.{FaultAt, IsLong, InText}
 use Rattle.text_reading_laws.proofs.Lists.{Cut, Same, Before, Behind, cut, last_cut}
 use Rattle.text_reading_laws.proofs.CatRuns.{broken_nowhere, stands_by_both}
 
@@ -66,8 +66,8 @@ module _ (most : Limits) (form : Form) (some : 0 < most.nesting) (one : 0 < most
 
   -- ---- the first token that cannot stand
 
-  begins_front : (ts us : List Token) → BeginsForm most form (ts ++ us) → BeginsForm most form ts
-  begins_front ts us b =
+  begins_prefix : (ts us : List Token) → BeginsForm most form (ts ++ us) → BeginsForm most form ts
+  begins_prefix ts us b =
       record {
         rest = us ++ b.rest;
         items = b.items;
@@ -76,23 +76,23 @@ module _ (most : Limits) (form : Form) (some : 0 < most.nesting) (one : 0 < most
             b.text;
       }
 
-  stands_front : (ts us : List Token) → CanStand most form (ts ++ us) → CanStand most form ts
-  stands_front ts us (BeginsText b) = BeginsText (begins_front ts us b)
-  stands_front ts us (BeforeAName a) = by_cut (last_cut ts us a.earlier a.separator a.split)
+  stands_prefix : (ts us : List Token) → CanStand most form (ts ++ us) → CanStand most form ts
+  stands_prefix ts us (BeginsText b) = BeginsText (begins_prefix ts us b)
+  stands_prefix ts us (BeforeAName a) = by_cut (last_cut ts us a.earlier a.separator a.split)
     where
       by_cut : (us ≡ []) ⊎ ((rest : List Token) × (a.earlier ≡ ts ++ rest)) → CanStand most form ts
       by_cut (inl none) =
           subst (CanStand most form) (ap (λ (xs : List Token). ts ++ xs) none ∙ append-nil ts)
           (BeforeAName a)
       by_cut (inr more) =
-          BeginsText (begins_front ts more.0 (subst (BeginsForm most form) more.1 a.begins))
+          BeginsText (begins_prefix ts more.0 (subst (BeginsForm most form) more.1 a.begins))
 
   stands_before : (first second middle : List TokenAt) (here : TokenAt)
       → second ≡ first ++ here ∷ middle → CanStand most form (tokens_of second)
       → CanStand most form (tokens_of first ++ here.token ∷ [])
   stands_before first second middle here e b =
       let are : tokens_of second ≡ (tokens_of first ++ here.token ∷ []) ++ tokens_of middle = ap tokens_of e ∙ tokens_of-append first (here ∷ middle) ∙ sym (append_assoc (tokens_of first) (here.token ∷ []) (tokens_of middle)) in
-      stands_front (tokens_of first ++ here.token ∷ []) (tokens_of middle)
+      stands_prefix (tokens_of first ++ here.token ∷ []) (tokens_of middle)
       (subst (CanStand most form) are b)
 
   first_one : (ps : List TokenAt) (r k : CatRule) (n m : ℕ) → IsFormFault most form ps r n
@@ -101,8 +101,8 @@ module _ (most : Limits) (form : Form) (some : 0 < most.nesting) (one : 0 < most
       by_cut (cut f.before g.before f.here g.here f.after g.after (sym f.split ∙ g.split))
     where
       by_cut : Cut f.before g.before f.here g.here → (r ≡ k) × (n ≡ m)
-      by_cut (Same fronts here) =
-          let moved : BreaksRule most form f.before f.here k m = subst (λ (p : TokenAt). BreaksRule most form f.before p k m) (sym here) (subst (λ (qs : List TokenAt). BreaksRule most form qs g.here k m) (sym fronts) g.refusal) in
+      by_cut (Same prefixes here) =
+          let moved : BreaksRule most form f.before f.here k m = subst (λ (p : TokenAt). BreaksRule most form f.before p k m) (sym here) (subst (λ (qs : List TokenAt). BreaksRule most form qs g.here k m) (sym prefixes) g.refusal) in
           rule_one f.before f.here f.ends r k n m f.refusal moved
       by_cut (Before middle e) =
           absurd (f.ends (stands_before f.before g.before middle f.here e g.stand))

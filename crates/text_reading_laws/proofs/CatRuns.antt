@@ -12,16 +12,16 @@ use Rattle.text_values.specs.ModelValue.{Term, Clause, Atom, Mark}
 use Rattle.cat_grammar.specs.declared.form.Form.{Form}
 use Rattle.cat_grammar.specs.declared.form.Form.TheVariants as forms
 use Rattle.cat_grammar.specs.Grammar.{Limits, BeginsForm, SameCounts, SameDepths, IsSeparator, CanStand, BeginsText, BeforeAName, last_two, is_tilde, is_check}
-use Rattle.cat_grammar.specs.Machine.{Frame, Expectation, Wants, HasBrace, HasName, Has, HasStar, HasStarTilde, fold_to, ended, expression_step}
+use Rattle.cat_grammar.specs.Machine.{TermFrame, TermExpectation, Wants, HasBrace, HasName, Has, HasStar, HasStarTilde, fold_to, ended, expression_step}
 use Rattle.cat_grammar.specs.ItemMachine as items
-use Rattle.cat_grammar.specs.ItemMachine.{Keyword, Named, And, Parameter, AfterParameter, Parameters, Head, Part, Start, InLet, AfterFlag, AfterTilde, Body, Label, ShowLabel, AfterShowLabel, AfterInclude, Done, Fault, Here, State, excess, unless, item_or_end, finished, shown_clause, at, added, goes_on, step_part, step, start}
+use Rattle.cat_grammar.specs.ItemMachine.{Keyword, Named, And, Parameter, AfterParameter, Parameters, Head, Part, Start, InLet, AfterFlag, AfterTilde, Body, Label, ShowLabel, AfterShowLabel, AfterInclude, Done, Fault, Here, ItemState, excess, unless, item_or_end, finished, shown_clause, at, added, goes_on, step_part, step, start}
 use Rattle.cat_grammar.proofs.Runs.{◌>>=◌, run_over}
 use Rattle.cat_grammar.proofs.Finishes.{has_offset, begins, takes}
 use Rattle.cat_grammar.proofs.Shapes.{KnowsPart, Gate, Nest, Operate, Count, Names, Takes, passes, gate_fault, StepShape, Always, Where, step_shape}
 
 -- ---- a token that stands nowhere is refused
 
-abbrev IsRefused : Result State Fault → Type 0
+abbrev IsRefused : Result ItemState Fault → Type 0
 IsRefused (Ok s) = ⊥
 IsRefused (Err e) = Unit {0}
 
@@ -36,16 +36,16 @@ module _ (r : CatRule) (most : Limits) (form : Form) (cs : List Clause) where
   added_refused (Ok c) = unless_refused (cs ++ c ∷ []) (excess most form (length cs + 1)) (Here r)
   added_refused (Err e) = tt
 
-  ended_refused : (h : Head) (fs : List Frame) (v : Term)
+  ended_refused : (h : Head) (fs : List TermFrame) (v : Term)
       → IsRefused (goes_on most form cs h (tokens.Broken r) (ended (tokens.Broken r) (fs, v)))
   ended_refused h [] v = added_refused (finished h v r)
   ended_refused h (f ∷ fs) v = tt
 
-  folded_refused : (h : Head) (p : List Frame × Term)
+  folded_refused : (h : Head) (p : List TermFrame × Term)
       → IsRefused (goes_on most form cs h (tokens.Broken r) (ended (tokens.Broken r) p))
   folded_refused h (fs, v) = ended_refused h fs v
 
-  body_refused : (h : Head) (fs : List Frame) (used : ℕ) (expected : Expectation)
+  body_refused : (h : Head) (fs : List TermFrame) (used : ℕ) (expected : TermExpectation)
       → IsRefused (goes_on most form cs h (tokens.Broken r)
       (expression_step most fs used expected (tokens.Broken r)))
   body_refused h fs used Wants = tt
@@ -79,41 +79,41 @@ module _ (r : CatRule) (most : Limits) (form : Form) (cs : List Clause) where
 
 -- ---- runs
 
-abbrev kept : State → Result State Fault
+abbrev kept : ItemState → Result ItemState Fault
 kept s = Ok s
 
-kept_is : (s u : State) → kept s ≡ kept u → s ≡ u
+kept_is : (s u : ItemState) → kept s ≡ kept u → s ≡ u
 kept_is s u e = cc
 
-not_both : (d : Fault) (s : State) → Err d ≡ kept s → ⊥
+not_both : (d : Fault) (s : ItemState) → Err d ≡ kept s → ⊥
 not_both d s e = absurd cc
 
-abbrev gated : Bool → State → Fault → Result State Fault
+abbrev gated : Bool → ItemState → Fault → Result ItemState Fault
 gated b s d = if b then Ok s else Err d
 
-record Stepped (r : Result State Fault) (next : State → Result State Fault) (end : State)
+record Stepped (r : Result ItemState Fault) (next : ItemState → Result ItemState Fault) (end : ItemState)
     : Type 0 where
-  state : State
+  state : ItemState
   by : r ≡ Ok state
   on : next state ≡ Ok end
 
-first_step : (r : Result State Fault) (next : State → Result State Fault) (end : State)
+first_step : (r : Result ItemState Fault) (next : ItemState → Result ItemState Fault) (end : ItemState)
     → (r >>= next) ≡ Ok end → Stepped r next end
 first_step (Ok s) next end e = record { state = s; by = refl; on = e }
 first_step (Err d) next end e = absurd cc
 
 module _ (form : Form) where
   -- the state before the last token
-  last_step : (most : Limits) (s : State) (ts : List Token) (t : Token) (end : State)
+  last_step : (most : Limits) (s : ItemState) (ts : List Token) (t : Token) (end : ItemState)
       → run_over most form s (ts ++ t ∷ []) ≡ Ok end
-      → (u : State) × (run_over most form s ts ≡ Ok u) × (step most form u t ≡ Ok end)
+      → (u : ItemState) × (run_over most form s ts ≡ Ok u) × (step most form u t ≡ Ok end)
   last_step most s [] t end e =
       let f = first_step (step most form s t) (λ x. Ok x) end e in
       (s, refl, f.by ∙ f.on)
   last_step most s (x ∷ ts) t end e =
       let f = first_step (step most form s x) (λ y. run_over most form y (ts ++ t ∷ [])) end e in
       let r = last_step most f.state ts t end f.on in
-      (r.0, ap (λ (y : Result State Fault). y >>= λ z. run_over most form z ts) f.by ∙ r.1, r.2)
+      (r.0, ap (λ (y : Result ItemState Fault). y >>= λ z. run_over most form z ts) f.by ∙ r.1, r.2)
 
   -- no text holds a token that stands nowhere
   pub broken_nowhere : (most : Limits) (ts : List Token) (r : CatRule)
@@ -140,23 +140,23 @@ module _ (form : Form) where
     passes_both (Names n) x y = ap (nat_lt n) counts.1 ∙ y
     passes_both (Takes n) x y = ap (nat_lt n) counts.2 ∙ y
 
-    record Both (p : Token × Token) (t : Token) (s x y : State) : Type 0 where
+    record Both (p : Token × Token) (t : Token) (s x y : ItemState) : Type 0 where
       taken : step most form s t ≡ Ok x
       same : y ≡ x
       known : KnowsPart (p.1, t) x.part
 
-    step_both : (p : Token × Token) (s : State) (t : Token) (x y : State) → KnowsPart p s.part
+    step_both : (p : Token × Token) (s : ItemState) (t : Token) (x y : ItemState) → KnowsPart p s.part
         → step a form s t ≡ Ok x → step b form s t ≡ Ok y → Both p t s x y
     step_both p s t x y k e h = by_shape (step_shape form p s t k)
       where
-        by_state : (z : State) → step most form s t ≡ Ok z → step a form s t ≡ Ok z
+        by_state : (z : ItemState) → step most form s t ≡ Ok z → step a form s t ≡ Ok z
             → step b form s t ≡ Ok z → KnowsPart (p.1, t) z.part → Both p t s x y
         by_state z m f g known =
             let first = kept_is z x (sym f ∙ e) in
             let second = kept_is z y (sym g ∙ h) in
-            record { taken = m ∙ ap kept first; same = sym second ∙ first; known = subst (λ (w : State). KnowsPart (p.1, t) w.part) first known }
+            record { taken = m ∙ ap kept first; same = sym second ∙ first; known = subst (λ (w : ItemState). KnowsPart (p.1, t) w.part) first known }
 
-        by_gate : (g : Gate) (z : State) (d : Fault)
+        by_gate : (g : Gate) (z : ItemState) (d : Fault)
             → ((c : Limits) → step c form s t ≡ gated (passes g c) z d) → KnowsPart (p.1, t) z.part
             → Both p t s x y
         by_gate g z d q known = by_tests (passes g a) (passes g b) refl refl
@@ -177,21 +177,21 @@ module _ (form : Form) where
         by_shape (Where g z q own known offset) =
             by_gate g z (gate_fault g (is_check t && is_tilde p.1)) q known
 
-    run_both : (p : Token × Token) (s : State) (ts : List Token) (x y : State) → KnowsPart p s.part
+    run_both : (p : Token × Token) (s : ItemState) (ts : List Token) (x y : ItemState) → KnowsPart p s.part
         → run_over a form s ts ≡ Ok x → run_over b form s ts ≡ Ok y
         → (run_over most form s ts ≡ Ok x) × KnowsPart (last_two p.0 p.1 ts) x.part
-    run_both p s [] x y k e h = (e, subst (λ (z : State). KnowsPart p z.part) (kept_is s x e) k)
+    run_both p s [] x y k e h = (e, subst (λ (z : ItemState). KnowsPart p z.part) (kept_is s x e) k)
     run_both p s (t ∷ ts) x y k e h =
         let f = first_step (step a form s t) (λ z. run_over a form z ts) x e in
         let g = first_step (step b form s t) (λ z. run_over b form z ts) y h in
         let n = step_both p s t f.state g.state k f.by g.by in
-        let r = run_both (p.1, t) f.state ts x y n.known f.on (subst (λ (z : State). run_over b form z ts ≡ Ok y) n.same g.on) in
-        (ap (λ (z : Result State Fault). z >>= λ w. run_over most form w ts) n.taken ∙ r.0, r.1)
+        let r = run_both (p.1, t) f.state ts x y n.known f.on (subst (λ (z : ItemState). run_over b form z ts ≡ Ok y) n.same g.on) in
+        (ap (λ (z : Result ItemState Fault). z >>= λ w. run_over most form w ts) n.taken ∙ r.0, r.1)
 
 -- ---- what can stand
 
 -- a state without a place for its name takes no token
-offset_before : (most : Limits) (form : Form) (cs : List Clause) (p : Part) (t : Token) (s : State)
+offset_before : (most : Limits) (form : Form) (cs : List Clause) (p : Part) (t : Token) (s : ItemState)
     → step_part most form cs p t ≡ Ok s → has_offset most p ≡ true
 offset_before most form cs (InLet (And g)) (tokens.Name n) s e =
     choose (nat_lt (length g.bindings) most.names) e
@@ -243,7 +243,7 @@ stands_by_both most form ts t a b some one two depths counts more deeper =
     let both = run_both form most a b depths counts (tokens.End, tokens.End) (start form) (ts ++ t ∷ []) x.0 y.0 (start_knows form) x.1 y.1 in
     choose x.0 both.0 both.1 (has_offset most x.0.part) refl
   where
-    choose : (x : State) → run_over most form (start form) (ts ++ t ∷ []) ≡ Ok x
+    choose : (x : ItemState) → run_over most form (start form) (ts ++ t ∷ []) ≡ Ok x
         → KnowsPart (last_two tokens.End tokens.End (ts ++ t ∷ [])) x.part → (v : Bool)
         → has_offset most x.part ≡ v → CanStand most form (ts ++ t ∷ [])
     choose x all known true offset =

@@ -3,7 +3,7 @@ use Rattle.std.proofs.Common.{ℕ, ◌<◌, true, false, List, map, None, arith}
 use Rattle.cat_tokens.specs.Lexer.{lexing as cat_lexed}
 use Rattle.cat_grammar.specs.declared.form.Form.{Form}
 use Rattle.cat_grammar.proofs.Outcomes.{no_fault}
-use Rattle.cat_syntax.specs.Reads as cat
+use Rattle.cat_grammar.specs.Reads as cat
 use Rattle.litmus_tokens.specs.declared.stage.Stage.TheVariants.{Magic, Init, CellBegins, Tail}
 use Rattle.litmus_tokens.specs.Conditions.{limits, place_meaning, formula_meaning, IsConditionText}
 use Rattle.litmus_table.specs.Grammar.{thread_meaning}

@@ -16,7 +16,7 @@ use Rattle.litmus_grammar.specs.Grammar.{members, TestTree, IsTestText, IsInitTe
 use Rattle.litmus_grammar.specs.InitMachine.{missing}
 use Rattle.litmus_grammar.specs.Laws.{entry_kept, AreStarts}
 use Rattle.litmus_grammar.specs.TextMachine as text
-use Rattle.litmus_grammar.specs.TextMachine.{State, threads_in, first_stage}
+use Rattle.litmus_grammar.specs.TextMachine.{TextState, threads_in, first_stage}
 use Rattle.litmus_grammar.specs.Texts.{late_entries, late_of_test, late_of_init, late_of_thread, before_entries, before_rows}
 use Rattle.litmus_grammar.proofs.Bodies.{length-meaning, length-steps}
 use Rattle.litmus_grammar.proofs.Heads.{TakesTest, test_led, few_of}
@@ -150,7 +150,7 @@ module _ (ps : List TokenAt) where
 
 -- ---- tests
 
-abbrev missing_in : State → Option ℕ
+abbrev missing_in : TextState → Option ℕ
 missing_in s =
     missing (threads_in s.kind s.threads s.draft) s.draft.init.entries s.draft.init.starts
 
@@ -168,7 +168,7 @@ module _ (bytes : List ℕ) (le : length bytes ≤ 65536) where
   few_tokens = let h = lexed_length (first_stage kinds.Test) bytes in omega (arith, h, le)
 
   -- what the machine keeps of a test
-  record Keeps (s : State) (t : TestTree) : Type 0 where
+  record Keeps (s : TextState) (t : TestTree) : Type 0 where
     matches : Matches of_test (late_init t) (missing_in s)
     labels : AreNoted of_test (columns_notes 0 (t.others + 1) (before_rows t) t.rows)
         s.draft.table.threads
@@ -200,7 +200,7 @@ module _ (bytes : List ℕ) (le : length bytes ≤ 65536) where
       let r = test_led x.tree x.fine few_x of_test x.whole in
       let q = test_led y.tree y.fine few_y of_test y.whole in
       let a = keeps_by x.tree few_x r in
-      let b = subst (λ (s : State). Keeps s y.tree) (same_state _ _ (sym q.by ∙ r.by)) (keeps_by y.tree few_y q) in
+      let b = subst (λ (s : TextState). Keeps s y.tree) (same_state _ _ (sym q.by ∙ r.by)) (keeps_by y.tree few_y q) in
       let s = test_at r.stage text.Done (with_all x.tree.name r.block r.reached (map place_meaning (members x.tree.observed)) x.tree.quantifier (formula_meaning x.tree.condition)) in
       or_alike of_test (late_init x.tree) (late_labels x.tree) (late_init y.tree)
       (late_labels y.tree)
@@ -229,7 +229,7 @@ module _ (bytes : List ℕ) where
       let ns = thread_notes [] (x.tree.first ∷ x.tree.others) in
       let ks = thread_notes [] (y.tree.first ∷ y.tree.others) in
       let same = same_state _ _ (sym u.by ∙ t.by) in
-      let noted : AreNoted of_thread (ks ∷ []) t.after.threads = subst (λ (s : State). AreNoted of_thread (ks ∷ []) s.draft.table.threads) same u.noted in
+      let noted : AreNoted of_thread (ks ∷ []) t.after.threads = subst (λ (s : TextState). AreNoted of_thread (ks ∷ []) s.draft.table.threads) same u.noted in
       let alike = columns_alike of_thread (ns ∷ []) (ks ∷ []) t.after.threads t.noted noted in
       subst (λ (o : Option Late). AreAlike of_thread o (late_notes [] ks))
       (alone (late_notes [] ns)) (subst
@@ -242,12 +242,12 @@ module _ (threads : ℕ) (few : threads < 18446744073709551616) (bytes : List �
   abbrev of_init : List TokenAt
   of_init = lexing (first_stage kinds.Init) bytes
 
-  abbrev Holds : State → (x : IsInitText (tokens_of of_init)) → Type 0
+  abbrev Holds : TextState → (x : IsInitText (tokens_of of_init)) → Type 0
   Holds s x =
       AreStarts of_init (tokens.Mark marks_of.OpenBrace ∷ []) (members x.entries)
       s.draft.init.starts × (s.draft.init.entries ≡ map entry_kept (members x.entries))
 
-  matches_of : (s : State) (x : IsInitText (tokens_of of_init)) → Holds s x
+  matches_of : (s : TextState) (x : IsInitText (tokens_of of_init)) → Holds s x
       → Matches of_init (late_of_init threads (tokens_of of_init) x)
       (missing threads s.draft.init.entries s.draft.init.starts)
   matches_of s x h =
@@ -269,4 +269,4 @@ module _ (threads : ℕ) (few : threads < 18446744073709551616) (bytes : List �
       (late_of_init threads (tokens_of of_init) y) (missing threads t.state.draft.init.entries
       t.state.draft.init.starts)
       (matches_of t.state x (t.stand, t.entries)) (matches_of t.state y
-      (subst (λ (s : State). Holds s y) same (u.stand, u.entries)))
+      (subst (λ (s : TextState). Holds s y) same (u.stand, u.entries)))

@@ -29,20 +29,20 @@ module _ {A : Type 0} where
   none_behind [] ys e = sym e
   none_behind (x ∷ xs) ys e = absurd cc
 
-  -- what stands behind a front of a list that ends with this element is nothing, or goes on to that
+  -- what stands behind a prefix of a list that ends with this element is nothing, or goes on to that
   -- element
-  pub last_cut : (front behind others : List A) (x : A) → (front ++ behind) ≡ (others ++ x ∷ [])
-      → (behind ≡ []) ⊎ ((rest : List A) × (others ≡ front ++ rest))
+  pub last_cut : (prefix behind others : List A) (x : A) → (prefix ++ behind) ≡ (others ++ x ∷ [])
+      → (behind ≡ []) ⊎ ((rest : List A) × (others ≡ prefix ++ rest))
   last_cut [] [] others x e = inl refl
   last_cut [] (b ∷ behind) others x e = inr (others, refl)
-  last_cut (f ∷ front) behind [] x e =
-      inl (none_behind front behind (let h : [] ≡ (front ++ behind) = cc in h))
-  last_cut (f ∷ front) behind (o ∷ others) x e =
+  last_cut (f ∷ prefix) behind [] x e =
+      inl (none_behind prefix behind (let h : [] ≡ (prefix ++ behind) = cc in h))
+  last_cut (f ∷ prefix) behind (o ∷ others) x e =
       let heads : o ≡ f = cc in
-      let tails : (front ++ behind) ≡ (others ++ x ∷ []) = cc in
-      by_cut heads (last_cut front behind others x tails)
+      let tails : (prefix ++ behind) ≡ (others ++ x ∷ []) = cc in
+      by_cut heads (last_cut prefix behind others x tails)
     where
-      by_cut : o ≡ f → (behind ≡ []) ⊎ ((rest : List A) × (others ≡ front ++ rest))
-          → (behind ≡ []) ⊎ ((rest : List A) × ((o ∷ others) ≡ (f ∷ front) ++ rest))
+      by_cut : o ≡ f → (behind ≡ []) ⊎ ((rest : List A) × (others ≡ prefix ++ rest))
+          → (behind ≡ []) ⊎ ((rest : List A) × ((o ∷ others) ≡ (f ∷ prefix) ++ rest))
       by_cut heads (inl h) = inl h
       by_cut heads (inr h) = inr (h.0, λ i. heads i ∷ h.1 i)

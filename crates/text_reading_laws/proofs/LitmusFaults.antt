@@ -13,8 +13,8 @@ use Rattle.text_reading_laws.proofs.Lists.{Cut, Same, Before, Behind, cut}
 -- ---- the first token that cannot stand
 
 module _ (IsText : List Token → Type 0) where
-  begins_front : (ts us : List Token) → Begins IsText (ts ++ us) → Begins IsText ts
-  begins_front ts us b =
+  begins_prefix : (ts us : List Token) → Begins IsText (ts ++ us) → Begins IsText ts
+  begins_prefix ts us b =
       record { rest = us ++ b.rest; text = subst IsText (append_assoc ts us b.rest) b.text }
 
   -- what stands before a token that can stand can stand itself
@@ -23,7 +23,7 @@ module _ (IsText : List Token → Type 0) where
       → CanFollow IsText (tokens_of first) here.token
   stands_before first second middle here e b =
       let are : tokens_of second ≡ (tokens_of first ++ here.token ∷ []) ++ tokens_of middle = ap tokens_of e ∙ tokens_of-append first (here ∷ middle) ∙ sym (append_assoc (tokens_of first) (here.token ∷ []) (tokens_of middle)) in
-      begins_front (tokens_of first ++ here.token ∷ []) (tokens_of middle)
+      begins_prefix (tokens_of first ++ here.token ∷ []) (tokens_of middle)
       (subst (Begins IsText) are b)
 
   says_one : (CanStand : Token → Type 0) (s : Stage) (r : Ruling) (k l : LitmusRule)
@@ -43,8 +43,8 @@ module _ (IsText : List Token → Type 0) where
   breaks_one : (start : Stage) (before other : List TokenAt) (here there : TokenAt)
       (k l : LitmusRule) → before ≡ other → here ≡ there → Breaks start before here k
       → Breaks start other there l → k ≡ l
-  breaks_one start before other here there k l fronts ends a b =
-      let moved : Breaks start before here l = subst (λ (p : TokenAt). Breaks start before p l) (sym ends) (subst (λ (ps : List TokenAt). Breaks start ps there l) (sym fronts) b) in
+  breaks_one start before other here there k l prefixes ends a b =
+      let moved : Breaks start before here l = subst (λ (p : TokenAt). Breaks start before p l) (sym ends) (subst (λ (ps : List TokenAt). Breaks start ps there l) (sym prefixes) b) in
       says_one (CanFollow IsText (tokens_of before)) (stage_after start (tokens_of before))
       (ruling (stage_after start (tokens_of before)) here.token) k l a moved
 
@@ -55,8 +55,8 @@ module _ (IsText : List Token → Type 0) where
       by_cut (cut f.before g.before f.here g.here f.behind g.behind (sym f.split ∙ g.split))
     where
       by_cut : Cut f.before g.before f.here g.here → (rule ≡ other) × (offset ≡ again)
-      by_cut (Same fronts ends) = (
-        breaks_one start f.before g.before f.here g.here rule other fronts ends f.number
+      by_cut (Same prefixes ends) = (
+        breaks_one start f.before g.before f.here g.here rule other prefixes ends f.number
             g.number,
         sym f.at_place ∙ ap (λ (p : TokenAt). p.offset) ends ∙ g.at_place,
       )

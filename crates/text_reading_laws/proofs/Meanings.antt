@@ -7,7 +7,7 @@ use Rattle.cat_grammar.specs.Grammar.{limits as cat_limits}
 use Rattle.cat_grammar.specs.ItemMachine.{start as cat_start}
 use Rattle.cat_grammar.specs.Running.{run as cat_run, items_of}
 use Rattle.cat_grammar.proofs.Outcomes.{fault_found, items_only, no_fault}
-use Rattle.cat_syntax.specs.Reads.{Reads}
+use Rattle.cat_grammar.specs.Reads.{Reads}
 use Rattle.text_values.specs.ModelValue.{Clause}
 use Rattle.litmus_tokens.specs.Texts.{lexing}
 use Rattle.text_values.specs.declared.test.InitEntry.{InitEntry}

@@ -7,7 +7,7 @@ ghost use Rattle.std.specs.Prelude.{◌<◌, ℕ, List, length};
 ghost use Rattle.cat_grammar.specs.declared.form.Form.{Form};
 ghost use Rattle.litmus_grammar.specs.Texts.{ReadsTest, IsTestFault, ReadsInit, IsInitFault, ReadsThread, IsThreadFault, ReadsCondition, IsConditionFault, ReadsLocations, IsLocationsFault};
 ghost use Rattle.text_values.specs.TestValue.{Content};
-ghost use Rattle.cat_syntax.specs.Reads.{Reads, FaultAt};
+ghost use Rattle.cat_grammar.specs.Reads.{Reads, FaultAt};
 ghost use Rattle.text_reading_laws.specs.Laws.{MeansOne, HasOneTextFault, AreExclusive};
 
 /// A text means one thing, if any. The number of threads of the test that a part stands in is one

@@ -26,9 +26,9 @@ counted n bytes short fits = grind (arith, common_steps, length-take-le n bytes 
 moved : (l low h n : ℕ) → l + low < 18446744073709551616 → n * 256 ≡ h * 18446744073709551616 + low
     → ((n * 256) % 18446744073709551616 + l) % 18446744073709551616 ≡ l + low
 moved l low h n few split =
-    let front : (n * 256) % 18446744073709551616 ≡ low = ap (λ m. m % 18446744073709551616) split ∙ mod-mul-add h 18446744073709551616 low (omega (arith, few)) in
+    let prefix : (n * 256) % 18446744073709551616 ≡ low = ap (λ m. m % 18446744073709551616) split ∙ mod-mul-add h 18446744073709551616 low (omega (arith, few)) in
     let whole : low + l ≡ 0 * 18446744073709551616 + (l + low) = omega arith in
-    ap (λ m. (m + l) % 18446744073709551616) front
+    ap (λ m. (m + l) % 18446744073709551616) prefix
     ∙ (ap (λ m. m % 18446744073709551616) whole
     ∙ mod-mul-add 0 18446744073709551616 (l + low) few)
 

@@ -2,3 +2,4 @@ pub mod Bytes
 pub mod InPlace
 pub mod Separated
 pub mod Arguments
+pub mod Table

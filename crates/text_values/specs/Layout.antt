@@ -38,3 +38,9 @@ comment_through (Some n) = Some (n + 2)
 -- The length of a comment with both of its ends.
 abbrev pub comment_of : List ℕ → Option ℕ
 comment_of bytes = comment_through (comment_from 0 1 0 (drop 2 bytes))
+
+-- ---- length
+
+-- no text is longer
+abbrev pub most_bytes : ℕ
+most_bytes = 65536

@@ -1,5 +1,5 @@
 -- How the predefined names are written, and which are sets (the herd7 manual, chapter on cat).
-use Rattle.std.specs.Prelude.{ℕ, List, Bool, true, false, codes}
+use Rattle.std.specs.Prelude.{◌≡◌, ℕ, List, Bool, true, false, codes, Contains, AllPairs}
 use Rattle.text_values.specs.declared.predefined.Predefined as declared
 use Rattle.text_values.specs.declared.predefined.Predefined.TheVariants as names
 
@@ -50,3 +50,8 @@ is_set names.LwsyncFences = true
 is_set names.EieioFences = true
 is_set names.IsyncFences = true
 is_set _ = false
+
+-- Each predefined name stands in the list, and none twice.
+abbrev pub HasEachNameOnce : List declared.Predefined → Type 0
+HasEachNameOnce ps =
+    ((p : declared.Predefined) → Contains ps p) × AllPairs (λ p q. p ≡ q → ⊥) ps

@@ -25,7 +25,7 @@ pub fn line_length(bytes: &[u8]) -> usize
     }
 }
 
-/// The length of the string at the front of the bytes, in bytes, with both of its quotes; `None` if
+/// The length of the string that the bytes begin with, in bytes, with both of its quotes; `None` if
 /// the string does not end. The first byte counts as the opening `"`, whatever it is.
 pub fn quoted_length(bytes: &[u8]) -> Option<usize>
     ensures value { result ≡ quoted_from bytes.now }
@@ -66,7 +66,7 @@ fn open_comment(bytes: &[u8]) -> Option<usize>
     None
 }
 
-/// The length of the comment at the front of the bytes, in bytes, with its `(*` and its `*)`;
+/// The length of the comment that the bytes begin with, in bytes, with its `(*` and its `*)`;
 /// `None` if the comment does not end. Comments nest. The first two bytes count as the opening
 /// `(*`, whatever they are.
 pub fn comment_length(bytes: &[u8]) -> Option<usize>

@@ -10,6 +10,7 @@
 #![tactic(auto)]
 
 mod instruction;
+pub mod laws;
 mod layout;
 mod letters;
 mod model;

@@ -6,7 +6,7 @@ use Rattle.std.proofs.lemmas.List.Elements.{Contains-append_left, Contains-appen
 use Rattle.thread_runs.specs.declared.value.Value.{Value}
 use Rattle.thread_runs.specs.declared.value.Value.TheVariants.{Number, Address, NoValue}
 use Rattle.thread_runs.specs.declared.instruction.Instruction.{Instruction}
-use Rattle.thread_runs.specs.declared.instruction.Instruction.TheVariants.{Immediate, Move, AddImmediate, Operate, Load, LoadIndexed, Store, StoreIndexed, Compare, CompareImmediate, Branch, Jump, Barrier}
+use Rattle.thread_runs.specs.declared.instruction.Instruction.TheVariants.{Immediate, Move, AddImmediate, Operate, Load, LoadIndexed, Store, StoreIndexed, Compare, CompareImmediate, Branch, Jump, Fence}
 use Rattle.thread_runs.specs.declared.instruction.Line.{Line}
 use Rattle.thread_runs.specs.declared.instruction.Line.TheVariants.{Label, Does}
 use Rattle.thread_runs.specs.declared.state.State.{State}
@@ -287,7 +287,7 @@ branch_no_load (StoreIndexed d a b) e = refl
 branch_no_load (Compare a b) e = refl
 branch_no_load (CompareImmediate a n) e = refl
 branch_no_load (Jump l) e = refl
-branch_no_load (Barrier f) e = refl
+branch_no_load (Fence f) e = refl
 
 counted_obeyed : (V : List Value) (br : Bool) (i : Instruction) (xs : List Line) → is_branch i ≡ br
     → IsCounted V xs → (w : Walk)

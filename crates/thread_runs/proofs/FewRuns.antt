@@ -5,7 +5,7 @@ use Rattle.std.proofs.lemmas.List.Folds.{flat_map-map}
 use Rattle.thread_runs.specs.declared.value.Value.{Value}
 use Rattle.thread_runs.specs.declared.value.Value.TheVariants.{NoValue}
 use Rattle.thread_runs.specs.declared.instruction.Instruction.{Instruction}
-use Rattle.thread_runs.specs.declared.instruction.Instruction.TheVariants.{Immediate, Move, AddImmediate, Operate, Load, LoadIndexed, Store, StoreIndexed, Compare, CompareImmediate, Branch, Jump, Barrier}
+use Rattle.thread_runs.specs.declared.instruction.Instruction.TheVariants.{Immediate, Move, AddImmediate, Operate, Load, LoadIndexed, Store, StoreIndexed, Compare, CompareImmediate, Branch, Jump, Fence}
 use Rattle.thread_runs.specs.declared.instruction.Line.{Line}
 use Rattle.thread_runs.specs.declared.instruction.Line.TheVariants.{Label, Does}
 use Rattle.thread_runs.specs.declared.state.State.{State}
@@ -29,7 +29,7 @@ no_branch (StoreIndexed d a b) s e = refl
 no_branch (Compare a b) s e = refl
 no_branch (CompareImmediate a n) s e = refl
 no_branch (Jump l) s e = refl
-no_branch (Barrier f) s e = refl
+no_branch (Fence f) s e = refl
 
 all_short : (U : List Value) (f : Value → List Beginning) (n : ℕ) → ((v : Value) → length (f v) ≤ n)
     → length (flat_map f U) ≤ length U * n

@@ -8,11 +8,11 @@ use Rattle.std.proofs.lemmas.List.Elements.{Contains-append_left, Contains-appen
 use Rattle.thread_runs.specs.declared.value.Value.{Value}
 use Rattle.thread_runs.specs.declared.value.Value.TheVariants.{NoValue}
 use Rattle.thread_runs.specs.declared.instruction.Instruction.{Instruction}
-use Rattle.thread_runs.specs.declared.instruction.Instruction.TheVariants.{Immediate, Move, AddImmediate, Operate, Load, LoadIndexed, Store, StoreIndexed, Compare, CompareImmediate, Branch, Jump, Barrier}
+use Rattle.thread_runs.specs.declared.instruction.Instruction.TheVariants.{Immediate, Move, AddImmediate, Operate, Load, LoadIndexed, Store, StoreIndexed, Compare, CompareImmediate, Branch, Jump, Fence}
 use Rattle.thread_runs.specs.declared.instruction.Line.{Line}
 use Rattle.thread_runs.specs.declared.instruction.Line.TheVariants.{Label, Does}
 use Rattle.thread_runs.specs.declared.instruction.Event.{Event}
-use Rattle.thread_runs.specs.declared.instruction.Event.TheVariants.{Reads, Writes, Orders}
+use Rattle.thread_runs.specs.declared.instruction.Event.TheVariants as run_event
 use Rattle.thread_runs.specs.declared.instruction.RunStep.{RunStep}
 use Rattle.thread_runs.specs.declared.state.State.{State}
 use Rattle.thread_runs.specs.declared.free.FreeWalk.{FreeWalk}
@@ -110,7 +110,7 @@ module _ (V : List Value) (xs : List Line) where
   abbrev pub Keeps : Walk → Value → Type 0
   Keeps w v =
       (bs : List Bool) × (vs : List Value) × All (Contains V) vs × (f : Outcome)
-      × (free_from xs w bs vs ≡ Some f) × (a : Value) × Contains f.walk.events (Writes a v)
+      × (free_from xs w bs vs ≡ Some f) × (a : Value) × Contains f.walk.events (run_event.Store a v)
 
   goes_counted : (w : Walk) → Goes w → 0 < count_free (length V) xs w.seeking
   goes_counted w g =
@@ -134,21 +134,21 @@ module _ (V : List Value) (xs : List Line) where
 
 -- by one instruction
 stores_one : (i : Instruction) (u : Value) (s : State) (a v : Value)
-    → Contains (event_of i u s) (Writes a v) → Contains (values_stored_by i s) v
+    → Contains (event_of i u s) (run_event.Store a v) → Contains (values_stored_by i s) v
 stores_one (Store d b) u s a v h =
-    let e : Writes (register s b) (register s d) ≡ Writes a v = contains_one _ _ h in
+    let e : run_event.Store (register s b) (register s d) ≡ run_event.Store a v = contains_one _ _ h in
     one_contains (register s d) v (cc)
 stores_one (StoreIndexed d b c) u s a v h =
-    let e : Writes (sum_of (register s b) (register s c)) (register s d) ≡ Writes a v =
+    let e : run_event.Store (sum_of (register s b) (register s c)) (register s d) ≡ run_event.Store a v =
     contains_one _ _ h in
     one_contains (register s d) v (cc)
 stores_one (Load d b) u s a v h =
-    absurd (let e : Reads (register s b) u ≡ Writes a v = contains_one _ _ h in cc)
+    absurd (let e : run_event.Load (register s b) u ≡ run_event.Store a v = contains_one _ _ h in cc)
 stores_one (LoadIndexed d b c) u s a v h =
     absurd (
-    let e : Reads (sum_of (register s b) (register s c)) u ≡ Writes a v = contains_one _ _ h in
+    let e : run_event.Load (sum_of (register s b) (register s c)) u ≡ run_event.Store a v = contains_one _ _ h in
     cc)
-stores_one (Barrier k) u s a v h = absurd (let e : Orders k ≡ Writes a v = contains_one _ _ h in cc)
+stores_one (Fence k) u s a v h = absurd (let e : run_event.Fence k ≡ run_event.Store a v = contains_one _ _ h in cc)
 stores_one (Immediate d n) u s a v h = absurd (let lt = h.1 in omega arith)
 stores_one (Move d b) u s a v h = absurd (let lt = h.1 in omega arith)
 stores_one (AddImmediate d b n) u s a v h = absurd (let lt = h.1 in omega arith)
@@ -159,21 +159,21 @@ stores_one (Branch c l) u s a v h = absurd (let lt = h.1 in omega arith)
 stores_one (Jump l) u s a v h = absurd (let lt = h.1 in omega arith)
 
 one_stores : (i : Instruction) (u : Value) (s : State) (v : Value) → Contains (values_stored_by i s) v
-    → (a : Value) × Contains (event_of i u s) (Writes a v)
+    → (a : Value) × Contains (event_of i u s) (run_event.Store a v)
 one_stores (Store d b) u s v h =
     let e : register s d ≡ v = contains_one _ _ h in (
       register s b,
-      one_contains (Writes (register s b) (register s d)) (Writes (register s b) v) (cc),
+      one_contains (run_event.Store (register s b) (register s d)) (run_event.Store (register s b) v) (cc),
     )
 one_stores (StoreIndexed d b c) u s v h =
     let e : register s d ≡ v = contains_one _ _ h in (
       sum_of (register s b) (register s c),
-      one_contains (Writes (sum_of (register s b) (register s c)) (register s d))
-          (Writes (sum_of (register s b) (register s c)) v) (cc),
+      one_contains (run_event.Store (sum_of (register s b) (register s c)) (register s d))
+          (run_event.Store (sum_of (register s b) (register s c)) v) (cc),
     )
 one_stores (Load d b) u s v h = absurd (let lt = h.1 in omega arith)
 one_stores (LoadIndexed d b c) u s v h = absurd (let lt = h.1 in omega arith)
-one_stores (Barrier k) u s v h = absurd (let lt = h.1 in omega arith)
+one_stores (Fence k) u s v h = absurd (let lt = h.1 in omega arith)
 one_stores (Immediate d n) u s v h = absurd (let lt = h.1 in omega arith)
 one_stores (Move d b) u s v h = absurd (let lt = h.1 in omega arith)
 one_stores (AddImmediate d b n) u s v h = absurd (let lt = h.1 in omega arith)
@@ -218,8 +218,8 @@ module _ (V : List Value) (xs : List Line) (i : Instruction) (b : Bool) (u : Val
         let (bs, vs, within, f, e, a, found) = k in
         let (h, d, q) = unended (free_from xs (fresh (walked i b u w)) bs vs) f (sym (same_after bs vs) ∙ e) in
         elim
-        (Contains-append_cases (event_of i u w.state) h.walk.events (Writes a v)
-        (subst (λ (es : List Event). Contains es (Writes a v)) q found)) [
+        (Contains-append_cases (event_of i u w.state) h.walk.events (run_event.Store a v)
+        (subst (λ (es : List Event). Contains es (run_event.Store a v)) q found)) [
           | inl here ↦ inl (stores_one i u w.state a v here)
           | inr later ↦ inr (bs, vs, within, h, d, a, later)
         ]
@@ -236,8 +236,8 @@ module _ (V : List Value) (xs : List Line) (i : Instruction) (b : Bool) (u : Val
           f,
           e,
           a,
-          subst (λ (es : List Event). Contains es (Writes a v)) (sym q)
-              (Contains-append_left (event_of i u w.state) h.walk.events (Writes a v) c),
+          subst (λ (es : List Event). Contains es (run_event.Store a v)) (sym q)
+              (Contains-append_left (event_of i u w.state) h.walk.events (run_event.Store a v) c),
         )
 
     later_keeps : (v : Value) → Keeps V xs (fresh (walked i b u w)) v
@@ -251,7 +251,7 @@ module _ (V : List Value) (xs : List Line) (i : Instruction) (b : Bool) (u : Val
           ended g.faulted (pre (step_of i u ∷ []) (event_of i u w.state) g.walk),
           e,
           a,
-          Contains-append_right (event_of i u w.state) g.walk.events (Writes a v) later,
+          Contains-append_right (event_of i u w.state) g.walk.events (run_event.Store a v) later,
         )
 
 -- by one line: the moves that an instruction has, with its choice and the value that it loads
@@ -415,7 +415,7 @@ module _ (V : List Value) (i : Instruction) (xs : List Line) (w : FreeWalk) (on 
 
   does_keeps : (v : Value) (bs : List Bool) (vs : List Value) → All (Contains V) vs → (f : Outcome)
       → after_free_instruction (is_branch i) i (free_from xs) (fresh w) bs vs ≡ Some f → (a : Value)
-      → Contains f.walk.events (Writes a v)
+      → Contains f.walk.events (run_event.Store a v)
       → Contains (values_stored_by i w.state) v
       ⊎ ((n : FreeWalk) × Contains (does_next (is_load i) (is_branch i) V on there i w) n
       × Keeps V xs (fresh n) v)
@@ -429,7 +429,7 @@ module _ (V : List Value) (i : Instruction) (xs : List Line) (w : FreeWalk) (on 
       → Keeps V xs (walk_after i b u (fresh w)) v
       → (bs : List Bool) × (vs : List Value) × All (Contains V) vs × (f : Outcome)
       × (after_free_instruction (is_branch i) i (free_from xs) (fresh w) bs vs ≡ Some f) × (a : Value)
-      × Contains f.walk.events (Writes a v)
+      × Contains f.walk.events (run_event.Store a v)
   keeps_does v b u m k =
       let (cs, us, inside, f, d, a, found) = k in
       let (bs, vs, within, e) = one_move V xs i w (is_load i) (is_branch i) b u cs us f (branch_no_load i) m inside d in
@@ -439,7 +439,7 @@ module _ (V : List Value) (i : Instruction) (xs : List Line) (w : FreeWalk) (on 
       → Contains (does_next (is_load i) (is_branch i) V on there i w) n → Keeps V xs (fresh n) v
       → (bs : List Bool) × (vs : List Value) × All (Contains V) vs × (f : Outcome)
       × (after_free_instruction (is_branch i) i (free_from xs) (fresh w) bs vs ≡ Some f) × (a : Value)
-      × Contains f.walk.events (Writes a v)
+      × Contains f.walk.events (run_event.Store a v)
   does_later v n h k =
       let (b, u, m, e, _, _) = unlisted V xs i w (is_load i) (is_branch i) on there n h in
       keeps_does v b u m (later_keeps V xs i b u w v
@@ -450,7 +450,7 @@ module _ (V : List Value) (i : Instruction) (xs : List Line) (w : FreeWalk) (on 
       → Contains (values_stored_by i w.state) v
       → (bs : List Bool) × (vs : List Value) × All (Contains V) vs × (f : Outcome)
       × (after_free_instruction (is_branch i) i (free_from xs) (fresh w) bs vs ≡ Some f) × (a : Value)
-      × Contains f.walk.events (Writes a v)
+      × Contains f.walk.events (run_event.Store a v)
   does_here v bs vs within f e here =
       let (b, u, m, cs, us, inside, d) = moves V xs i w (is_load i) (is_branch i) bs vs f (branch_no_load i) within (sym (same_does (is_branch i) i (free_from xs) (fresh w) bs vs) ∙ e) in
       keeps_does v b u m (stored_keeps V xs i b u w v (cs, us, inside, f, d) here)
@@ -516,7 +516,7 @@ module _ (V : List Value) (xs : List Line) (on there : Bool) where
           → there ≡ goes_by (length V) xs true x → (bs : List Bool) (vs : List Value)
           → All (Contains V) vs → (f : Outcome)
           → after_free_line sk x (free_from xs) (fresh w) bs vs ≡ Some f → (a : Value)
-          → Contains f.walk.events (Writes a v)
+          → Contains f.walk.events (run_event.Store a v)
           → Contains (stored_on sk x w) v
           ⊎ ((n : FreeWalk) × Contains (next_on V on there sk x w) n × Keeps V xs (fresh n) v)
       go (Some l) x p q bs vs within f e a found =
@@ -551,7 +551,7 @@ module _ (V : List Value) (xs : List Line) (on there : Bool) where
           → there ≡ goes_by (length V) xs true x → Contains (next_on V on there sk x w) n
           → (bs : List Bool) × (vs : List Value) × All (Contains V) vs × (f : Outcome)
           × (after_free_line sk x (free_from xs) (fresh w) bs vs ≡ Some f) × (a : Value)
-          × Contains f.walk.events (Writes a v)
+          × Contains f.walk.events (run_event.Store a v)
       go (Some l) x p q h =
           subst (λ (z : FreeWalk). Keeps V xs (fresh z) v)
           (sym (contains_one (walk_over (Some l) x w) n h)) k
@@ -582,7 +582,7 @@ module _ (V : List Value) (xs : List Line) (on there : Bool) where
           → after_free_line sk x (free_from xs) (fresh w) bs vs ≡ Some f → Contains (stored_on sk x w) v
           → (bs : List Bool) × (vs : List Value) × All (Contains V) vs × (f : Outcome)
           × (after_free_line sk x (free_from xs) (fresh w) bs vs ≡ Some f) × (a : Value)
-          × Contains f.walk.events (Writes a v)
+          × Contains f.walk.events (run_event.Store a v)
       go (Some l) x p q bs vs within f e h = absurd (let no_one = h.1 in omega arith)
       go None (Label m) p q bs vs within f e h = absurd (let no_one = h.1 in omega arith)
       go None (Does i) p q bs vs within f e h = does_here V i xs w on there p q v bs vs within f e h
@@ -670,10 +670,10 @@ module _ (lines : List Line) (first : State) (V : List Value) where
   none_kept w v k = let (bs, vs, within, f, e, a, found) = k in go bs vs f e a found
     where
       go : (bs : List Bool) (vs : List Value) (f : Outcome) → free_ends (fresh w) bs vs ≡ Some f
-          → (a : Value) → Contains f.walk.events (Writes a v) → ⊥
+          → (a : Value) → Contains f.walk.events (run_event.Store a v) → ⊥
       go [] [] f e a found =
           let d : ended false (fresh w) ≡ f = cc in
-          let g = subst (λ (h : Outcome). Contains h.walk.events (Writes a v)) (sym d) found in
+          let g = subst (λ (h : Outcome). Contains h.walk.events (run_event.Store a v)) (sym d) found in
           let lt = g.1 in omega arith
       go [] (u ∷ us) f e a found = absurd cc
       go (b ∷ bs) vs f e a found = absurd cc
@@ -690,7 +690,7 @@ module _ (lines : List Line) (first : State) (V : List Value) where
       instruction_not (StoreIndexed d b c) storeless h = absurd cc
       instruction_not (Load d b) storeless h = let lt = h.1 in omega arith
       instruction_not (LoadIndexed d b c) storeless h = let lt = h.1 in omega arith
-      instruction_not (Barrier k) storeless h = let lt = h.1 in omega arith
+      instruction_not (Fence k) storeless h = let lt = h.1 in omega arith
       instruction_not (Immediate d n) storeless h = let lt = h.1 in omega arith
       instruction_not (Move d b) storeless h = let lt = h.1 in omega arith
       instruction_not (AddImmediate d b n) storeless h = let lt = h.1 in omega arith

@@ -7,7 +7,7 @@ use Rattle.thread_runs.specs.declared.value.Value.TheVariants.{Number}
 use Rattle.thread_runs.specs.declared.instruction.Program.{Program}
 use Rattle.thread_runs.specs.Machine.{register}
 use Rattle.thread_runs.specs.AllRuns.{first_of}
-use Rattle.thread_runs.specs.Held.{MayHold, AreLeft, none, AreLocationValues}
+use Rattle.thread_runs.specs.LocationValues.{MayHold, AreLeft, none, AreLocationValues}
 use Rattle.thread_runs.proofs.Serving.{one_stays, one_goes}
 
 -- a register of a thread that is not there

@@ -9,7 +9,7 @@ use Rattle.std.proofs.lemmas.Option.{same_Some}
 use Rattle.thread_runs.specs.declared.value.Value.{Value}
 use Rattle.thread_runs.specs.declared.value.Value.TheVariants.{NoValue}
 use Rattle.thread_runs.specs.declared.instruction.Instruction.{Instruction}
-use Rattle.thread_runs.specs.declared.instruction.Instruction.TheVariants.{Immediate, Move, AddImmediate, Operate, Load, LoadIndexed, Store, StoreIndexed, Compare, CompareImmediate, Branch, Jump, Barrier}
+use Rattle.thread_runs.specs.declared.instruction.Instruction.TheVariants.{Immediate, Move, AddImmediate, Operate, Load, LoadIndexed, Store, StoreIndexed, Compare, CompareImmediate, Branch, Jump, Fence}
 use Rattle.thread_runs.specs.declared.instruction.Line.{Line}
 use Rattle.thread_runs.specs.declared.instruction.Line.TheVariants.{Label, Does}
 use Rattle.thread_runs.specs.declared.state.State.{State}
@@ -67,7 +67,7 @@ load_goes (Compare a b) s e = refl
 load_goes (CompareImmediate a n) s e = refl
 load_goes (Branch c l) s e = absurd cc
 load_goes (Jump l) s e = refl
-load_goes (Barrier f) s e = refl
+load_goes (Fence f) s e = refl
 
 over_stopped : (x : Line) (b : Beginning) → b.stopped ≡ true → gone_over x b ≡ b
 over_stopped x b e = ap (λ (s : Bool). if s then b else beginning_past b.walk.seeking x b) e

@@ -7,18 +7,18 @@ use Rattle.std.proofs.lemmas.List.Elements.{Contains-push, Contains-append_left,
 use Rattle.thread_runs.specs.declared.value.Value.{Value}
 use Rattle.thread_runs.specs.declared.value.Value.TheVariants.{Number, Address, NoValue}
 use Rattle.thread_runs.specs.declared.instruction.Instruction.{Instruction}
-use Rattle.thread_runs.specs.declared.instruction.Instruction.TheVariants.{Immediate, Move, AddImmediate, Operate, Load, LoadIndexed, Store, StoreIndexed, Compare, CompareImmediate, Branch, Jump, Barrier}
+use Rattle.thread_runs.specs.declared.instruction.Instruction.TheVariants.{Immediate, Move, AddImmediate, Operate, Load, LoadIndexed, Store, StoreIndexed, Compare, CompareImmediate, Branch, Jump, Fence}
 use Rattle.thread_runs.specs.declared.instruction.Line.{Line}
 use Rattle.thread_runs.specs.declared.instruction.Line.TheVariants.{Label, Does}
 use Rattle.thread_runs.specs.declared.instruction.Event.{Event}
-use Rattle.thread_runs.specs.declared.instruction.Event.TheVariants.{Reads}
+use Rattle.thread_runs.specs.declared.instruction.Event.TheVariants as run_event
 use Rattle.thread_runs.specs.declared.instruction.Program.{Program}
 use Rattle.thread_runs.specs.declared.state.State.{State}
 use Rattle.thread_runs.specs.declared.run.Run as made
 use Rattle.thread_runs.specs.Machine.{address_of, event_of, is_load, is_fault}
 use Rattle.thread_runs.specs.Runs.{IsLess}
 use Rattle.thread_runs.specs.AllRuns.{Beginning, beginning_at, gone_over, beginning_past, over_instruction, executes, with_load, next, all_from, values_or, served, all_over, whole, run_shown, shown_run, shown_whole, thread_of}
-use Rattle.thread_runs.specs.Held.{MayHold, AreLeft, none, stays, goes, AreLocationValues, IsUnserved, ShowsServed}
+use Rattle.thread_runs.specs.LocationValues.{MayHold, AreLeft, none, stays, goes, AreLocationValues, IsUnserved, ShowsServed}
 use Rattle.thread_runs.proofs.RunsExact.{contains_one, one_contains, flat_map_contains, map_contains, map_twice, are_runs}
 
 -- lists of which some are left out
@@ -75,7 +75,7 @@ left_contains Out (x ∷ xs) ys (goes q h) y c =
 
 -- an event that a beginning has stays
 load_event : (i : Instruction) (v : Value) (s : State) → is_load i ≡ true
-    → event_of i v s ≡ Reads (address_of i s) v ∷ []
+    → event_of i v s ≡ run_event.Load (address_of i s) v ∷ []
 load_event (Load d a) v s e = refl
 load_event (LoadIndexed d a b) v s e = refl
 load_event (Immediate d n) v s e = absurd cc
@@ -88,7 +88,7 @@ load_event (Compare a b) v s e = absurd cc
 load_event (CompareImmediate a n) v s e = absurd cc
 load_event (Branch c l) v s e = absurd cc
 load_event (Jump l) v s e = absurd cc
-load_event (Barrier f) v s e = absurd cc
+load_event (Fence f) v s e = absurd cc
 
 module _ (e : Event) where
   abbrev Has : Beginning → Type 0
@@ -154,14 +154,14 @@ module _ (p : Program) (V : List Value) (held : List (Vec Value Global)) (are : 
 
     abbrev Unserved : Beginning → Type 0
     Unserved b =
-        (location : ℕ) × (v : Value) × Contains b.walk.events (Reads (Address location) v)
+        (location : ℕ) × (v : Value) × Contains b.walk.events (run_event.Load (Address location) v)
         × (MayHold p location v → ⊥)
 
     all_unserved : (xs : List Line) (b : Beginning) → Unserved b
         → AreLeft Unserved (all_from V xs b) []
     all_unserved xs b u =
         all_go Unserved (all_from V xs b) (λ c d.
-        (u.0, u.1, all_have (Reads (Address u.0) u.1) V xs b c u.2 d, u.3))
+        (u.0, u.1, all_have (run_event.Load (Address u.0) u.1) V xs b c u.2 d, u.3))
 
     loads_left : (i : Instruction) (xs : List Line) (b : Beginning) → is_load i ≡ true
         → ((a : Beginning) → AreLeft Unserved (all_from V xs a) (all_over V held xs a))
@@ -180,12 +180,12 @@ module _ (p : Program) (V : List Value) (held : List (Vec Value Global)) (are : 
         (flat_map (all_over V held xs) (map (with_load i b) ws))
         (all_unserved xs (with_load i b u) (q.0, u, read, q.2)) (loads_left i xs b ld ih us ws h)
       where
-        read : Contains (with_load i b u).walk.events (Reads (Address q.0) u)
+        read : Contains (with_load i b u).walk.events (run_event.Load (Address q.0) u)
         read =
-            Contains-append_right b.walk.events (event_of i u b.walk.state) (Reads (Address q.0) u)
-            (subst (λ (es : List Event). Contains es (Reads (Address q.0) u))
-            (sym (load_event i u b.walk.state ld ∙ ap (λ (a : Value). Reads a u ∷ []) q.1))
-            (one_contains (Reads (Address q.0) u) (Reads (Address q.0) u) refl))
+            Contains-append_right b.walk.events (event_of i u b.walk.state) (run_event.Load (Address q.0) u)
+            (subst (λ (es : List Event). Contains es (run_event.Load (Address q.0) u))
+            (sym (load_event i u b.walk.state ld ∙ ap (λ (a : Value). run_event.Load a u ∷ []) q.1))
+            (one_contains (run_event.Load (Address q.0) u) (run_event.Load (Address q.0) u) refl))
 
     one_left : (xs : List Line) (a : Beginning)
         → AreLeft Unserved (all_from V xs a) (all_over V held xs a)

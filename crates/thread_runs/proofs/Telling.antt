@@ -8,17 +8,17 @@ use Rattle.std.proofs.lemmas.Option.{same_Some}
 use Rattle.thread_runs.specs.declared.value.Value.{Value}
 use Rattle.thread_runs.specs.declared.value.Value.TheVariants.{Number, Address, NoValue}
 use Rattle.thread_runs.specs.declared.instruction.Instruction.{Instruction}
-use Rattle.thread_runs.specs.declared.instruction.Instruction.TheVariants.{Immediate, Move, AddImmediate, Operate, Load, LoadIndexed, Store, StoreIndexed, Compare, CompareImmediate, Branch, Jump, Barrier}
+use Rattle.thread_runs.specs.declared.instruction.Instruction.TheVariants.{Immediate, Move, AddImmediate, Operate, Load, LoadIndexed, Store, StoreIndexed, Compare, CompareImmediate, Branch, Jump, Fence}
 use Rattle.thread_runs.specs.declared.instruction.Line.{Line}
 use Rattle.thread_runs.specs.declared.instruction.Line.TheVariants.{Label, Does}
 use Rattle.thread_runs.specs.declared.instruction.Event.{Event}
-use Rattle.thread_runs.specs.declared.instruction.Event.TheVariants.{Reads, Writes, Orders}
+use Rattle.thread_runs.specs.declared.instruction.Event.TheVariants as run_event
 use Rattle.thread_runs.specs.declared.instruction.Program.{Program}
 use Rattle.thread_runs.specs.declared.state.State.{State}
 use Rattle.thread_runs.specs.Machine.{state_after, event_of, is_load, is_fault, takes_branch, register, with_register, operated, sum_of}
 use Rattle.thread_runs.specs.Runs.{Walk, Outcome, walk_at, ends, walk_after, walk_past, after_load, after_instruction, after_line, run_from}
 use Rattle.thread_runs.specs.AllRuns.{thread_of}
-use Rattle.thread_runs.specs.Held.{MayHold, same_value, line_may_put, may_hold, line_may_store, thread_may_store}
+use Rattle.thread_runs.specs.LocationValues.{MayHold, same_value, line_may_put, may_hold, line_may_store, thread_may_store}
 use Rattle.thread_runs.proofs.RunsExact.{contains_one}
 
 nat_same : (n : ℕ) → nat_eq n n ≡ true
@@ -61,7 +61,7 @@ module _ (lines : List Line) (first : State) where
   -- and so does what is stored
   abbrev pub Told : List Event → Type 0
   Told es =
-      (l : ℕ) (v : Value) → Contains es (Writes (Address l) v)
+      (l : ℕ) (v : Value) → Contains es (run_event.Store (Address l) v)
       → list_any (line_may_store lines first l v) lines ≡ true
 
   pub first_holds : Holds first
@@ -105,49 +105,49 @@ module _ (lines : List Line) (first : State) where
   after_holds (CompareImmediate a n) v s c h = h
   after_holds (Branch t l) v s c h = h
   after_holds (Jump l) v s c h = h
-  after_holds (Barrier f) v s c h = h
+  after_holds (Fence f) v s c h = h
 
-  address_is : {a b u v : Value} → Writes a u ≡ Writes b v → a ≡ b
+  address_is : {a b u v : Value} → run_event.Store a u ≡ run_event.Store b v → a ≡ b
   address_is e = cc
 
-  stored_is : {a b u v : Value} → Writes a u ≡ Writes b v → u ≡ v
+  stored_is : {a b u v : Value} → run_event.Store a u ≡ run_event.Store b v → u ≡ v
   stored_is e = cc
 
   event_told : (i : Instruction) (v : Value) (s : State) → Contains lines (Does i) → Holds s
       → Told (event_of i v s)
   event_told (Store d a) v s c h = λ l u e.
-      let is = contains_one (Writes (register s a) (register s d)) (Writes (Address l) u) e in
+      let is = contains_one (run_event.Store (register s a) (register s d)) (run_event.Store (Address l) u) e in
       any_there (line_may_store lines first l u) lines (Does (Store d a)) c
       (and_from (may_hold lines first a (Address l)) (may_hold lines first d u)
       (ap (λ (w : Value). may_hold lines first a w) (sym (address_is is)) ∙ h a)
       (ap (λ (w : Value). may_hold lines first d w) (sym (stored_is is)) ∙ h d))
   event_told (StoreIndexed d a b) v s c h = λ l u e.
-      let is = contains_one (Writes (sum_of (register s a) (register s b)) (register s d)) (Writes (Address l) u) e in
+      let is = contains_one (run_event.Store (sum_of (register s a) (register s b)) (register s d)) (run_event.Store (Address l) u) e in
       any_there (line_may_store lines first l u) lines (Does (StoreIndexed d a b)) c
       (ap (λ (w : Value). may_hold lines first d w) (sym (stored_is is)) ∙ h d)
   event_told (Load d a) v s c h =
       λ l u e.
-      absurd (let is = contains_one (Reads (register s a) v) (Writes (Address l) u) e in cc)
+      absurd (let is = contains_one (run_event.Load (register s a) v) (run_event.Store (Address l) u) e in cc)
   event_told (LoadIndexed d a b) v s c h =
       λ l u e. absurd (
       let is =
-      contains_one (Reads (sum_of (register s a) (register s b)) v) (Writes (Address l) u)
+      contains_one (run_event.Load (sum_of (register s a) (register s b)) v) (run_event.Store (Address l) u)
       e in
       cc)
-  event_told (Barrier f) v s c h =
-      λ l u e. absurd (let is = contains_one (Orders f) (Writes (Address l) u) e in cc)
-  event_told (Immediate d n) v s c h = λ l u e. absurd (no_member (Writes (Address l) u) e)
-  event_told (Move d a) v s c h = λ l u e. absurd (no_member (Writes (Address l) u) e)
-  event_told (AddImmediate d a n) v s c h = λ l u e. absurd (no_member (Writes (Address l) u) e)
-  event_told (Operate o d a b) v s c h = λ l u e. absurd (no_member (Writes (Address l) u) e)
-  event_told (Compare a b) v s c h = λ l u e. absurd (no_member (Writes (Address l) u) e)
-  event_told (CompareImmediate a n) v s c h = λ l u e. absurd (no_member (Writes (Address l) u) e)
-  event_told (Branch t l) v s c h = λ k u e. absurd (no_member (Writes (Address k) u) e)
-  event_told (Jump l) v s c h = λ k u e. absurd (no_member (Writes (Address k) u) e)
+  event_told (Fence f) v s c h =
+      λ l u e. absurd (let is = contains_one (run_event.Fence f) (run_event.Store (Address l) u) e in cc)
+  event_told (Immediate d n) v s c h = λ l u e. absurd (no_member (run_event.Store (Address l) u) e)
+  event_told (Move d a) v s c h = λ l u e. absurd (no_member (run_event.Store (Address l) u) e)
+  event_told (AddImmediate d a n) v s c h = λ l u e. absurd (no_member (run_event.Store (Address l) u) e)
+  event_told (Operate o d a b) v s c h = λ l u e. absurd (no_member (run_event.Store (Address l) u) e)
+  event_told (Compare a b) v s c h = λ l u e. absurd (no_member (run_event.Store (Address l) u) e)
+  event_told (CompareImmediate a n) v s c h = λ l u e. absurd (no_member (run_event.Store (Address l) u) e)
+  event_told (Branch t l) v s c h = λ k u e. absurd (no_member (run_event.Store (Address k) u) e)
+  event_told (Jump l) v s c h = λ k u e. absurd (no_member (run_event.Store (Address k) u) e)
 
   told_more : (es fs : List Event) → Told es → Told fs → Told (es ++ fs)
   told_more es fs h k =
-      λ l v c. elim (Contains-append_cases es fs (Writes (Address l) v) c)
+      λ l v c. elim (Contains-append_cases es fs (run_event.Store (Address l) v) c)
       [ inl a ↦ h l v a | inr b ↦ k l v b ]
 
   -- all that is left of the text
@@ -211,5 +211,5 @@ never_held p location initial v there other none (inr s) =
     (run_told (thread_of p s.0).lines (thread_of p s.0).first (thread_of p s.0).lines (λ x d. d)
     (walk_at (thread_of p s.0).first) s.2 s.3
     (first_holds (thread_of p s.0).lines (thread_of p s.0).first)
-    (λ l u d. absurd (no_member (Writes (Address l) u) d)) s.4 location v s.5)
+    (λ l u d. absurd (no_member (run_event.Store (Address l) u) d)) s.4 location v s.5)
     (none s.0 s.1)

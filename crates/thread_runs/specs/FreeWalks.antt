@@ -6,7 +6,7 @@ use Rattle.thread_runs.specs.declared.instruction.Instruction.{Instruction}
 use Rattle.thread_runs.specs.declared.instruction.Instruction.TheVariants.{Store, StoreIndexed}
 use Rattle.thread_runs.specs.declared.instruction.Line.{Line}
 use Rattle.thread_runs.specs.declared.instruction.Line.TheVariants.{Label, Does}
-use Rattle.thread_runs.specs.declared.instruction.Event.TheVariants.{Writes}
+use Rattle.thread_runs.specs.declared.instruction.Event.TheVariants as run_event
 use Rattle.thread_runs.specs.declared.state.State.{State}
 use Rattle.thread_runs.specs.declared.free.FreeWalk.{FreeWalk}
 use Rattle.thread_runs.specs.Machine.{state_after, register, is_load, is_branch, branch_target}
@@ -96,7 +96,7 @@ abbrev pub Stores : List Line → State → List Value → Value → Type 0
 Stores lines first V v =
     (bs : List Bool) × (vs : List Value) × All (Contains V) vs
     × (f : Outcome) × (free_run_of lines first bs vs ≡ Some f)
-    × (a : Value) × Contains f.walk.events (Writes a v)
+    × (a : Value) × Contains f.walk.events (run_event.Store a v)
 
 -- the values with the property are added, all of them where there are not over 16 values then
 pub record AreAdded (P : Value → Type 0) (old new : List Value) : Type 0 where

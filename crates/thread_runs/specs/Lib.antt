@@ -5,4 +5,4 @@ pub mod AllRuns
 pub mod ValueSet
 pub mod FreeRuns
 pub mod FreeWalks
-pub mod Held
+pub mod LocationValues

@@ -9,10 +9,10 @@ use Rattle.text_values.specs.declared.instruction.Operation.TheVariants.{Add, Su
 use Rattle.text_values.specs.declared.instruction.BranchCondition.{BranchCondition}
 use Rattle.text_values.specs.declared.instruction.BranchCondition.TheVariants as when
 use Rattle.thread_runs.specs.declared.instruction.Instruction.{Instruction}
-use Rattle.thread_runs.specs.declared.instruction.Instruction.TheVariants.{Immediate, Move, AddImmediate, Operate, Load, LoadIndexed, Store, StoreIndexed, Compare, CompareImmediate, Branch, Jump, Barrier}
+use Rattle.thread_runs.specs.declared.instruction.Instruction.TheVariants.{Immediate, Move, AddImmediate, Operate, Load, LoadIndexed, Store, StoreIndexed, Compare, CompareImmediate, Branch, Jump, Fence}
 pub use Rattle.thread_runs.specs.declared.state.State.{State}
 use Rattle.thread_runs.specs.declared.instruction.Event.{Event}
-use Rattle.thread_runs.specs.declared.instruction.Event.TheVariants.{Reads, Writes, Orders}
+use Rattle.thread_runs.specs.declared.instruction.Event.TheVariants as run_event
 
 -- an operation; what would be a fault has no value
 abbrev pub sum_of : Value → Value → Value
@@ -115,12 +115,12 @@ list_of (Some e) = e ∷ []
 
 -- the event of the instruction, if it has one
 abbrev pub event_of : Instruction → Value → State → List Event
-event_of (Load d a) v s = Reads (register s a) v ∷ []
-event_of (LoadIndexed d a b) v s = Reads (sum_of (register s a) (register s b)) v ∷ []
-event_of (Store d a) v s = Writes (register s a) (register s d) ∷ []
+event_of (Load d a) v s = run_event.Load (register s a) v ∷ []
+event_of (LoadIndexed d a b) v s = run_event.Load (sum_of (register s a) (register s b)) v ∷ []
+event_of (Store d a) v s = run_event.Store (register s a) (register s d) ∷ []
 event_of (StoreIndexed d a b) v s =
-    Writes (sum_of (register s a) (register s b)) (register s d) ∷ []
-event_of (Barrier f) v s = Orders f ∷ []
+    run_event.Store (sum_of (register s a) (register s b)) (register s d) ∷ []
+event_of (Fence f) v s = run_event.Fence f ∷ []
 event_of _ v s = []
 
 -- the address of a load

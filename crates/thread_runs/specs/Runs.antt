@@ -9,7 +9,7 @@ use Rattle.thread_runs.specs.declared.instruction.Line.{Line}
 use Rattle.thread_runs.specs.declared.instruction.Line.TheVariants.{Label, Does}
 use Rattle.thread_runs.specs.declared.instruction.RunStep.{RunStep}
 use Rattle.thread_runs.specs.declared.instruction.Event.{Event}
-use Rattle.thread_runs.specs.declared.instruction.Event.TheVariants.{Writes}
+use Rattle.thread_runs.specs.declared.instruction.Event.TheVariants.{Store}
 pub use Rattle.thread_runs.specs.Machine.{
   State,
   offset,
@@ -124,7 +124,7 @@ abbrev pub StoresFreely : List Thread → (Value → Type 0) → Value → Type 
 StoresFreely threads P v =
     (t : Thread) × Contains threads t × (bs : List Bool) × (vs : List Value) × All P vs
     × (f : Outcome) × (free_run_of t.lines t.first bs vs ≡ Some f)
-    × (a : Value) × Contains f.walk.events (Writes a v)
+    × (a : Value) × Contains f.walk.events (Store a v)
 
 -- the values after k rounds
 abbrev pub InDomain : List Value → List Thread → ℕ → Value → Type 0

@@ -4,7 +4,7 @@ ghost use Rattle.std.specs.List.{AllPairs};
 ghost use Rattle.thread_runs.specs.Runs.{IsLess};
 ghost use Rattle.std.specs.List.{flat_map};
 ghost use Rattle.thread_runs.specs.AllRuns as all;
-ghost use Rattle.thread_runs.specs.Held.{AreLocationValues, ShowsServed};
+ghost use Rattle.thread_runs.specs.LocationValues.{AreLocationValues, ShowsServed};
 
 use crate::instruction::{Instruction, Line, Program};
 use crate::run::{Domain, Run};

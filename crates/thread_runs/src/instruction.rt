@@ -33,7 +33,7 @@ pub enum Instruction {
     /// `b`: a branch to a label.
     Jump(usize),
     /// A fence.
-    Barrier(Fence),
+    Fence(Fence),
 }
 
 /// A line of a thread: a label by its number, or an instruction.
@@ -62,11 +62,11 @@ pub struct Program {
 #[derive(Clone, Copy)]
 pub enum Event {
     /// A load: its address and the value that it loads.
-    Reads(Value, Value),
+    Load(Value, Value),
     /// A store: its address and the value that it stores.
-    Writes(Value, Value),
+    Store(Value, Value),
     /// A fence.
-    Orders(Fence),
+    Fence(Fence),
 }
 
 /// An instruction that was executed, with the value that it loaded if it is a load.

@@ -5,9 +5,9 @@
 
 mod enumerate;
 mod free;
-mod held;
 mod instruction;
 pub mod laws;
+mod location_values;
 mod run;
 mod state;
 mod value;
@@ -16,8 +16,8 @@ mod walk;
 
 pub use enumerate::{run_count, runs_of, served_runs_of};
 pub use free::{MANY, MAX_VALUES, add_stored, free_count};
-pub use held::{are_same_values, held_values, is_same, thread_lines};
 pub use instruction::{Event, Instruction, Line, Program, RunStep};
+pub use location_values::{are_same_values, held_values, is_same, thread_lines};
 pub use run::{Domain, Run};
 pub use state::{State, cancels, is_load};
 pub use value::{Comparison, Value};

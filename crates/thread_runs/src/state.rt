@@ -142,7 +142,7 @@ pub fn apply(instruction: Instruction, loaded: Value, state: &mut State)
         | Instruction::StoreIndexed(_, _, _)
         | Instruction::Branch(_, _)
         | Instruction::Jump(_)
-        | Instruction::Barrier(_) => {}
+        | Instruction::Fence(_) => {}
     }
 }
 
@@ -162,17 +162,17 @@ pub fn event(instruction: Instruction, loaded: Value, state: &State) -> Option<E
     ensures { machine.event_of instruction loaded state.now ≡ machine.list_of result }
 {
     match instruction {
-        Instruction::Load(_, a) => Some(Event::Reads(register(state, a), loaded)),
+        Instruction::Load(_, a) => Some(Event::Load(register(state, a), loaded)),
         Instruction::LoadIndexed(_, a, b) => {
             let address = sum(register(state, a), register(state, b));
-            Some(Event::Reads(address, loaded))
+            Some(Event::Load(address, loaded))
         }
-        Instruction::Store(d, a) => Some(Event::Writes(register(state, a), register(state, d))),
+        Instruction::Store(d, a) => Some(Event::Store(register(state, a), register(state, d))),
         Instruction::StoreIndexed(d, a, b) => {
             let address = sum(register(state, a), register(state, b));
-            Some(Event::Writes(address, register(state, d)))
+            Some(Event::Store(address, register(state, d)))
         }
-        Instruction::Barrier(fence) => Some(Event::Orders(fence)),
+        Instruction::Fence(fence) => Some(Event::Fence(fence)),
         _ => None,
     }
 }

@@ -10,20 +10,20 @@ use Rattle.run_combinations.specs.declared.combination.Combination.{Combination}
 use Rattle.verdict.specs.Kept.{holds_at}
 use Rattle.verdict.specs.Counting.{count_kept, count_column}
 
-pub column_more : (ways i width column : ℕ) (rest : List Bool) → i < ways
-    → count_column (ways - i) width column rest
+pub column_more : (read_choices i width column : ℕ) (rest : List Bool) → i < read_choices
+    → count_column (read_choices - i) width column rest
     ≡ cond (holds_at column rest) 1 0
-    + count_column (ways - (i + 1)) width column (drop width rest)
+    + count_column (read_choices - (i + 1)) width column (drop width rest)
 unfolding count_column
-column_more ways i width column rest lt =
-    let e : ways - i ≡ suc (ways - (i + 1)) = omega arith in
+column_more read_choices i width column rest lt =
+    let e : read_choices - i ≡ suc (read_choices - (i + 1)) = omega arith in
     ap (λ (n : ℕ). count_column n width column rest) e
 
-pub column_none : (ways i width column : ℕ) (rest : List Bool) → ways ≤ i
-    → count_column (ways - i) width column rest ≡ 0
+pub column_none : (read_choices i width column : ℕ) (rest : List Bool) → read_choices ≤ i
+    → count_column (read_choices - i) width column rest ≡ 0
 unfolding count_column
-column_none ways i width column rest past =
-    let e : ways - i ≡ 0 = omega arith in
+column_none read_choices i width column rest past =
+    let e : read_choices - i ≡ 0 = omega arith in
     ap (λ (n : ℕ). count_column n width column rest) e
 
 -- what the orders that pass have in their columns
@@ -172,12 +172,12 @@ pairs_kept test kept (x ∷ xs) os =
 -- the candidates of a combination, by their orders
 pub combination_kept : (test : List ℕ → Bool) (kept : List Bool) (c : Combination)
     → count_kept (λ (t : List ℕ × List ℕ). test t.1) kept (candidates_of c)
-    ≡ by_orders test (length c.sources.items) (length c.orders) 0 kept c.orders
+    ≡ by_orders test (length c.reads_from.items) (length c.orders) 0 kept c.orders
 unfolding candidates_of
 combination_kept test kept c =
-    pairs_kept test kept (lists_of c.sources.items) c.orders
+    pairs_kept test kept (lists_of c.reads_from.items) c.orders
     ∙ ap (λ (n : ℕ). by_orders test n (length c.orders) 0 kept c.orders)
-    (length-map c.sources.items (λ v. v.items))
+    (length-map c.reads_from.items (λ v. v.items))
 
 pub none_yet : (test : List ℕ → Bool) (rows width : ℕ) (kept : List Bool)
     → by_orders test rows width 0 kept [] ≡ 0

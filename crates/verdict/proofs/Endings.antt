@@ -13,8 +13,8 @@ use Rattle.verdict.specs.Final.{value_shown, final_value, final_state}
 use Rattle.verdict.specs.Kept.{holds_at}
 use Rattle.verdict.specs.Order.{is_state}
 use Rattle.verdict.specs.declared.answer.FinalValue.{FinalValue}
-use Rattle.verdict.specs.declared.shown_place.ShownPlace.{ShownPlace}
-use Rattle.verdict.specs.declared.shown_place.ShownPlace.TheVariants.{Register, Location}
+use Rattle.verdict.specs.declared.observable.Observable.{Observable}
+use Rattle.verdict.specs.declared.observable.Observable.TheVariants.{Register, Location}
 
 abbrev in_file : ℕ → List Value → Option Value
 in_file register registers = slice_get registers register
@@ -56,16 +56,16 @@ register_shown (t ∷ ts) [] thread register = no_runs (slice_get (t ∷ ts) thr
 register_shown (t ∷ ts) (r ∷ rs) zero register = held_at_end t.items r register
 register_shown (t ∷ ts) (r ∷ rs) (suc thread) register = register_shown ts rs thread register
 
-value_held : (space : Space) (x : Candidate) (place : ShownPlace)
-    → ends.final_value space x.0 x.1.1 place ≡ final_value (shown_of space.registers.items x) place
+value_held : (space : Space) (x : Candidate) (observable : Observable)
+    → ends.final_value space x.0 x.1.1 observable ≡ final_value (shown_of space.registers.items x) observable
 value_held space x (Register thread register) =
     ap value_shown (register_shown space.registers.items x.0.runs.items thread register)
 value_held space x (Location location) = refl
 
-state_held : (space : Space) (places : List ShownPlace) (x : Candidate)
-    → ends.final_state space places x ≡ final_state places (shown_of space.registers.items x)
-state_held space places x =
-    ap (λ (f : ShownPlace → FinalValue). map f places) (fun_ext (value_held space x))
+state_held : (space : Space) (observables : List Observable) (x : Candidate)
+    → ends.final_state space observables x ≡ final_state observables (shown_of space.registers.items x)
+state_held space observables x =
+    ap (λ (f : Observable → FinalValue). map f observables) (fun_ext (value_held space x))
 
 count_mapped : {X Y : Type 0} (f : X → Y) (test : Y → Bool) (keep : List Bool) (xs : List X)
     → count_kept (λ x. test (f x)) keep xs ≡ count_kept test keep (map f xs)
@@ -76,15 +76,15 @@ count_mapped f test keep (x ∷ xs) =
     (count_mapped f test (drop 1 keep) xs)
 
 -- as many candidates end in a state as executions do that they show
-pub counts_shown : (space : Space) (places : List ShownPlace) (keep : List Bool)
+pub counts_shown : (space : Space) (observables : List Observable) (keep : List Bool)
     (v : List FinalValue)
-    → count_kept (λ x. is_state v (ends.final_state space places x)) keep
+    → count_kept (λ x. is_state v (ends.final_state space observables x)) keep
     (candidates_in space.combinations.items)
-    ≡ count_kept (λ e. is_state v (final_state places e)) keep (shown_in space)
-counts_shown space places keep v =
+    ≡ count_kept (λ e. is_state v (final_state observables e)) keep (shown_in space)
+counts_shown space observables keep v =
     ap
     (λ (f : Candidate → List FinalValue).
     count_kept (λ x. is_state v (f x)) keep (candidates_in space.combinations.items))
-    (fun_ext (state_held space places))
-    ∙ count_mapped (shown_of space.registers.items) (λ e. is_state v (final_state places e)) keep
+    (fun_ext (state_held space observables))
+    ∙ count_mapped (shown_of space.registers.items) (λ e. is_state v (final_state observables e)) keep
     (candidates_in space.combinations.items)

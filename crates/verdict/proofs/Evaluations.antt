@@ -24,17 +24,17 @@ use Rattle.verdict.specs.Evaluated.{number_that, is_satisfied, values_of, IsWord
 use Rattle.verdict.specs.Final.{final_value, final_state}
 use Rattle.verdict.specs.Judgement.{is_same, total_of, IsJudged}
 use Rattle.verdict.specs.Kept.{holds_at, is_kept, holds_on_some, kept, Flag, names_of_flags, raised_names}
-use Rattle.verdict.specs.Meaning.{places_of}
+use Rattle.verdict.specs.Meaning.{observables_of}
 use Rattle.verdict.specs.Order.{state_cmp, is_state}
-use Rattle.verdict.specs.Shown.{known_places, is_among, AreShown}
+use Rattle.verdict.specs.Shown.{known_observables, is_among, AreShown}
 use Rattle.verdict.specs.declared.answer.CountedState.{CountedState}
 use Rattle.verdict.specs.declared.answer.Evaluation.{Evaluation}
 use Rattle.verdict.specs.declared.answer.FinalValue.{FinalValue}
 use Rattle.verdict.specs.declared.formula.Formula as code
-use Rattle.verdict.specs.declared.shown_place.ShownPlace.{ShownPlace}
+use Rattle.verdict.specs.declared.observable.Observable.{Observable}
 use Rattle.verdict.specs.contracts.answer.FinalValueOrd.TheImpl as value_ord
 use Rattle.verdict.proofs.Atoms.{known_of_both}
-use Rattle.verdict.proofs.KeptLists.{counted_by_places, many_within, raised_by_places, rising_read}
+use Rattle.verdict.proofs.KeptLists.{counted_by_indices, many_within, raised_by_indices, rising_read}
 use Rattle.verdict.proofs.Orders.{value_orders, state_total, is_state_same}
 use Rattle.verdict.proofs.Spread.{how_many, weigh, many_agree, length-filter_twice, weighed, all_keys, own_number, All-of_map}
 use Rattle.verdict.proofs.Tallies.{Entries}
@@ -111,7 +111,7 @@ apart states h =
     (IsDistinct-from_sorted state_cmp (values_of states) h)
 
 -- the sums of the counts by an answer are sums by the states
-weights : (locations : List (List ℕ)) (shown : List ShownPlace) (f : code.Formula) (b : Bool)
+weights : (locations : List (List ℕ)) (shown : List Observable) (f : code.Formula) (b : Bool)
     (states : List CountedState) → All (IsWorded locations shown f) states
     → total_of (λ s. is_same s.holds b) states
     ≡ weigh (λ v. is_same (value_of v f) b) (pairs_of states)
@@ -132,12 +132,12 @@ same_false : (a : Bool) → is_same a false ≡ not a
 same_false true = refl
 same_false false = refl
 
--- the places of the proposition are among those that are shown
-pub shows_all : (ls : List (List ℕ)) (ps observed : List Place) (shown : List ShownPlace)
+-- the observables of the proposition are among those that are shown
+pub shows_all : (ls : List (List ℕ)) (ps observed : List Place) (shown : List Observable)
     → AreShown ls (ps ++ observed) shown → Shows ls shown ps
 shows_all ls ps observed shown are p h =
     are.exact p ∙ known_of_both ls ps observed p
-    ∙ or_left (is_among (known_places ls ps) p) (is_among (known_places ls observed) p) h
+    ∙ or_left (is_among (known_observables ls ps) p) (is_among (known_observables ls observed) p) h
 
 no_cap : (n m top : ℕ) → m ≡ min n top → n ≤ top → m ≡ n
 no_cap n m top h le = omega (arith, h)
@@ -145,7 +145,7 @@ no_cap n m top h le = omega (arith, h)
 -- ---- the evaluation
 
 module _ (locations : List (List ℕ)) (all : List Shown) (kind : Quantifier) (proposition : Formula)
-    (shown : List ShownPlace) (checks : List (List Bool)) (flags : List Flag) (keep : List Bool)
+    (shown : List Observable) (checks : List (List Bool)) (flags : List Flag) (keep : List Bool)
     (f : code.Formula) (e : Evaluation) (es : Entries) where
   abbrev numbered : List (ℕ × Shown)
   numbered = enumerate_from 0 all
@@ -166,7 +166,7 @@ module _ (locations : List (List ℕ)) (all : List Shown) (kind : Quantifier) (p
       (rises : IsStrictlySortedBy state_cmp (values_of e.states))
       (words : All (IsWorded locations shown f) e.states)
       (means : Compiles locations shown proposition f)
-      (shows : Shows locations shown (places_of proposition)) where
+      (shows : Shows locations shown (observables_of proposition)) where
     within : (p : ℕ × Shown → Bool) → how_many p numbered ≤ 2 ^ 64 - 1
     within p = omega (arith, fits, many_within p 0 all)
 
@@ -180,7 +180,7 @@ module _ (locations : List (List ℕ)) (all : List Shown) (kind : Quantifier) (p
         at_tally v e.states es counts
         ∙ no_cap (how_many (λ x. is_in x && is_state v (end x)) numbered) (tally es v) (2 ^ 64 - 1)
         (tallies v
-        ∙ ap (λ (n : ℕ). min n (2 ^ 64 - 1)) (counted_by_places (is_kept checks)
+        ∙ ap (λ (n : ℕ). min n (2 ^ 64 - 1)) (counted_by_indices (is_kept checks)
         (λ x. is_state v (final_state shown x)) 0 keep all (λ k lt.
         let z : k ≡ 0 + k = omega arith in
         keeps k lt ∙ ap (is_kept checks) z)))
@@ -218,7 +218,7 @@ module _ (locations : List (List ℕ)) (all : List Shown) (kind : Quantifier) (p
     raised : names_of_flags (λ g. holds_on_some keep g.1) flags ≡ raised_names (kept checks all) flags
     raised =
         ap (λ (test : Flag → Bool). names_of_flags test flags)
-        (fun_ext (λ g. raised_by_places (is_kept checks) (λ k. holds_at k g.1) 0 keep g.1 all long
+        (fun_ext (λ g. raised_by_indices (is_kept checks) (λ k. holds_at k g.1) 0 keep g.1 all long
         (λ k lt. let z : k ≡ 0 + k = omega arith in keeps k lt ∙ ap (is_kept checks) z)
         (λ k. let z : k ≡ 0 + k = omega arith in ap (λ (m : ℕ). holds_at m g.1) z)))
 

@@ -7,8 +7,8 @@ use Rattle.std.proofs.lemmas.List.Elements.{filter_map-append}
 use Rattle.run_combinations.specs.declared.combination.Combination.{Combination}
 use Rattle.thread_runs.specs.declared.value.Value.{Value}
 use Rattle.thread_runs.specs.declared.value.Value.TheVariants.{NoValue}
-use Rattle.verdict.specs.Ends.{stored_at, final_word}
-use Rattle.verdict.specs.Final.{last_or}
+use Rattle.verdict.specs.Ends.{final_word}
+use Rattle.verdict.specs.Final.{value_stored_at, last_or}
 
 last_push : (d : Value) (xs : List Value) (x : Value) → last_or d (xs ++ x ∷ []) ≡ x
 last_push d [] x = refl
@@ -20,23 +20,23 @@ last_maybe d xs None = ap (last_or d) (append-nil xs)
 last_maybe d xs (Some x) = last_push d xs x
 
 -- one store more
-word_more : (c : Combination) (order : List ℕ) (i location : ℕ) → i < length order
-    → final_word c (take (i + 1) order) location
-    ≡ unwrap_or (stored_at c location (get_or order i 0)) (final_word c (take i order) location)
-word_more c order i location lt =
-    ap (λ (l : List ℕ). last_or NoValue (filter_map (stored_at c location) l))
-    (take_more order i 0 lt)
-    ∙ ap (last_or NoValue) (filter_map-append (stored_at c location) (take i order)
-    (get_or order i 0 ∷ []))
-    ∙ last_maybe NoValue (filter_map (stored_at c location) (take i order))
-    (stored_at c location (get_or order i 0))
+word_more : (c : Combination) (coherence : List ℕ) (i location : ℕ) → i < length coherence
+    → final_word c (take (i + 1) coherence) location
+    ≡ unwrap_or (value_stored_at c.events.items location (get_or coherence i 0)) (final_word c (take i coherence) location)
+word_more c coherence i location lt =
+    ap (λ (l : List ℕ). last_or NoValue (filter_map (value_stored_at c.events.items location) l))
+    (take_more coherence i 0 lt)
+    ∙ ap (last_or NoValue) (filter_map-append (value_stored_at c.events.items location) (take i coherence)
+    (get_or coherence i 0 ∷ []))
+    ∙ last_maybe NoValue (filter_map (value_stored_at c.events.items location) (take i coherence))
+    (value_stored_at c.events.items location (get_or coherence i 0))
 
 -- one store less
-pub word_less : (c : Combination) (order : List ℕ) (i location : ℕ) → 0 < i → i ≤ length order
-    → final_word c (take i order) location
-    ≡ unwrap_or (stored_at c location (get_or order (i - 1) 0))
-    (final_word c (take (i - 1) order) location)
-word_less c order i location some within =
+pub word_less : (c : Combination) (coherence : List ℕ) (i location : ℕ) → 0 < i → i ≤ length coherence
+    → final_word c (take i coherence) location
+    ≡ unwrap_or (value_stored_at c.events.items location (get_or coherence (i - 1) 0))
+    (final_word c (take (i - 1) coherence) location)
+word_less c coherence i location some within =
     let before : i ≡ (i - 1) + 1 = omega (arith, some) in
-    ap (λ (n : ℕ). final_word c (take n order) location) before
-    ∙ word_more c order (i - 1) location (omega (arith, some, within))
+    ap (λ (n : ℕ). final_word c (take n coherence) location) before
+    ∙ word_more c coherence (i - 1) location (omega (arith, some, within))

@@ -1,4 +1,4 @@
--- The texts of the places of a state.
+-- The texts of the observables of a state.
 use Rattle.std.proofs.Common.{◌≡◌, ℕ, ◌+◌, ◌<◌, ◌≤◌, List, [], ◌∷◌, ◌++◌, length, get_or, map, drop, refl, sym, ap, ◌∙◌, arith, append_assoc}
 use Rattle.std.specs.List.{zip}
 use Rattle.std.proofs.lemmas.List.{at_drop_more, at_drop_all}
@@ -6,19 +6,19 @@ use Rattle.text_values.specs.Joined.{separation}
 use Rattle.text_values.proofs.Separated.{from}
 use Rattle.verdict.specs.Text.{held_text}
 use Rattle.verdict.specs.declared.answer.FinalValue.{FinalValue}
-use Rattle.verdict.specs.declared.shown_place.ShownPlace.{ShownPlace}
+use Rattle.verdict.specs.declared.observable.Observable.{Observable}
 
--- what each place holds
-abbrev pub texts : List (List ℕ) → List ShownPlace → List FinalValue → List (List ℕ)
+-- what each observable holds
+abbrev pub texts : List (List ℕ) → List Observable → List FinalValue → List (List ℕ)
 texts locations ps vs = map (λ x. held_text locations x.0 x.1) (zip ps vs)
 
-none_left : (locations : List (List ℕ)) (ps : List ShownPlace) → texts locations ps [] ≡ []
+none_left : (locations : List (List ℕ)) (ps : List Observable) → texts locations ps [] ≡ []
 none_left locations [] = refl
 none_left locations (p ∷ ps) = refl
 
--- one place more is printed
-pub one_printed : (locations : List (List ℕ)) (sign : List ℕ) (ps : List ShownPlace)
-    (vs : List FinalValue) (i : ℕ) (p : ShownPlace) (v : FinalValue) (old new whole : List ℕ)
+-- one observable more is printed
+pub one_printed : (locations : List (List ℕ)) (sign : List ℕ) (ps : List Observable)
+    (vs : List FinalValue) (i : ℕ) (p : Observable) (v : FinalValue) (old new whole : List ℕ)
     → i < length ps → i < length vs → v ≡ get_or vs i v
     → new ≡ old ++ (separation sign i ++ held_text locations (get_or ps i p) v)
     → old ++ from sign i (texts locations (drop i ps) (drop i vs)) ≡ whole
@@ -40,14 +40,14 @@ one_printed locations sign ps vs i p v old new whole lt lt' is put e =
     begins : from sign i (texts locations (drop i ps) (drop i vs))
         ≡ separation sign i ++ (held_text locations (get_or ps i p) (get_or vs i v) ++ rest)
     begins =
-        at_drop_more (λ (l : List ShownPlace). from sign i (texts locations l (drop i vs))) ps i p
+        at_drop_more (λ (l : List Observable). from sign i (texts locations l (drop i vs))) ps i p
         lt
         ∙ at_drop_more
         (λ (l : List FinalValue).
         from sign i (texts locations (get_or ps i p ∷ drop (i + 1) ps) l)) vs i v lt'
 
--- a place without a value is not printed
-pub none_printed : (locations : List (List ℕ)) (sign : List ℕ) (ps : List ShownPlace)
+-- an observable without a value is not printed
+pub none_printed : (locations : List (List ℕ)) (sign : List ℕ) (ps : List Observable)
     (vs : List FinalValue) (i : ℕ) (old new whole : List ℕ) → length vs ≤ i → new ≡ old
     → old ++ from sign i (texts locations (drop i ps) (drop i vs)) ≡ whole
     → new ++ from sign (i + 1) (texts locations (drop (i + 1) ps) (drop (i + 1) vs)) ≡ whole

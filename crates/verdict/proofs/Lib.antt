@@ -6,8 +6,8 @@ pub mod Evaluations
 pub mod HeldTexts
 pub mod KeptLists
 pub mod Names
+pub mod Observables
 pub mod Orders
-pub mod Places
 pub mod Spread
 pub mod Tallies
 pub mod Uniqueness

@@ -10,23 +10,23 @@ use Rattle.std.specs.Bool.{Decides}
 use Rattle.std.specs.Ordering.{is_eq, ordering_then, nat_cmp}
 use Rattle.std.specs.declared.cmp.Ordering.TheVariants.{Less, Equal, Greater}
 use Rattle.std.proofs.lemmas.Map.Lookups.{exact_signed, exact_unsigned}
-use Rattle.verdict.specs.Order.{place_cmp, value_cmp, state_cmp, is_place, is_state}
-use Rattle.verdict.specs.contracts.shown_place.ShownPlacePartialEq.TheImpl as place_eq
+use Rattle.verdict.specs.Order.{observable_cmp, value_cmp, state_cmp, is_observable, is_state}
+use Rattle.verdict.specs.contracts.observable.ObservablePartialEq.TheImpl as observable_eq
 use Rattle.verdict.specs.contracts.answer.FinalValuePartialEq.TheImpl as value_eq
 use Rattle.verdict.specs.declared.answer.FinalValue.{FinalValue}
 use Rattle.verdict.specs.declared.answer.FinalValue.TheVariants.{Number, Address, NoValue}
-use Rattle.verdict.specs.declared.shown_place.ShownPlace.{ShownPlace}
-use Rattle.verdict.specs.declared.shown_place.ShownPlace.TheVariants.{Register, Location}
-use Rattle.verdict.specs.contracts.shown_place.ShownPlaceOrd.TheImpl as place_ord
+use Rattle.verdict.specs.declared.observable.Observable.{Observable}
+use Rattle.verdict.specs.declared.observable.Observable.TheVariants.{Register, Location}
+use Rattle.verdict.specs.contracts.observable.ObservableOrd.TheImpl as observable_ord
 use Rattle.verdict.specs.contracts.answer.FinalValueOrd.TheImpl as value_ord
-use Rattle.verdict.specs.contracts.shown_place.ShownPlaceOrd.TheImpl.Laws as place_laws
+use Rattle.verdict.specs.contracts.observable.ObservableOrd.TheImpl.Laws as observable_laws
 use Rattle.verdict.specs.contracts.answer.FinalValueOrd.TheImpl.Laws as value_laws
 
-pub place_order : (p q : ShownPlace) → (place_ord.ghosts).cmp p q ≡ place_cmp p q
-place_order (Register t r) (Register u s) = refl
-place_order (Register t r) (Location l) = refl
-place_order (Location k) (Register u s) = refl
-place_order (Location k) (Location l) = refl
+pub observable_order : (p q : Observable) → (observable_ord.ghosts).cmp p q ≡ observable_cmp p q
+observable_order (Register t r) (Register u s) = refl
+observable_order (Register t r) (Location l) = refl
+observable_order (Location k) (Register u s) = refl
+observable_order (Location k) (Location l) = refl
 
 pub value_order : (v w : FinalValue) → (value_ord.ghosts).cmp v w ≡ value_cmp v w
 value_order (Number m) (Number n) = refl
@@ -39,16 +39,16 @@ value_order NoValue (Number n) = refl
 value_order NoValue (Address l) = refl
 value_order NoValue NoValue = refl
 
-pub place_orders : (place_ord.ghosts).cmp ≡ place_cmp
-place_orders = fun_ext (λ p. fun_ext (λ q. place_order p q))
+pub observable_orders : (observable_ord.ghosts).cmp ≡ observable_cmp
+observable_orders = fun_ext (λ p. fun_ext (λ q. observable_order p q))
 
 pub value_orders : (value_ord.ghosts).cmp ≡ value_cmp
 value_orders = fun_ext (λ v. fun_ext (λ w. value_order v w))
 
-pub place_total : IsTotalOrder place_cmp
-place_total =
-    subst (λ (R : ShownPlace → ShownPlace → Ordering). IsTotalOrder R) place_orders
-    place_laws.total-law
+pub observable_total : IsTotalOrder observable_cmp
+observable_total =
+    subst (λ (R : Observable → Observable → Ordering). IsTotalOrder R) observable_orders
+    observable_laws.total-law
 
 pub value_total : IsTotalOrder value_cmp
 value_total =
@@ -67,14 +67,14 @@ eq_from_cmp : (m n : ℕ) → eqb m n ≡ is_eq (nat_cmp m n)
 eq_from_cmp m n = grind (arith, nat_tests)
 
 -- `==` is what the order calls equal
-pub place_eq_is : (p q : ShownPlace) → (place_eq.ghosts).eq p q ≡ is_place p q
-place_eq_is (Register t r) (Register u s) =
+pub observable_eq_is : (p q : Observable) → (observable_eq.ghosts).eq p q ≡ is_observable p q
+observable_eq_is (Register t r) (Register u s) =
     ap (λ (b : Bool). b && eqb r s) (eq_from_cmp t u)
     ∙ ap (λ (b : Bool). is_eq (nat_cmp t u) && b) (eq_from_cmp r s)
     ∙ sym (is_eq_then (nat_cmp t u) (nat_cmp r s))
-place_eq_is (Register t r) (Location l) = refl
-place_eq_is (Location k) (Register u s) = refl
-place_eq_is (Location k) (Location l) = eq_from_cmp k l
+observable_eq_is (Register t r) (Location l) = refl
+observable_eq_is (Location k) (Register u s) = refl
+observable_eq_is (Location k) (Location l) = eq_from_cmp k l
 
 value_exact : (v w : FinalValue) → value_cmp v w ≡ Equal → v ≡ w
 value_exact (Number m) (Number n) h = ap Number (exact_signed m n h)
@@ -102,17 +102,17 @@ is_state_same (x ∷ xs) (y ∷ ys) h =
     ap (λ (z : FinalValue). z ∷ xs) (value_exact x y e.0)
     ∙ ap (λ (zs : List FinalValue). y ∷ zs) (is_state_same xs ys e.1)
 
-pub is_place_same : (p q : ShownPlace) → is_place p q ≡ true → p ≡ q
-is_place_same (Register t r) (Register u s) h =
-    let e = and_parts (eqb t u) (eqb r s) (place_eq_is (Register t r) (Register u s) ∙ h) in
+pub is_observable_same : (p q : Observable) → is_observable p q ≡ true → p ≡ q
+is_observable_same (Register t r) (Register u s) h =
+    let e = and_parts (eqb t u) (eqb r s) (observable_eq_is (Register t r) (Register u s) ∙ h) in
     ap (λ (x : ℕ). Register x r) ((Decides-eqb t u).0 e.0)
     ∙ ap (λ (x : ℕ). Register u x) ((Decides-eqb r s).0 e.1)
-is_place_same (Register t r) (Location l) h = absurd (false≢true h)
-is_place_same (Location k) (Register u s) h = absurd (false≢true h)
-is_place_same (Location k) (Location l) h = ap Location ((Decides-eqb k l).0 (eq_from_cmp k l ∙ h))
+is_observable_same (Register t r) (Location l) h = absurd (false≢true h)
+is_observable_same (Location k) (Register u s) h = absurd (false≢true h)
+is_observable_same (Location k) (Location l) h = ap Location ((Decides-eqb k l).0 (eq_from_cmp k l ∙ h))
 
-pub is_place_itself : (p : ShownPlace) → is_place p p ≡ true
-is_place_itself p = ap is_eq (tied_itself place_total p)
+pub is_observable_itself : (p : Observable) → is_observable p p ≡ true
+is_observable_itself p = ap is_eq (tied_itself observable_total p)
 
 -- `==` of two values says that they are the same
 pub value_eq-Decides : (v w : FinalValue) → Decides ((value_eq.ghosts).eq v w) (v ≡ w)

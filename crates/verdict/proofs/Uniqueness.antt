@@ -21,7 +21,7 @@ use Rattle.verdict.specs.Final.{final_value, final_state}
 use Rattle.verdict.specs.Judgement.{observation_of, is_met}
 use Rattle.verdict.specs.Kept.{Flag, kept}
 use Rattle.verdict.specs.Laws.{HasOneConditionOutcome}
-use Rattle.verdict.specs.Order.{place_cmp, state_cmp, is_place, is_state}
+use Rattle.verdict.specs.Order.{observable_cmp, state_cmp, is_observable, is_state}
 use Rattle.verdict.specs.Shown.{AreShown}
 use Rattle.verdict.specs.Text.{state_text}
 use Rattle.verdict.specs.declared.answer.CountedState.{CountedState}
@@ -29,8 +29,8 @@ use Rattle.verdict.specs.declared.answer.Evaluation.{Evaluation}
 use Rattle.verdict.specs.declared.answer.FinalValue.{FinalValue}
 use Rattle.verdict.specs.declared.answer.OutcomeResult.{OutcomeResult}
 use Rattle.verdict.specs.declared.answer.OutcomeResult.TheVariants.{Refused, Evaluated}
-use Rattle.verdict.specs.declared.shown_place.ShownPlace.{ShownPlace}
-use Rattle.verdict.proofs.Orders.{place_total, state_total, is_place_same, is_state_same}
+use Rattle.verdict.specs.declared.observable.Observable.{Observable}
+use Rattle.verdict.proofs.Orders.{observable_total, state_total, is_observable_same, is_state_same}
 
 -- ---- rising lists with the same members
 
@@ -47,21 +47,21 @@ sorted_alike {K} cmp total xs ys h k there back =
     (λ i j d lt long. Less-from_sorted cmp xs i j d h lt long)
     (λ i j d lt long. Less-from_sorted cmp ys i j d k lt long) there back
 
-is_place_equiv : IsEquivalence is_place
-is_place_equiv = eq_by_cmp_equiv place_total
+is_observable_equiv : IsEquivalence is_observable
+is_observable_equiv = eq_by_cmp_equiv observable_total
 
-among_other : (ls : List (List ℕ)) (ps : List Place) (shown other : List ShownPlace)
-    → AreShown ls ps shown → AreShown ls ps other → (z : ShownPlace) → Contains shown z
+among_other : (ls : List (List ℕ)) (ps : List Place) (shown other : List Observable)
+    → AreShown ls ps shown → AreShown ls ps other → (z : Observable) → Contains shown z
     → Contains other z
 among_other ls ps shown other h k z c =
-    Contains-from_any {eq = is_place} is_place_same z other (k.exact z ∙ sym (h.exact z)
-    ∙ list_any-from_Contains is_place_equiv z shown c)
+    Contains-from_any {eq = is_observable} is_observable_same z other (k.exact z ∙ sym (h.exact z)
+    ∙ list_any-from_Contains is_observable_equiv z shown c)
 
--- the places that are shown are determined
-shown_alike : (ls : List (List ℕ)) (ps : List Place) (shown other : List ShownPlace)
+-- the observables that are shown are determined
+shown_alike : (ls : List (List ℕ)) (ps : List Place) (shown other : List Observable)
     → AreShown ls ps shown → AreShown ls ps other → shown ≡ other
 shown_alike ls ps shown other h k =
-    sorted_alike place_cmp place_total shown other h.ordered k.ordered
+    sorted_alike observable_cmp observable_total shown other h.ordered k.ordered
     (among_other ls ps shown other h k) (among_other ls ps other shown k h)
 
 -- ---- where some pass a test, there is one
@@ -82,7 +82,7 @@ passing p (x ∷ xs) some = passing_at p x xs (p x) refl some (passing p xs)
 
 -- ---- states
 
-module _ (locations : List (List ℕ)) (proposition : Formula) (shown : List ShownPlace)
+module _ (locations : List (List ℕ)) (proposition : Formula) (shown : List Observable)
     (candidates : List (ℕ × Shown)) where
   abbrev Counted : CountedState → Type 0
   Counted = IsStateOf locations proposition shown candidates
@@ -173,7 +173,7 @@ result_alike locations executions kind proposition observed checks flags (Evalua
     ap Evaluated (evaluation_alike locations proposition h.0 (kept checks executions) kind flags d e
     h.2
     (subst
-    (λ (l : List ShownPlace).
+    (λ (l : List Observable).
     Says locations kind proposition l (kept checks executions) flags e)
     (sym (shown_alike _ _ h.0 k.0 h.1 k.1)) k.2))
 

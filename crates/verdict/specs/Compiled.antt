@@ -2,12 +2,12 @@
 use Rattle.std.specs.Prelude.{ℕ, ◌≡◌, Bool, true, false, not, List, Option, Some, None, map, slice_get}
 use Rattle.text_values.specs.declared.test.Place.{Place}
 use Rattle.text_values.specs.TestValue as text
-use Rattle.verdict.specs.Meaning.{is_value, joined_by, satisfies, places_of}
-use Rattle.verdict.specs.Shown.{known_places, is_among}
+use Rattle.verdict.specs.Meaning.{is_value, joined_by, satisfies, observables_of}
+use Rattle.verdict.specs.Shown.{known_observables, is_among}
 use Rattle.verdict.specs.declared.answer.FinalValue.{FinalValue}
 use Rattle.verdict.specs.declared.formula.Formula as code
 use Rattle.verdict.specs.declared.formula.Formula.TheVariants as formulas
-use Rattle.verdict.specs.declared.shown_place.ShownPlace.{ShownPlace}
+use Rattle.verdict.specs.declared.observable.Observable.{Observable}
 
 abbrev pub holds_final_value : Option FinalValue → FinalValue → Bool
 holds_final_value None value = false
@@ -21,12 +21,13 @@ value_of state (formulas.Not' p a) = not (value_of state a)
 value_of state (formulas.Joined' op p a q b) = joined_by op (value_of state a) (value_of state b)
 
 -- all known observables of a text are among these
-abbrev pub Shows : List (List ℕ) → List ShownPlace → List Place → Type 0
-Shows locations shown places =
-    (p : ShownPlace) → is_among (known_places locations places) p ≡ true → is_among shown p ≡ true
+abbrev pub Shows : List (List ℕ) → List Observable → List Place → Type 0
+Shows locations shown observables =
+    (p : Observable) → is_among (known_observables locations observables) p ≡ true
+    → is_among shown p ≡ true
 
 -- it is true of each state over these observables just where the proposition is
-abbrev pub Compiles : List (List ℕ) → List ShownPlace → text.Formula → code.Formula → Type 0
+abbrev pub Compiles : List (List ℕ) → List Observable → text.Formula → code.Formula → Type 0
 Compiles locations shown proposition f =
-    Shows locations shown (places_of proposition) → (content : ShownPlace → FinalValue)
+    Shows locations shown (observables_of proposition) → (content : Observable → FinalValue)
     → value_of (map content shown) f ≡ satisfies locations content proposition

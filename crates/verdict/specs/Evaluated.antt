@@ -15,13 +15,13 @@ use Rattle.verdict.specs.declared.answer.Outcome.{Outcome}
 use Rattle.verdict.specs.declared.answer.OutcomeResult.{OutcomeResult}
 use Rattle.verdict.specs.declared.answer.OutcomeResult.TheVariants.{Refused, Evaluated}
 use Rattle.verdict.specs.declared.formula.Formula as code
-use Rattle.verdict.specs.declared.shown_place.ShownPlace.{ShownPlace}
+use Rattle.verdict.specs.declared.observable.Observable.{Observable}
 use Rattle.verdict.specs.Compiled.{value_of, Compiles}
 use Rattle.verdict.specs.Counting.{count_kept, tally, AreAbove, pairs_of, pairs_in}
 use Rattle.verdict.specs.Final.{final_value, final_state}
 use Rattle.verdict.specs.Judgement.{IsJudged}
 use Rattle.verdict.specs.Kept.{kept, Flag, raised_names}
-use Rattle.verdict.specs.Meaning.{satisfies, places_of}
+use Rattle.verdict.specs.Meaning.{satisfies, observables_of}
 use Rattle.verdict.specs.Order.{state_cmp, is_state}
 use Rattle.verdict.specs.Shown.{AreShown}
 use Rattle.verdict.specs.Text.{state_text}
@@ -39,7 +39,7 @@ values_of states = map (λ s. s.values) states
 
 -- a state over these observables has its text, and the answer of a proposition over observables of
 -- a state
-abbrev pub IsWorded : List (List ℕ) → List ShownPlace → code.Formula → CountedState → Type 0
+abbrev pub IsWorded : List (List ℕ) → List Observable → code.Formula → CountedState → Type 0
 IsWorded locations shown f s =
     (s.text ≡ state_text locations shown s.values) × (s.holds ≡ value_of s.values f)
 
@@ -48,10 +48,10 @@ IsWorded locations shown f s =
 pub record AreEndStates (locations : List (List ℕ)) (executions : List Shown)
     (proposition : Formula) (observed : List Place) (keep : List Bool) (states : List CountedState)
     : Type 0 where
-  pub shown : List ShownPlace
+  pub shown : List Observable
   pub compiled : code.Formula
   pub entries : List (Vec FinalValue Global × ℕ)
-  pub are_shown : AreShown locations (places_of proposition ++ observed) shown
+  pub are_shown : AreShown locations (observables_of proposition ++ observed) shown
   pub means : Compiles locations shown proposition compiled
   pub tallies : (v : List FinalValue)
       → tally entries v
@@ -63,17 +63,17 @@ pub record AreEndStates (locations : List (List ℕ)) (executions : List Shown)
 
 -- a state over these observables in which some of the executions end: its text, their number, and
 -- whether the proposition holds
-pub record IsStateOf (locations : List (List ℕ)) (proposition : Formula) (shown : List ShownPlace)
+pub record IsStateOf (locations : List (List ℕ)) (proposition : Formula) (shown : List Observable)
     (candidates : List (ℕ × Shown)) (s : CountedState) : Type 0 where
   pub text : s.text ≡ state_text locations shown s.values
   pub count : s.count ≡ number_that (λ x. is_state s.values (final_state shown x)) candidates
   pub above : 0 < s.count
-  pub holds : (content : ShownPlace → FinalValue) → s.values ≡ map content shown
+  pub holds : (content : Observable → FinalValue) → s.values ≡ map content shown
       → s.holds ≡ satisfies locations content proposition
 
 -- the evaluation says this of these executions over these observables
 pub record Says (locations : List (List ℕ)) (kind : Quantifier) (proposition : Formula)
-    (shown : List ShownPlace) (candidates : List (ℕ × Shown)) (flags : List Flag) (e : Evaluation)
+    (shown : List Observable) (candidates : List (ℕ × Shown)) (flags : List Flag) (e : Evaluation)
     : Type 0 where
   pub rising : IsStrictlySortedBy state_cmp (values_of e.states)
   pub states : All (IsStateOf locations proposition shown candidates) e.states
@@ -89,7 +89,7 @@ pub record Says (locations : List (List ℕ)) (kind : Quantifier) (proposition :
 abbrev pub IsEvaluation : List (List ℕ) → List Shown → Quantifier → Formula → List Place
     → List (List Bool) → List Flag → Evaluation → Type 0
 IsEvaluation locations executions kind proposition observed checks flags e =
-    (shown : List ShownPlace) × AreShown locations (places_of proposition ++ observed) shown
+    (shown : List Observable) × AreShown locations (observables_of proposition ++ observed) shown
     × Says locations kind proposition shown (kept checks executions) flags e
 
 abbrev pub IsEvaluatedAs : (Evaluation → Type 0) → OutcomeResult → Type 0

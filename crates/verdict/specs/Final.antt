@@ -10,8 +10,8 @@ use Rattle.thread_runs.specs.declared.value.Value.{Value}
 use Rattle.thread_runs.specs.declared.value.Value.TheVariants as run_values
 use Rattle.verdict.specs.declared.answer.FinalValue.{FinalValue}
 use Rattle.verdict.specs.declared.answer.FinalValue.TheVariants as values
-use Rattle.verdict.specs.declared.shown_place.ShownPlace.{ShownPlace}
-use Rattle.verdict.specs.declared.shown_place.ShownPlace.TheVariants as shown
+use Rattle.verdict.specs.declared.observable.Observable.{Observable}
+use Rattle.verdict.specs.declared.observable.Observable.TheVariants as shown
 
 -- a value as states have it: numbers are signed
 abbrev pub value_shown : Value → FinalValue
@@ -28,8 +28,8 @@ final_register e thread register =
 
 -- what an action stores at a location, if it stores there
 abbrev pub value_stored_by : ℕ → Action → Option Value
-value_stored_by location (actions.Write to value) = if to == location then Some value else None
-value_stored_by location (actions.Read from value) = None
+value_stored_by location (actions.Store to value) = if to == location then Some value else None
+value_stored_by location (actions.Load from value) = None
 value_stored_by location (actions.Fence f) = None
 
 -- what an event stores at a location, if it stores there
@@ -45,13 +45,13 @@ last_or d (x ∷ xs) = last_or x xs
 -- what a location holds at the end: what the last store at it stores, in coherence order
 abbrev pub final_word : Shown → ℕ → Value
 final_word e location =
-    last_or run_values.NoValue (filter_map (value_stored_at e.events location) e.order)
+    last_or run_values.NoValue (filter_map (value_stored_at e.events location) e.coherence)
 
 -- what an observable holds at the end
-abbrev pub final_value : Shown → ShownPlace → FinalValue
+abbrev pub final_value : Shown → Observable → FinalValue
 final_value e (shown.Register thread register) = value_shown (final_register e thread register)
 final_value e (shown.Location location) = value_shown (final_word e location)
 
 -- the state over these observables in which an execution ends
-abbrev pub final_state : List ShownPlace → Shown → List FinalValue
-final_state places e = map (final_value e) places
+abbrev pub final_state : List Observable → Shown → List FinalValue
+final_state observables e = map (final_value e) observables

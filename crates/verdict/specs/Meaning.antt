@@ -12,17 +12,17 @@ use Rattle.text_values.specs.TestValue.{Formula, Constant, Holds, Not, Join}
 use Rattle.verdict.specs.Names.{is_name}
 use Rattle.verdict.specs.declared.answer.FinalValue.{FinalValue}
 use Rattle.verdict.specs.declared.answer.FinalValue.TheVariants as values
-use Rattle.verdict.specs.declared.shown_place.ShownPlace.{ShownPlace}
-use Rattle.verdict.specs.declared.shown_place.ShownPlace.TheVariants as shown
+use Rattle.verdict.specs.declared.observable.Observable.{Observable}
+use Rattle.verdict.specs.declared.observable.Observable.TheVariants as shown
 
 -- the index of a name among the locations of a test
 abbrev pub location_of : List (List ℕ) → List ℕ → Option ℕ
 location_of locations name = position (is_name name) locations
 
 -- an observable that a test writes, where its location is one of the test
-abbrev pub known_place : List (List ℕ) → Place → Option ShownPlace
-known_place locations (places.Register thread register) = Some (shown.Register thread register)
-known_place locations (places.Location name) =
+abbrev pub known_observable : List (List ℕ) → Place → Option Observable
+known_observable locations (places.Register thread register) = Some (shown.Register thread register)
+known_observable locations (places.Location name) =
     option_map shown.Location (location_of locations name)
 
 -- a value that a test writes, where its location is one of the test
@@ -42,9 +42,9 @@ is_value values.NoValue (values.Number n) = false
 is_value values.NoValue (values.Address l) = false
 
 -- whether a known observable holds a known value: nothing holds of others
-abbrev pub is_held : (ShownPlace → FinalValue) → Option ShownPlace → Option FinalValue → Bool
-is_held content (Some place) (Some value) = is_value (content place) value
-is_held content (Some place) None = false
+abbrev pub is_held : (Observable → FinalValue) → Option Observable → Option FinalValue → Bool
+is_held content (Some observable) (Some value) = is_value (content observable) value
+is_held content (Some observable) None = false
 is_held content None value = false
 
 abbrev pub joined_by : Connective → Bool → Bool → Bool
@@ -53,17 +53,17 @@ joined_by Or a b = a || b
 joined_by Implies a b = not a || b
 
 -- whether a proposition is true where the observables hold this
-abbrev pub satisfies : List (List ℕ) → (ShownPlace → FinalValue) → Formula → Bool
+abbrev pub satisfies : List (List ℕ) → (Observable → FinalValue) → Formula → Bool
 satisfies locations content (Constant b) = b
-satisfies locations content (Holds place value) =
-    is_held content (known_place locations place) (known_value locations value)
+satisfies locations content (Holds observable value) =
+    is_held content (known_observable locations observable) (known_value locations value)
 satisfies locations content (Not a) = not (satisfies locations content a)
 satisfies locations content (Join op a b) =
     joined_by op (satisfies locations content a) (satisfies locations content b)
 
 -- the observables of a proposition
-abbrev pub places_of : Formula → List Place
-places_of (Constant b) = []
-places_of (Holds place value) = place ∷ []
-places_of (Not a) = places_of a
-places_of (Join op a b) = places_of a ++ places_of b
+abbrev pub observables_of : Formula → List Place
+observables_of (Constant b) = []
+observables_of (Holds observable value) = observable ∷ []
+observables_of (Not a) = observables_of a
+observables_of (Join op a b) = observables_of a ++ observables_of b

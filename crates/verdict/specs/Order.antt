@@ -6,16 +6,16 @@ use Rattle.std.specs.declared.cmp.Ordering.{Ordering}
 use Rattle.std.specs.declared.cmp.Ordering.TheVariants.{Less, Equal, Greater}
 use Rattle.verdict.specs.declared.answer.FinalValue.{FinalValue}
 use Rattle.verdict.specs.declared.answer.FinalValue.TheVariants.{Number, Address, NoValue}
-use Rattle.verdict.specs.declared.shown_place.ShownPlace.{ShownPlace}
-use Rattle.verdict.specs.declared.shown_place.ShownPlace.TheVariants.{Register, Location}
+use Rattle.verdict.specs.declared.observable.Observable.{Observable}
+use Rattle.verdict.specs.declared.observable.Observable.TheVariants.{Register, Location}
 
 -- registers by thread and number, then locations
-abbrev pub place_cmp : ShownPlace → ShownPlace → Ordering
-place_cmp (Register thread register) (Register thread' register') =
+abbrev pub observable_cmp : Observable → Observable → Ordering
+observable_cmp (Register thread register) (Register thread' register') =
     ordering_then (nat_cmp thread thread') (nat_cmp register register')
-place_cmp (Register thread register) (Location location) = Less
-place_cmp (Location location) (Register thread register) = Greater
-place_cmp (Location location) (Location location') = nat_cmp location location'
+observable_cmp (Register thread register) (Location location) = Less
+observable_cmp (Location location) (Register thread register) = Greater
+observable_cmp (Location location) (Location location') = nat_cmp location location'
 
 -- numbers, then addresses, then what has no value
 abbrev pub value_cmp : FinalValue → FinalValue → Ordering
@@ -33,8 +33,8 @@ value_cmp NoValue NoValue = Equal
 abbrev pub state_cmp : List FinalValue → List FinalValue → Ordering
 state_cmp = slice_cmp value_cmp
 
-abbrev pub is_place : ShownPlace → ShownPlace → Bool
-is_place p q = is_eq (place_cmp p q)
+abbrev pub is_observable : Observable → Observable → Bool
+is_observable p q = is_eq (observable_cmp p q)
 
 abbrev pub is_state : List FinalValue → List FinalValue → Bool
 is_state v w = is_eq (state_cmp v w)

@@ -6,14 +6,14 @@ ghost use Rattle.candidates.specs.Space.{shown_in};
 ghost use Rattle.verdict.specs.Counting.{count_kept, count_column, tally, AreAbove, Counts, Raises};
 ghost use Rattle.verdict.specs.Kept.{holds_at};
 ghost use Rattle.verdict.specs.Final as shown;
-ghost use Rattle.verdict.specs.Final.{value_shown};
-ghost use Rattle.verdict.specs.Ends.{final_register, stored_at, final_word, final_value};
+ghost use Rattle.verdict.specs.Final.{value_shown, value_stored_at};
+ghost use Rattle.verdict.specs.Ends.{final_register, final_word, final_value};
 ghost use Rattle.verdict.specs.Order.{is_state};
 ghost use Rattle.verdict.specs.declared.answer.FinalValue.{FinalValue};
 
 use crate::answer::FinalValue;
-use crate::shown_place::ShownPlace;
-use candidates::{Action, Combination, Space};
+use crate::observable::Observable;
+use candidates::{Action, Combination, Event, Space};
 use ppc_semantics::Value;
 use std::alloc::{AllocError, Global};
 use std::collections::BTreeMap;
@@ -57,29 +57,29 @@ fn final_register(space: &Space, combination: &Combination, thread: usize, regis
     }
 }
 
-// What the event stores at the location, if it stores there.
-fn stored_at(combination: &Combination, location: usize, event: u8) -> Option<Value>
-    ensures { result ≡ stored_at combination.now location event }
+/// What the event stores at the location, if it stores there.
+pub fn value_stored_at(events: &[Event], location: usize, event: u8) -> Option<Value>
+    ensures { result ≡ value_stored_at events.now location event }
 {
-    let event = combination.events.get(usize::from(event))?;
+    let event = events.get(usize::from(event))?;
     match event.action {
-        Action::Write {
+        Action::Store {
             location: to,
             value,
         } => { if to == location { Some(value) } else { None } }
-        Action::Read { .. } => None,
+        Action::Load { .. } => None,
         Action::Fence(_) => None,
     }
 }
 
 // What the location holds after the stores in this order: what the last of them at it stores.
-fn final_word(combination: &Combination, order: &[u8], location: usize) -> Value
-    ensures { result ≡ final_word combination.now order.now location }
+fn final_word(combination: &Combination, coherence: &[u8], location: usize) -> Value
+    ensures { result ≡ final_word combination.now coherence.now location }
 {
-    let mut index = order.len();
+    let mut index = coherence.len();
     'stores: while 0 < index {
         index -= 1;
-        if let Some(value) = stored_at(combination, location, order[index]) {
+        if let Some(value) = value_stored_at(&combination.events, location, coherence[index]) {
             return value;
         }
     }
@@ -90,16 +90,16 @@ fn final_word(combination: &Combination, order: &[u8], location: usize) -> Value
 fn held_value(
     space: &Space,
     combination: &Combination,
-    order: &[u8],
-    place: ShownPlace,
+    coherence: &[u8],
+    observable: Observable,
 ) -> FinalValue
-    ensures { result ≡ final_value space.now combination.now order.now place }
+    ensures { result ≡ final_value space.now combination.now coherence.now observable }
 {
-    match place {
-        ShownPlace::Register(thread, register) => {
+    match observable {
+        Observable::Register(thread, register) => {
             value_shown(final_register(space, combination, thread, register))
         }
-        ShownPlace::Location(location) => value_shown(final_word(combination, order, location)),
+        Observable::Location(location) => value_shown(final_word(combination, coherence, location)),
     }
 }
 
@@ -107,16 +107,16 @@ fn held_value(
 fn write_state(
     space: &Space,
     combination: &Combination,
-    order: &[u8],
-    places: &[ShownPlace],
+    coherence: &[u8],
+    observables: &[Observable],
     state: &mut Vec<FinalValue>,
 ) -> Result<(), AllocError>
     ensures { OnOk result (state.new.items
-        ≡ map (final_value space.now combination.now order.now) places.now) }
+        ≡ map (final_value space.now combination.now coherence.now) observables.now) }
 {
     state.clear();
-    for place in places {
-        state.push(held_value(space, combination, order, *place))?;
+    for observable in observables {
+        state.push(held_value(space, combination, coherence, *observable))?;
     }
     Ok(())
 }
@@ -141,13 +141,13 @@ fn kept_from(kept: &[bool], index: usize) -> &[bool]
 }
 
 // How many candidates of a combination with this order are kept, where `kept` begins with those of
-// the combination: a row of its orders for each way to read.
-fn kept_with_order(kept: &[bool], ways: usize, orders: usize, order: usize) -> u64
-    ensures { result ≡ count_column ways orders order kept.now }
+// the combination: a row of its orders for each read choice.
+fn kept_with_order(kept: &[bool], read_choices: usize, orders: usize, order: usize) -> u64
+    ensures { result ≡ count_column read_choices orders order kept.now }
 {
     let mut count = 0u64;
     let mut rest = kept;
-    for _way in 0..ways {
+    for _reads_from in 0..read_choices {
         if is_kept_at(rest, order) {
             count += 1;
         }
@@ -191,20 +191,20 @@ fn count_order(
     alloc: Global,
     space: &Space,
     combination: &Combination,
-    order: &[u8],
-    places: &[ShownPlace],
+    coherence: &[u8],
+    observables: &[Observable],
     found: u64,
     tally: &mut Tally,
 ) -> Result<(), AllocError>
     ensures { OnOk result (Counts tally.old.counts.entries tally.new.counts.entries
-        (λ v. if is_state v (map (final_value space.now combination.now order.now)
-        places.now) then found
+        (λ v. if is_state v (map (final_value space.now combination.now coherence.now)
+        observables.now) then found
         else 0)) }
 {
     if found == 0 {
         return Ok(());
     }
-    write_state(space, combination, order, places, &mut tally.state)?;
+    write_state(space, combination, coherence, observables, &mut tally.state)?;
     add_count(alloc, &mut tally.counts, &tally.state, found)
 }
 
@@ -214,20 +214,28 @@ fn count_combination(
     space: &Space,
     combination: &Combination,
     kept: &[bool],
-    places: &[ShownPlace],
+    observables: &[Observable],
     tally: &mut Tally,
 ) -> Result<(), AllocError>
     ensures { OnOk result (Counts tally.old.counts.entries tally.new.counts.entries
         (λ v. count_kept
-        (λ t. is_state v (map (final_value space.now combination.now t.1) places.now))
+        (λ t. is_state v (map (final_value space.now combination.now t.1) observables.now))
         kept.now (candidates_of combination.now))) }
 {
-    let ways = combination.sources.len();
+    let read_choices = combination.reads_from.len();
     let orders = combination.orders.len();
     for k in 0..orders {
-        let order = combination.orders.order(k);
-        let found = kept_with_order(kept, ways, orders, k);
-        count_order(alloc, space, combination, order, places, found, tally)?;
+        let coherence = combination.orders.order(k);
+        let found = kept_with_order(kept, read_choices, orders, k);
+        count_order(
+            alloc,
+            space,
+            combination,
+            coherence,
+            observables,
+            found,
+            tally,
+        )?;
     }
     Ok(())
 }
@@ -245,23 +253,23 @@ pub fn final_states(
     alloc: Global,
     space: &Space,
     kept: &[bool],
-    places: &[ShownPlace],
+    observables: &[Observable],
 ) -> Result<StateCounts, AllocError>
     ensures above { IfOk result (λ t. AreAbove t.entries) }
     ensures tally { IfOk result (λ t. (v : List FinalValue)
         → tally t.entries v
         ≡ min
-        (count_kept (λ e. is_state v (shown.final_state places.now e)) kept.now
+        (count_kept (λ e. is_state v (shown.final_state observables.now e)) kept.now
         (shown_in space.now))
         (2 ^ 64 - 1)) }
 {
     let mut tally = Tally {
         counts: BTreeMap::new(alloc),
-        state: Vec::with_capacity(alloc, places.len())?,
+        state: Vec::with_capacity(alloc, observables.len())?,
     };
     let mut rest = kept;
     for combination in &space.combinations {
-        count_combination(alloc, space, combination, rest, places, &mut tally)?;
+        count_combination(alloc, space, combination, rest, observables, &mut tally)?;
         rest = kept_after(rest, combination);
     }
     Ok(tally.counts)

@@ -5,10 +5,10 @@ ghost use Rattle.text_values.specs.TestValue as text;
 ghost use Rattle.text_values.specs.TestValue.{formula_of};
 ghost use Rattle.verdict.specs.Compiled.{value_of, Compiles};
 ghost use Rattle.verdict.specs.Meaning.{known_value};
-ghost use Rattle.verdict.specs.Order.{is_place};
+ghost use Rattle.verdict.specs.Order.{is_observable};
 
 use crate::answer::FinalValue;
-use crate::shown_place::{ShownPlace, location_of, shown_place};
+use crate::observable::{Observable, known_observable, location_of};
 use std::alloc::{AllocError, Global};
 use text_values::{Connective, Name, Place, Proposition, Value};
 
@@ -40,27 +40,32 @@ pub fn known_value(locations: &[Name], value: &Value) -> Option<FinalValue>
 }
 
 // The number of an observable among those that are shown.
-fn place_number(places: &[ShownPlace], place: ShownPlace) -> Option<usize>
-    ensures { result ≡ position (is_place place) places.now }
+fn observable_number(observables: &[Observable], observable: Observable) -> Option<usize>
+    ensures { result ≡ position (is_observable observable) observables.now }
 {
-    for (i, shown) in places.iter().enumerate() {
-        if place == *shown {
+    for (i, shown) in observables.iter().enumerate() {
+        if observable == *shown {
             return Some(i);
         }
     }
     None
 }
 
-fn atom(places: &[ShownPlace], locations: &[Name], place: &Place, value: &Value) -> Formula
-    ensures { Compiles locations.now places.now (text.Holds place.now value.now) result }
+fn atom(
+    observables: &[Observable],
+    locations: &[Name],
+    observable: &Place,
+    value: &Value,
+) -> Formula
+    ensures { Compiles locations.now observables.now (text.Holds observable.now value.now) result }
 {
-    let Some(shown) = shown_place(locations, place) else {
+    let Some(shown) = known_observable(locations, observable) else {
         return Formula::Constant(false);
     };
     let Some(value) = known_value(locations, value) else {
         return Formula::Constant(false);
     };
-    match place_number(places, shown) {
+    match observable_number(observables, shown) {
         Some(number) => Formula::Holds(number, value),
         None => Formula::Constant(false),
     }
@@ -69,22 +74,28 @@ fn atom(places: &[ShownPlace], locations: &[Name], place: &Place, value: &Value)
 /// The proposition over states of these observables. Errors: out of memory.
 pub fn formula_over(
     alloc: Global,
-    places: &[ShownPlace],
+    observables: &[Observable],
     locations: &[Name],
     proposition: &Proposition,
 ) -> Result<Formula, AllocError>
-    ensures { IfOk result (λ f. Compiles locations.now places.now (formula_of proposition.now) f) }
+    ensures { IfOk result (λ f.
+        Compiles locations.now observables.now (formula_of proposition.now) f) }
 {
     match proposition {
         Proposition::Constant(value) => Ok(Formula::Constant(*value)),
-        Proposition::Holds(place, value) => Ok(atom(places, locations, place, value)),
+        Proposition::Holds(observable, value) => Ok(atom(
+            observables,
+            locations,
+            observable,
+            value,
+        )),
         Proposition::Not(negated) => {
-            let negated = formula_over(alloc, places, locations, negated)?;
+            let negated = formula_over(alloc, observables, locations, negated)?;
             Ok(Formula::Not(Box::new(alloc, negated)?))
         }
         Proposition::Joined(connective, left, right) => {
-            let left = Box::new(alloc, formula_over(alloc, places, locations, left)?)?;
-            let right = Box::new(alloc, formula_over(alloc, places, locations, right)?)?;
+            let left = Box::new(alloc, formula_over(alloc, observables, locations, left)?)?;
+            let right = Box::new(alloc, formula_over(alloc, observables, locations, right)?)?;
             Ok(Formula::Joined(*connective, left, right))
         }
     }

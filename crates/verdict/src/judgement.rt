@@ -15,7 +15,7 @@ ghost use Rattle.verdict.specs.Judgement.{is_same, total_of, observation_of, is_
 use crate::answer::{CountedState, Evaluation, Observation, Outcome, OutcomeResult};
 use crate::final_states::{StateCounts, final_states};
 use crate::formula::{Formula, formula_over, satisfies};
-use crate::shown_place::{ShownPlace, shown_places};
+use crate::observable::{Observable, shown_observables};
 use crate::state_text::state_text;
 use candidates::Space;
 use litmus_printing::print_condition;
@@ -104,17 +104,18 @@ fn raised_names(alloc: Global, kept: &[bool], flags: &[Raised]) -> Result<Vec<Na
 fn counted_states(
     alloc: Global,
     locations: &[Name],
-    places: &[ShownPlace],
+    observables: &[Observable],
     formula: &Formula,
     counts: StateCounts,
 ) -> Result<Vec<CountedState>, AllocError>
     ensures counts { IfOk result (λ v. pairs_of v.items ≡ pairs_in counts.entries) }
-    ensures words { IfOk result (λ v. All (IsWorded locations.now places.now formula.now) v.items) }
+    ensures words { IfOk result (λ v.
+        All (IsWorded locations.now observables.now formula.now) v.items) }
     ensures rising { IfOk result (λ v. IsStrictlySortedBy state_cmp (values_of v.items)) }
 {
     let mut states = Vec::new(alloc);
     for (values, count) in counts {
-        let text = state_text(alloc, locations, places, &values)?;
+        let text = state_text(alloc, locations, observables, &values)?;
         let holds = satisfies(formula, &values);
         states.push(CountedState {
             values,
@@ -173,10 +174,15 @@ fn end_states(
     ensures { IfOk result (λ v. AreEndStates space.now.locations.items (shown_in space.now)
         (formula_of condition.now.proposition) observed.now kept.now v.items) }
 {
-    let places = shown_places(alloc, &space.locations, &condition.proposition, observed)?;
-    let formula = formula_over(alloc, &places, &space.locations, &condition.proposition)?;
-    let counts = final_states(alloc, space, kept, &places)?;
-    let states = counted_states(alloc, &space.locations, &places, &formula, counts)?;
+    let observables = shown_observables(alloc, &space.locations, &condition.proposition, observed)?;
+    let formula = formula_over(
+        alloc,
+        &observables,
+        &space.locations,
+        &condition.proposition,
+    )?;
+    let counts = final_states(alloc, space, kept, &observables)?;
+    let states = counted_states(alloc, &space.locations, &observables, &formula, counts)?;
     Ok(states)
 }
 

@@ -8,15 +8,15 @@ mod final_states;
 mod formula;
 mod judgement;
 pub mod laws;
+mod observable;
 mod same;
-mod shown_place;
 mod state_text;
 
 pub use answer::{
     CountedState, Evaluation, FinalValue, Observation, Outcome, OutcomeResult, Refusal,
 };
-pub use final_states::value_shown;
+pub use final_states::{value_shown, value_stored_at};
 pub use formula::known_value;
 pub use judgement::{Raised, outcome, outcome_kept};
-pub use shown_place::{ShownPlace, location_of};
+pub use observable::{Observable, location_of};
 pub use state_text::put_location;

@@ -6,7 +6,7 @@ ghost use Rattle.text_values.specs.Joined.{separation};
 ghost use Rattle.verdict.specs.Text.{name_at, place_of, value_text, held_text, state_text};
 
 use crate::answer::FinalValue;
-use crate::shown_place::ShownPlace;
+use crate::observable::Observable;
 use litmus_printing::put_value;
 use std::alloc::{AllocError, Global};
 use text_values::{Name, Value, put_bytes, put_decimal};
@@ -26,17 +26,21 @@ pub fn put_location(
     }
 }
 
-fn put_shown(text: &mut Vec<u8>, locations: &[Name], place: ShownPlace) -> Result<(), AllocError>
+fn put_shown(
+    text: &mut Vec<u8>,
+    locations: &[Name],
+    observable: Observable,
+) -> Result<(), AllocError>
     ensures { OnOk result (text.new.items
-        ≡ text.old.items ++ place_text (place_of locations.now place)) }
+        ≡ text.old.items ++ place_text (place_of locations.now observable)) }
 {
-    match place {
-        ShownPlace::Register(thread, register) => {
+    match observable {
+        Observable::Register(thread, register) => {
             put_decimal(text, thread as u64)?;
             put_bytes(text, b":r")?;
             put_decimal(text, u64::from(register))
         }
-        ShownPlace::Location(location) => {
+        Observable::Location(location) => {
             put_bytes(text, b"[")?;
             put_location(text, locations, location)?;
             put_bytes(text, b"]")
@@ -59,17 +63,17 @@ fn put_held(
     text: &mut Vec<u8>,
     locations: &[Name],
     number: usize,
-    place: ShownPlace,
+    observable: Observable,
     value: FinalValue,
 ) -> Result<(), AllocError>
     ensures { OnOk result (text.new.items
         ≡ text.old.items
-        ++ (separation (codes " ") number ++ held_text locations.now place value)) }
+        ++ (separation (codes " ") number ++ held_text locations.now observable value)) }
 {
     if number > 0 {
         put_bytes(text, b" ")?;
     }
-    put_shown(text, locations, place)?;
+    put_shown(text, locations, observable)?;
     put_bytes(text, b"=")?;
     put_final(text, locations, value)?;
     put_bytes(text, b";")
@@ -79,15 +83,15 @@ fn put_held(
 pub fn state_text(
     alloc: Global,
     locations: &[Name],
-    places: &[ShownPlace],
+    observables: &[Observable],
     values: &[FinalValue],
 ) -> Result<Vec<u8>, AllocError>
-    ensures { IfOk result (λ v. v.items ≡ state_text locations.now places.now values.now) }
+    ensures { IfOk result (λ v. v.items ≡ state_text locations.now observables.now values.now) }
 {
     let mut text = Vec::new(alloc);
-    for (i, place) in places.iter().enumerate() {
+    for (i, observable) in observables.iter().enumerate() {
         if let Some(value) = values.get(i) {
-            put_held(&mut text, locations, i, *place, *value)?;
+            put_held(&mut text, locations, i, *observable, *value)?;
         }
     }
     Ok(text)

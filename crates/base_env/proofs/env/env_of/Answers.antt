@@ -4,7 +4,7 @@ use Rattle.text_values.specs.declared.predefined.Predefined.TheVariants as names
 use Rattle.base_env.proofs.env.env_of.Goals as goal
 
 pub returns : goal.returns
-returns c = λ k sources order entered reading ordered sets relations. record {
+returns c = λ k reads_from coherence entered reading ordered sets relations. record {
   all_set =
       subst (λ (m : ℕ). IsEvents c.all.result m (λ a. a < m)) c.count.ensures.value c.all.ensures;
   r_set = c.set.ensures.meant k entered (sets names.Loads refl);
@@ -17,69 +17,69 @@ returns c = λ k sources order entered reading ordered sets relations. record {
   eieio_set = c.set-8.ensures.meant k entered (sets names.EieioFences refl);
   isync_set = c.set-9.ensures.meant k entered (sets names.IsyncFences refl);
   id_rel =
-      c.relation.ensures k sources order entered reading ordered (relations names.Identity refl);
+      c.relation.ensures k reads_from coherence entered reading ordered (relations names.Identity refl);
   po_rel =
-      c.relation-2.ensures k sources order entered reading ordered
+      c.relation-2.ensures k reads_from coherence entered reading ordered
       (relations names.ProgramOrder refl);
   loc_rel =
-      c.relation-3.ensures k sources order entered reading ordered
+      c.relation-3.ensures k reads_from coherence entered reading ordered
       (relations names.SameLocation refl);
   po_loc_rel =
-      c.relation-4.ensures k sources order entered reading ordered
+      c.relation-4.ensures k reads_from coherence entered reading ordered
       (relations names.ProgramOrderSameLocation refl);
   int_rel =
-      c.relation-5.ensures k sources order entered reading ordered (relations names.Internal refl);
+      c.relation-5.ensures k reads_from coherence entered reading ordered (relations names.Internal refl);
   ext_rel =
-      c.relation-6.ensures k sources order entered reading ordered (relations names.External refl);
+      c.relation-6.ensures k reads_from coherence entered reading ordered (relations names.External refl);
   rf_rel =
-      c.relation-7.ensures k sources order entered reading ordered (relations names.ReadsFrom refl);
+      c.relation-7.ensures k reads_from coherence entered reading ordered (relations names.ReadsFrom refl);
   co_rel =
-      c.relation-8.ensures k sources order entered reading ordered (relations names.Coherence refl);
+      c.relation-8.ensures k reads_from coherence entered reading ordered (relations names.Coherence refl);
   fr_rel =
-      c.relation-9.ensures k sources order entered reading ordered (relations names.FromReads refl);
+      c.relation-9.ensures k reads_from coherence entered reading ordered (relations names.FromReads refl);
   rfe_rel =
-      c.relation-10.ensures k sources order entered reading ordered
+      c.relation-10.ensures k reads_from coherence entered reading ordered
       (relations names.ReadsFromExternal refl);
   rfi_rel =
-      c.relation-11.ensures k sources order entered reading ordered
+      c.relation-11.ensures k reads_from coherence entered reading ordered
       (relations names.ReadsFromInternal refl);
   coe_rel =
-      c.relation-12.ensures k sources order entered reading ordered
+      c.relation-12.ensures k reads_from coherence entered reading ordered
       (relations names.CoherenceExternal refl);
   coi_rel =
-      c.relation-13.ensures k sources order entered reading ordered
+      c.relation-13.ensures k reads_from coherence entered reading ordered
       (relations names.CoherenceInternal refl);
   fre_rel =
-      c.relation-14.ensures k sources order entered reading ordered
+      c.relation-14.ensures k reads_from coherence entered reading ordered
       (relations names.FromReadsExternal refl);
   fri_rel =
-      c.relation-15.ensures k sources order entered reading ordered
+      c.relation-15.ensures k reads_from coherence entered reading ordered
       (relations names.FromReadsInternal refl);
   com_rel =
-      c.relation-16.ensures k sources order entered reading ordered
+      c.relation-16.ensures k reads_from coherence entered reading ordered
       (relations names.Communication refl);
   addr_rel =
-      c.relation-17.ensures k sources order entered reading ordered
+      c.relation-17.ensures k reads_from coherence entered reading ordered
       (relations names.AddressDependency refl);
   data_rel =
-      c.relation-18.ensures k sources order entered reading ordered
+      c.relation-18.ensures k reads_from coherence entered reading ordered
       (relations names.DataDependency refl);
   ctrl_rel =
-      c.relation-19.ensures k sources order entered reading ordered
+      c.relation-19.ensures k reads_from coherence entered reading ordered
       (relations names.ControlDependency refl);
   ctrlisync_rel =
-      c.relation-20.ensures k sources order entered reading ordered
+      c.relation-20.ensures k reads_from coherence entered reading ordered
       (relations names.ControlIsyncDependency refl);
   sync_rel =
-      c.relation-21.ensures k sources order entered reading ordered
+      c.relation-21.ensures k reads_from coherence entered reading ordered
       (relations names.SyncOrder refl);
   lwsync_rel =
-      c.relation-22.ensures k sources order entered reading ordered
+      c.relation-22.ensures k reads_from coherence entered reading ordered
       (relations names.LwsyncOrder refl);
   eieio_rel =
-      c.relation-23.ensures k sources order entered reading ordered
+      c.relation-23.ensures k reads_from coherence entered reading ordered
       (relations names.EieioOrder refl);
   isync_rel =
-      c.relation-24.ensures k sources order entered reading ordered
+      c.relation-24.ensures k reads_from coherence entered reading ordered
       (relations names.IsyncOrder refl);
 }

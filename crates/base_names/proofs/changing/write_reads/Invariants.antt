@@ -6,4 +6,4 @@ use Rattle.base_names.proofs.changing.write_reads.Given as goal
 abbrev pub invariant-loop-load : goal.invariant-loop-load
 invariant-loop-load l =
     (l.next ≡ loads_in (take l.load l.events)) × (l.next ≤ l.load)
-    × IsRelation l.target l.count (Below l.count (ReadsFromBelow l.events l.sources l.load))
+    × IsRelation l.target l.count (Below l.count (ReadsFromBelow l.events l.reads_from l.load))

@@ -34,10 +34,10 @@ inside_arguments-loop-index-preserved t c =
           let ps = c.args.sight.now.parameters.now in
           let names = reverse (map entry_of c.args.sight.now.entries.now) in
           let inner_is = c.either-inner.ensures ∙ ap (λ (b : Bool). c.args.under || b) (c.is_under.ensures ∙ kept_one.under i (omega (arith, lt, long))) in
-          let front = length-take i xs in
+          let prefix = length-take i xs in
           let few = kept_one.few in
           let part = subst (λ (b : Bool). IsBodyPart ss names ps c.args.columns.rows b (term_of e) c.in_ok-part.part) inner_is (one.part ss kept) in
-          let more = c.in_ok-body-2.ensures ss names ps c.args.columns.rows c.args.under s.is_under (take i xs) e (omega (arith, front, lt)) (omega (arith, lt, long, few)) part (m.body ss s kept kept_one long) in
+          let more = c.in_ok-body-2.ensures ss names ps c.args.columns.rows c.args.under s.is_under (take i xs) e (omega (arith, prefix, lt)) (omega (arith, lt, long, few)) part (m.body ss s kept kept_one long) in
           subst
           (λ (l : List Expression). AreBodyParts ss names ps c.args.columns.rows c.args.under
           s.is_under l c.in_ok-body-2.body)

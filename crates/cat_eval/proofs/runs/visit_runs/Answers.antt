@@ -21,22 +21,22 @@ loop-combination-preserved g c = λ given.
     let so_far = candidates_in (take index combinations) in
     let before = c.loop-combination.invariant given in
     let next = c.in_ok-visit_run.ensures c.args.visitor.now (seen_in named 0 so_far) before in
-    let many : length (candidates_of one) ≡ length one.sources.items * length one.orders = length-candidates one in
+    let many : length (candidates_of one) ≡ length one.reads_from.items * length one.orders = length-candidates one in
     let grown : candidates_in (take (index + 1) combinations) ≡ so_far ++ map (λ t. (one, t)) (candidates_of one) =
     flat_step {Y = Candidate} (λ x. map (λ t. (x, t)) (candidates_of x)) combinations index one
     (rw c.deref-combination-items.ensures.value at c.loop-combination-test.true)
     (rw c.deref-combination-items.ensures.value at c.combination-item.is) in
-    let seen_so : seen_in named 0 (candidates_in (take (index + 1) combinations)) ≡ seen_in named 0 so_far ++ seen_run named (length (seen_in named 0 so_far)) (length one.events.items) (length one.sources.items * length one.orders) =
+    let seen_so : seen_in named 0 (candidates_in (take (index + 1) combinations)) ≡ seen_in named 0 so_far ++ seen_run named (length (seen_in named 0 so_far)) (length one.events.items) (length one.reads_from.items * length one.orders) =
     ap (seen_in named 0) grown ∙ first_append named so_far (map (λ t. (one, t)) (candidates_of one))
     ∙ ap (λ (ks : List NamedValues). seen_in named 0 so_far ++ ks)
     (in_run named (length so_far) one (candidates_of one)
     ∙ ap (λ (m : ℕ). seen_run named (length so_far) (length one.events.items) m) many
     ∙ ap
     (λ (k : ℕ). seen_run named k (length one.events.items)
-    (length one.sources.items * length one.orders))
+    (length one.reads_from.items * length one.orders))
     (sym (in_long named 0 so_far))) in
     let events : c.len-count.result ≡ length one.events.items = omega (arith, c.len-count.ensures, one.events.ok.0) in
-    let product : c.in-Some.many ≡ length one.sources.items * length one.orders = search rules in
+    let product : c.in-Some.many ≡ length one.reads_from.items * length one.orders = search rules in
     rw (seen_so, ← events, ← product) next
 
 pub returns : goal.returns

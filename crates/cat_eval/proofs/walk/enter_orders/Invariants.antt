@@ -10,15 +10,15 @@ use Rattle.cat_eval.proofs.walk.enter_orders.Given as goal
 abbrev pub invariant-loop-index : goal.invariant-loop-index
 invariant-loop-index g l =
     IsBaseReady l.needs.names.items l.base l.combination
-    × ((sources : List ℕ) → HasReadsFrom l.initial.base l.combination sources
-    → HasReadsFrom l.base l.combination sources)
-    × ((sources : List ℕ) → (IsTrue l.needs.reads → HasReadsFrom l.initial.base l.combination sources)
+    × ((reads_from : List ℕ) → HasReadsFrom l.initial.base l.combination reads_from
+    → HasReadsFrom l.base l.combination reads_from)
+    × ((reads_from : List ℕ) → (IsTrue l.needs.reads → HasReadsFrom l.initial.base l.combination reads_from)
     → (first : _) (bases : List Known)
     → (IsTrue l.initial.again → EndsWith bases l.initial.base)
     → g.V.Enter.has_taken first bases l.initial.visitor
     → (more : List Known)
     × AreWorlds l.needs.names.items l.needs.reads l.needs.orders more
-    (reading_so l.combination sources (take l.index l.combination.orders))
+    (reading_so l.combination reads_from (take l.index l.combination.orders))
     × g.V.Enter.has_taken first (bases ++ more) l.visitor
     × (IsTrue l.again → EndsWith (bases ++ more) l.base))
     × (IsTrue l.needs.orders

@@ -25,7 +25,7 @@ loop-combination-preserved g c =
           let (bases, worlds, was, last) = before.3 given in
           let (new, here, now, at_end) = c.in_ok-again.ensures.worlds c.args.visitor.now bases (λ is. rw (c.go_to_combination-same.ensures.kept is).1 (last (c.go_to_combination-same.ensures.kept is).0)) was in (
             bases ++ new,
-            rw (flat_step (λ one. reading_in one one.sources.items) combinations
+            rw (flat_step (λ one. reading_in one one.reads_from.items) combinations
                 c.loop-combination.combination-index c.combination-item.result
                 (rw c.deref-combination-items.ensures.value at c.loop-combination-test.true)
                 (rw c.deref-combination-items.ensures.value at c.combination-item.is))

@@ -1,5 +1,5 @@
 use Rattle.std.proofs.Common.{◌+◌, ◌-◌, length, drop, take, min, ap, ◌∙◌, arith}
-use Rattle.litmus_tokens.specs.Lexer.{front}
+use Rattle.litmus_tokens.specs.Lexer.{first_lexeme}
 use Rattle.litmus_ppc.specs.TextReading.{state_of}
 use Rattle.litmus_ppc.proofs.Turns.{layout_run, lexeme_run, lexeme_fails, end_steps}
 use Rattle.litmus_ppc.proofs.read.read_tokens.Goals as goal
@@ -14,7 +14,7 @@ loop-offset-preserved-in-Ok-Layout c = record {
       ∙ ap (λ m. min m (length c.args.bytes.now - c.loop-offset.offset)) c.max.ensures))
       (c.in-Ok-Layout.ensures
       ∙ ap
-      (λ g. front g c.loop-offset.is_fresh (take
+      (λ g. first_lexeme g c.loop-offset.is_fresh (take
       (length c.args.bytes.now - c.loop-offset.offset)
       (drop c.loop-offset.offset c.args.bytes.now))) c.stage.ensures)
       c.in-Ok-Layout.field-0-is c.is_fresh_behind-is_fresh.ensures;
@@ -32,7 +32,7 @@ loop-offset-preserved c = record {
       c.max-in-Ok.ensures))
       (c.in-Ok-Lexeme.ensures
       ∙ ap
-      (λ g. front g c.loop-offset.is_fresh (take
+      (λ g. first_lexeme g c.loop-offset.is_fresh (take
       (length c.args.bytes.now - c.loop-offset.offset)
       (drop c.loop-offset.offset c.args.bytes.now))) c.stage.ensures)
       c.in-Ok-Lexeme.field-0-is c.is_line_end-is_fresh.ensures c.in-Ok.ensures;
@@ -45,7 +45,7 @@ returns-in-Err-step c =
     c.in-Err-step.fault (omega arith)
     (c.in-Ok-Lexeme.ensures
     ∙ ap
-    (λ g. front g c.loop-offset.is_fresh (take
+    (λ g. first_lexeme g c.loop-offset.is_fresh (take
     (length c.args.bytes.now - c.loop-offset.offset)
     (drop c.loop-offset.offset c.args.bytes.now))) c.stage.ensures)
     c.in-Ok-Lexeme.field-0-is c.in-Err-step.ensures

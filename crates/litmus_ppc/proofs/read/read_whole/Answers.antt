@@ -1,4 +1,4 @@
-use Rattle.litmus_ppc.proofs.Within.{fails_within_all}
+use Rattle.litmus_ppc.proofs.Bounds.{fails_within_all}
 use Rattle.litmus_ppc.proofs.read.read_whole.Goals as goal
 
 pub returns-clause-within : goal.returns-clause-within

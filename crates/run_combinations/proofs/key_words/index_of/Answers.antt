@@ -1,7 +1,7 @@
 use Rattle.std.proofs.Common.{◌≡◌, true, length, get_or, arith, rules, tests, sym}
 use Rattle.std.proofs.lemmas.List.Sums.{position_or_len_is}
 use Rattle.thread_runs.specs.declared.value.Value.{Value}
-use Rattle.run_combinations.specs.Ways.{same_value}
+use Rattle.run_combinations.specs.ReadChoices.{same_value}
 use Rattle.run_combinations.proofs.key_words.index_of.Goals as goal
 
 pub returns-then-is_same : goal.returns-then-is_same

@@ -1,6 +1,6 @@
 use Rattle.std.proofs.Common.{ℕ, ◌≡◌, ◌<◌, false, get_or}
 use Rattle.thread_runs.specs.declared.value.Value.{Value}
-use Rattle.run_combinations.specs.Ways.{same_value}
+use Rattle.run_combinations.specs.ReadChoices.{same_value}
 use Rattle.run_combinations.proofs.key_words.index_of.Given as goal
 
 abbrev pub invariant-loop-index : goal.invariant-loop-index

@@ -2,7 +2,7 @@ use Rattle.std.proofs.Common.{ℕ, List, Vec, ◌≡◌, take, length, arith, ap
 use Rattle.std.proofs.Math.Seq.{take-length}
 use Rattle.std.specs.declared.alloc.Global.{Global}
 use Rattle.thread_runs.specs.declared.run.Run.{Run}
-use Rattle.run_combinations.specs.Parts.{NamesRuns, AreBelow, HasWritesOf, IsMade, AreThreadParts}
+use Rattle.run_combinations.specs.Parts.{NamesRuns, AreBelow, HasStoresOf, IsMade, AreThreadParts}
 use Rattle.std.specs.List.{AllZip}
 use Rattle.run_combinations.specs.declared.part.Sketch.{Sketch}
 use Rattle.run_combinations.proofs.Parting.{each_length, named_at, threads_more}
@@ -30,8 +30,8 @@ loop-thread-preserved c =
     c.loop-thread.threads.items c.push.new.self.items c.index-runs-thread.result
     c.index-sketches-thread.result c.in_ok-thread_parts.field-0 (omega arith) (omega arith)
     c.index-runs-thread.is c.index-sketches-thread.is c.in_ok-push.ensures.items
-    (subst (λ (l : List Sketch). HasWritesOf c.in_ok-thread_parts.field-0.writes l)
-    c.deref-in-loop-thread.ensures.value c.in_ok-thread_parts.ensures.writes)
+    (subst (λ (l : List Sketch). HasStoresOf c.in_ok-thread_parts.field-0.stores l)
+    c.deref-in-loop-thread.ensures.value c.in_ok-thread_parts.ensures.stores)
     (subst
     (λ (l : List Run). AllZip (IsMade c.loop-thread.thread l)
     c.index-sketches-thread.result.items c.in_ok-thread_parts.field-0.parts.items)

@@ -1,7 +1,7 @@
 use Rattle.std.proofs.Common.{List, Vec, subst, sym}
 use Rattle.std.specs.declared.alloc.Global.{Global}
 use Rattle.thread_runs.specs.declared.value.Value.{Value}
-use Rattle.thread_runs.specs.Held.{AreLocationValues}
+use Rattle.thread_runs.specs.LocationValues.{AreLocationValues}
 use Rattle.run_combinations.proofs.layout.all_runs.Goals as goal
 
 pub served_runs-requires-clause-held : goal.served_runs-requires-clause-held

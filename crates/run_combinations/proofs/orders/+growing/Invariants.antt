@@ -1,7 +1,7 @@
 use Rattle.std.proofs.Common.{◌≡◌, ◌+◌, ◌-◌, ◌++◌, take}
 use Rattle.std.specs.List.{concat, flat_map}
-use Rattle.run_combinations.specs.Growing.{with_new_from, store_lists}
-use Rattle.run_combinations.proofs.Fronts.{weight, rows_on}
+use Rattle.run_combinations.specs.OrderPrefixes.{with_new_from, store_lists}
+use Rattle.run_combinations.proofs.OrderPrefixLaws.{weight, rows_on}
 use Rattle.run_combinations.proofs.orders.+growing.Given as goal
 
 abbrev pub decreases-add_orders : goal.decreases-add_orders
@@ -12,9 +12,9 @@ decreases-add_rows l = 1 + l.left + weight (store_lists l.later.now)
 
 abbrev pub invariant-add_rows-loop-store : goal.invariant-add_rows-loop-store
 invariant-add_rows-loop-store l = record {
-  front : l.front.items ≡ l.initial.front.items;
+  prefix : l.prefix.items ≡ l.initial.prefix.items;
   found : l.found.items
       ≡ l.initial.found.items
       ++ concat (flat_map (rows_on (store_lists l.later) l.others l.begin (l.left - 1))
-      (with_new_from l.begin (take l.store-index l.others) l.initial.front.items));
+      (with_new_from l.begin (take l.store-index l.others) l.initial.prefix.items));
 }

@@ -1,5 +1,5 @@
 use Rattle.std.proofs.Common.{◌≡◌, length, take}
-use Rattle.run_combinations.specs.Growing.{store_lists, all_stores}
+use Rattle.run_combinations.specs.OrderPrefixes.{store_lists, all_stores}
 use Rattle.run_combinations.proofs.orders.fill_all.Given as goal
 
 abbrev pub invariant-loop-location : goal.invariant-loop-location

@@ -1,5 +1,5 @@
 use Rattle.std.proofs.Common.{◌≡◌, ◌-◌, ◌^◌, min, take}
-use Rattle.run_combinations.specs.Growing.{store_lists, width_of}
+use Rattle.run_combinations.specs.OrderPrefixes.{store_lists, width_of}
 use Rattle.run_combinations.proofs.orders.width_of.Given as goal
 
 abbrev pub invariant-loop-location : goal.invariant-loop-location

@@ -4,29 +4,29 @@ use Rattle.run_combinations.specs.declared.combination.Action.{Action}
 use Rattle.run_combinations.proofs.Parting.{read_more, write_more, fence_more}
 use Rattle.run_combinations.proofs.part.add_keys.Goals as goal
 
-pub returns-in-Read : goal.returns-in-Read
-returns-in-Read c =
+pub returns-in-Load : goal.returns-in-Load
+returns-in-Load c =
     λ es thread k. subst
     (λ (a : Action). AreKeys (bit_of c.args.values.now)
     (es ++ record { thread = thread; action = a } ∷ []) c.insert_pair.new.self
-    c.args.writes.now)
-    (sym c.in-Read.is)
-    (read_more (bit_of c.args.values.now) es thread c.in-Read.location c.in-Read.value
-    c.args.reads.now c.insert_pair.new.self c.args.writes.now c.insert_pair.ensures k)
+    c.args.stores.now)
+    (sym c.in-Load.is)
+    (read_more (bit_of c.args.values.now) es thread c.in-Load.location c.in-Load.value
+    c.args.loads.now c.insert_pair.new.self c.args.stores.now c.insert_pair.ensures k)
 
-pub returns-in-Write : goal.returns-in-Write
-returns-in-Write c =
+pub returns-in-Store : goal.returns-in-Store
+returns-in-Store c =
     λ es thread k. subst
     (λ (a : Action). AreKeys (bit_of c.args.values.now)
-    (es ++ record { thread = thread; action = a } ∷ []) c.args.reads.now
-    c.insert_pair-in-Write.new.self)
-    (sym c.in-Write.is)
-    (write_more (bit_of c.args.values.now) es thread c.in-Write.location c.in-Write.value
-    c.args.reads.now c.args.writes.now c.insert_pair-in-Write.new.self
-    c.insert_pair-in-Write.ensures k)
+    (es ++ record { thread = thread; action = a } ∷ []) c.args.loads.now
+    c.insert_pair-in-Store.new.self)
+    (sym c.in-Store.is)
+    (write_more (bit_of c.args.values.now) es thread c.in-Store.location c.in-Store.value
+    c.args.loads.now c.args.stores.now c.insert_pair-in-Store.new.self
+    c.insert_pair-in-Store.ensures k)
 
 pub returns-in-Fence : goal.returns-in-Fence
 returns-in-Fence c =
     λ es thread k. fence_more (bit_of c.args.values.now) es
-    (record { thread = thread; action = c.args.action }) c.args.reads.now c.args.writes.now
+    (record { thread = thread; action = c.args.action }) c.args.loads.now c.args.stores.now
     (λ l v e. let f = c.in-Fence.is in absurd (cc)) k

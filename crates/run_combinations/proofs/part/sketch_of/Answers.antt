@@ -10,7 +10,7 @@ returns-clause-keys c = λ thread.
     let n : c.loop-event.event-index ≡ length c.events_in-event-items.result.now = omega arith in
     subst
     (λ (es : List run.Event). AreKeys (bit_of c.args.values.now) (thread_events thread es)
-    c.loop-event.reads c.loop-event.writes)
+    c.loop-event.loads c.loop-event.stores)
     (ap (λ (k : ℕ). take k c.events_in-event-items.result.now) n
     ∙ take-length c.events_in-event-items.result.now ∙ c.events_in-event-items.ensures)
     (c.loop-event.invariant thread)

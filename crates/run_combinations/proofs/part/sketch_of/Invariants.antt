@@ -6,5 +6,5 @@ use Rattle.run_combinations.proofs.part.sketch_of.Given as goal
 abbrev pub invariant-loop-event : goal.invariant-loop-event
 invariant-loop-event l =
     (thread : ℕ)
-    → AreKeys (bit_of l.values) (thread_events thread (take l.event-index l.event-items)) l.reads
-    l.writes
+    → AreKeys (bit_of l.values) (thread_events thread (take l.event-index l.event-items)) l.loads
+    l.stores

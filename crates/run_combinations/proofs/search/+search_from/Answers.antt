@@ -113,13 +113,13 @@ loop-run-preserved t c =
         found = λ key fk tk fit few.
             left_out key (min c.args.locations 128) c.args.prefix.now c.args.threads.now
             c.index-threads-0.result c.deref-part-items.result.now c.loop-run.run
-            c.part-item.result c.writes_of-later.result c.fits.result (tally c.args.found.now)
+            c.part-item.result c.stores_of-later.result c.fits.result (tally c.args.found.now)
             (tally c.loop-run.found)
             (let s : 0 < length c.args.threads.now = search (rules, tests) in s)
             c.index-threads-0.is c.deref-part-items.ensures.value (omega arith) c.part-item.is
-            fk tk c.writes_of-later.ensures w.if-fits.false
+            fk tk c.stores_of-later.ensures w.if-fits.false
             (told_back c.args.prefix.now c.loop-run.prefix c.part-item.result
-            c.writes_of-later.result c.fits.result c.loop-run.invariant.back c.fits.ensures)
+            c.stores_of-later.result c.fits.result c.loop-run.invariant.back c.fits.ensures)
             (c.loop-run.invariant.found key fk tk fit few);
         back = c.loop-run.invariant.back;
       })

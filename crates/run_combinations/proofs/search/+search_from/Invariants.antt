@@ -12,8 +12,8 @@ decreases-search_from l = length l.threads.now
 abbrev pub invariant-loop-run : goal.invariant-loop-run
 invariant-loop-run l = record {
   found : (key : ℕ → Value → Option (ℕ × ℕ))
-      → AreKeys key l.initial.prefix.runs.events.items l.initial.prefix.reads
-      l.initial.prefix.writes → ThreadsAreKeyed key l.threads
+      → AreKeys key l.initial.prefix.runs.events.items l.initial.prefix.loads
+      l.initial.prefix.stores → ThreadsAreKeyed key l.threads
       → AllPrefixesFit (min l.locations 128) (combinations (prefix_lists l.initial.prefix) l.threads)
       → l.initial.found.count ≤ 16384
       → TalliesAll (min l.locations 128)

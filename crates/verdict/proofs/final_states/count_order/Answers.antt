@@ -7,7 +7,7 @@ use Rattle.verdict.proofs.final_states.count_order.Goals as goal
 pub returns-then-found-eq0 : goal.returns-then-found-eq0
 returns-then-found-eq0 c =
     none_counted c.args.tally.now.counts.entries
-    (map (final_value c.args.space.now c.args.combination.now c.args.order.now) c.args.places.now)
+    (map (final_value c.args.space.now c.args.combination.now c.args.coherence.now) c.args.observables.now)
     c.args.found c.if-found-eq0.true
 
 pub returns : goal.returns
@@ -15,8 +15,8 @@ returns c =
     on_ok_weaker c.add_count.result
     (λ h. some_found c.args.tally.now.counts.entries c.add_count.new.counts.entries
     c.deref.result.now
-    (map (final_value c.args.space.now c.args.combination.now c.args.order.now)
-    c.args.places.now) c.args.found
+    (map (final_value c.args.space.now c.args.combination.now c.args.coherence.now)
+    c.args.observables.now) c.args.found
     (c.deref.ensures.value ∙ c.in_ok-write_state.ensures)
     (omega (arith, c.if-found-eq0.false)) h)
     c.add_count.ensures

@@ -11,5 +11,5 @@ invariant-loop-combination l =
     ≡ drop (length (candidates_in (take l.combination-index l.space.combinations.items)))
     l.kept)
     × Counts [] l.tally.counts.entries (λ v. count_kept
-    (λ x. is_state v (final_state l.space l.places x)) l.kept (candidates_in
+    (λ x. is_state v (final_state l.space l.observables x)) l.kept (candidates_in
     (take l.combination-index l.space.combinations.items)))

@@ -7,20 +7,20 @@ use Rattle.verdict.proofs.final_states.final_word.Goals as goal
 
 pub stores-preserved : goal.stores-preserved
 stores-preserved c =
-    let before : Value = final_word c.args.combination.now (take (c.stores.index - 1) c.args.order.now) c.args.location in (
+    let before : Value = final_word c.args.combination.now (take (c.stores.index - 1) c.args.coherence.now) c.args.location in (
       omega (arith, c.stores.invariant.0),
       c.stores.invariant.1
-          ∙ word_less c.args.combination.now c.args.order.now c.stores.index c.args.location
+          ∙ word_less c.args.combination.now c.args.coherence.now c.stores.index c.args.location
           c.stores-test.true c.stores.invariant.0
           ∙ ap (λ (o : Option Value). unwrap_or o before)
-          (sym c.stored_at.ensures ∙ c.in_default.is),
+          (rw c.deref.ensures.value at (sym c.value_stored_at.ensures) ∙ c.in_default.is),
     )
 
 pub returns-in-Some : goal.returns-in-Some
 returns-in-Some c =
-    let before : Value = final_word c.args.combination.now (take (c.stores.index - 1) c.args.order.now) c.args.location in
+    let before : Value = final_word c.args.combination.now (take (c.stores.index - 1) c.args.coherence.now) c.args.location in
     sym (c.stores.invariant.1
-    ∙ word_less c.args.combination.now c.args.order.now c.stores.index c.args.location
+    ∙ word_less c.args.combination.now c.args.coherence.now c.stores.index c.args.location
     c.stores-test.true c.stores.invariant.0
     ∙ ap (λ (o : Option Value). unwrap_or o before)
-    (sym c.stored_at.ensures ∙ c.in-Some.is))
+    (rw c.deref.ensures.value at (sym c.value_stored_at.ensures) ∙ c.in-Some.is))

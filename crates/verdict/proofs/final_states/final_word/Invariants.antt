@@ -4,9 +4,9 @@ use Rattle.verdict.proofs.final_states.final_word.Given as goal
 
 abbrev pub invariant-stores : goal.invariant-stores
 invariant-stores l =
-    (l.index ≤ length l.order)
-    × (final_word l.combination l.order l.location
-    ≡ final_word l.combination (take l.index l.order) l.location)
+    (l.index ≤ length l.coherence)
+    × (final_word l.combination l.coherence l.location
+    ≡ final_word l.combination (take l.index l.coherence) l.location)
 
 abbrev pub decreases-stores : goal.decreases-stores
 decreases-stores l = l.index

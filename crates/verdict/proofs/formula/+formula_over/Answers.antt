@@ -18,15 +18,15 @@ returns-in_ok-right-in-Joined t c =
     (λ (p : text.Proposition).
     Join c.in-Joined.connective (formula_of c.deref-in-Joined.result.now) (formula_of p))
     (sym c.deref-in-Joined-2.ensures) in
-    both_meant c.args.locations.now c.args.places.now c.in-Joined.connective
+    both_meant c.args.locations.now c.args.observables.now c.in-Joined.connective
     (formula_of c.deref-in-Joined.result.now) (formula_of c.deref-in-Joined-2.result.now)
     (formula_of c.args.proposition.now)
     c.in_ok-left-in-Joined.left.value c.in_ok-right-in-Joined.right.value is
     (subst
-    (λ (f : code.Formula). Compiles c.args.locations.now c.args.places.now
+    (λ (f : code.Formula). Compiles c.args.locations.now c.args.observables.now
     (formula_of c.deref-in-Joined.result.now) f)
     (sym c.in_ok-left-in-Joined.ensures.ok) c.in_ok-formula_over-in-Joined.ensures)
     (subst
-    (λ (f : code.Formula). Compiles c.args.locations.now c.args.places.now
+    (λ (f : code.Formula). Compiles c.args.locations.now c.args.observables.now
     (formula_of c.deref-in-Joined-2.result.now) f)
     (sym c.in_ok-right-in-Joined.ensures.ok) c.in_ok-formula_over-in-Joined-2.ensures)

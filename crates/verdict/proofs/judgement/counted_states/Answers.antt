@@ -16,17 +16,17 @@ pub loop-values-preserved : goal.loop-values-preserved
 loop-values-preserved c =
     let s : CountedState = record { values = c.in-Some.values.items; text = c.in_ok-text.text.items; count = c.in-Some.count; holds = c.satisfies-holds.result } in
     let pushed : c.push.new.self.items ≡ c.loop-values.states.items ++ s ∷ [] = c.in_ok-push.ensures.items in
-    let front : c.loop-values.values-iterator ≡ (c.in-Some.values, c.in-Some.count) ∷ c.next.new.self = rest_more (λ x. x) c.loop-values.values-iterator c.next.new.self c.next.result (c.in-Some.values, c.in-Some.count) c.in-Some.is c.next.ensures.steps in (
+    let prefix : c.loop-values.values-iterator ≡ (c.in-Some.values, c.in-Some.count) ∷ c.next.new.self = rest_more (λ x. x) c.loop-values.values-iterator c.next.new.self c.next.result (c.in-Some.values, c.in-Some.count) c.in-Some.is c.next.ensures.steps in (
       ap (λ (l : List CountedState). pairs_of l ++ pairs_in c.next.new.self) pushed
           ∙ one_more_state c.loop-values.states.items s (pairs_in c.next.new.self)
-          ∙ ap (λ (l : Entries). pairs_of c.loop-values.states.items ++ pairs_in l) (sym front)
+          ∙ ap (λ (l : Entries). pairs_of c.loop-values.states.items ++ pairs_in l) (sym prefix)
           ∙ c.loop-values.invariant.0,
-      All-same (IsWorded c.args.locations.now c.args.places.now c.args.formula.now)
+      All-same (IsWorded c.args.locations.now c.args.observables.now c.args.formula.now)
           c.push.new.self.items (c.loop-values.states.items ++ s ∷ []) pushed
-          (All-push (IsWorded c.args.locations.now c.args.places.now c.args.formula.now)
+          (All-push (IsWorded c.args.locations.now c.args.observables.now c.args.formula.now)
           c.loop-values.states.items s c.loop-values.invariant.1 (
             c.in_ok-text.ensures
-                ∙ ap (state_text c.args.locations.now c.args.places.now) c.deref.ensures.value,
+                ∙ ap (state_text c.args.locations.now c.args.observables.now) c.deref.ensures.value,
             c.satisfies-holds.ensures
                 ∙ ap (λ (v : List FinalValue). value_of v c.args.formula.now)
                 c.deref-in-loop-values.ensures.value,

@@ -4,7 +4,7 @@ use Rattle.candidates.specs.Space.{shown_in}
 use Rattle.verdict.specs.Evaluated.{AreEndStates}
 use Rattle.verdict.specs.Judgement.{is_same, total_of}
 use Rattle.verdict.specs.Kept.{of_raised}
-use Rattle.verdict.specs.Meaning.{places_of}
+use Rattle.verdict.specs.Meaning.{observables_of}
 use Rattle.verdict.specs.declared.answer.CountedState.{CountedState}
 use Rattle.verdict.specs.declared.answer.Evaluation.{Evaluation}
 use Rattle.verdict.proofs.Evaluations.{says, shows_all}
@@ -24,7 +24,7 @@ returns-clause-said c = λ checks given.
           ends.compiled e ends.entries
           fits given.long given.each ends.tallies ends.above
           ends.counts ends.rising ends.words
-          ends.means (shows_all c.args.space.now.locations.items (places_of p) c.args.observed.now
+          ends.means (shows_all c.args.space.now.locations.items (observables_of p) c.args.observed.now
           ends.shown ends.are_shown)
           (c.total-positive.ensures
           ∙ ap

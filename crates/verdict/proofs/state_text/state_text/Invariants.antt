@@ -7,5 +7,5 @@ use Rattle.verdict.proofs.state_text.state_text.Given as goal
 
 abbrev pub invariant-loop-i : goal.invariant-loop-i
 invariant-loop-i l =
-    l.text.items ++ from (codes " ") l.i (texts l.locations (drop l.i l.places) (drop l.i l.values))
-    ≡ state_text l.locations l.places l.values
+    l.text.items ++ from (codes " ") l.i (texts l.locations (drop l.i l.observables) (drop l.i l.values))
+    ≡ state_text l.locations l.observables l.values

@@ -5,7 +5,7 @@ use Rattle.candidates.proofs.same.Candidates.next.Goals.{then-self-len-3, else-s
 
 pub returns-then-self-len-2 : goal.returns-then-self-len-2
 returns-then-self-len-2 c =
-    let li : c.loop-combination.self.source < length c.in-Some.combination.now.sources.items = omega (arith, c.if-self-len.true, c.len.ensures, c.in-Some.combination.now.sources.ok.0) in
+    let li : c.loop-combination.self.source < length c.in-Some.combination.now.reads_from.items = omega (arith, c.if-self-len.true, c.len.ensures, c.in-Some.combination.now.reads_from.ok.0) in
     let lj : c.loop-combination.self.order < length c.in-Some.combination.now.orders = omega (arith, c.if-self-len-2.true, c.len-then-self-len.ensures) in
     c.loop-combination.invariant
     ∙ elim c.if-self-len-3.branch [
@@ -43,6 +43,6 @@ loop-combination-preserved c =
             arith,
             w.if-self-len.false,
             c.len.ensures,
-            c.in-Some.combination.now.sources.ok.0,
+            c.in-Some.combination.now.reads_from.ok.0,
           )))
     ]

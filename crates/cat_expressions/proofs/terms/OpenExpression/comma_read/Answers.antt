@@ -1,6 +1,6 @@
 use Rattle.std.proofs.Common.{ap, ◌∙◌, ◌∷◌, List}
 use Rattle.cat_tokens.specs.declared.token.Token.TheVariants.{Comma}
-use Rattle.cat_grammar.specs.Machine.{comma_read, Goes, Wants, Frame}
+use Rattle.cat_grammar.specs.Machine.{comma_read, Goes, Wants, TermFrame}
 use Rattle.cat_expressions.specs.Reading.{frame_of, stack_of}
 use Rattle.text_values.specs.ModelValues.{term_of}
 use Rattle.cat_expressions.specs.declared.frames.Frame as code_frame
@@ -52,7 +52,7 @@ returns-in_ok-push-in-Some-Applied-2 c =
     (λ (f : code_frame.Frame). comma_read c.args.self.now.operators
     (frame_of f ∷ stack_of c.pop.new.self.items, term_of c.join.new.operand))
     c.in-Some-Applied.field-0-is
-    ∙ ap (λ (fs : List Frame). Goes fs c.args.self.now.operators Wants) (comma_pushed
+    ∙ ap (λ (fs : List TermFrame). Goes fs c.args.self.now.operators Wants) (comma_pushed
     c.pop.new.self.items c.push-in-Some-Applied.new.self.items c.in-Some-Applied.name
     c.in-Some-Applied.arguments c.push.new.self c.join.new.operand
     c.in_ok-push-in-Some-Applied.ensures.items

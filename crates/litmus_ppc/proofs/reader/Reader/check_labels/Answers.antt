@@ -1,5 +1,5 @@
 use Rattle.std.proofs.Common.{subst}
-use Rattle.litmus_table.specs.Within.{IsFoundWithin}
+use Rattle.litmus_table.specs.Bounds.{IsFoundWithin}
 use Rattle.litmus_ppc.proofs.reader.Reader.check_labels.Goals as goal
 
 pub returns-in-Ok-Some-clause-within : goal.returns-in-Ok-Some-clause-within

@@ -3,7 +3,7 @@ use Rattle.litmus_table.specs.declared.late.PlacedThread.{PlacedThread}
 use Rattle.litmus_table.specs.Checks.{IsFoundAt}
 use Rattle.litmus_table.specs.Late.{first_late}
 use Rattle.litmus_table.specs.Reading.{thread_of, threads_of}
-use Rattle.litmus_table.specs.Within.{AllAtMost, AreThreadsUpTo, IsFoundWithin}
+use Rattle.litmus_table.specs.Bounds.{AllAtMost, AreThreadsUpTo, IsFoundWithin}
 use Rattle.litmus_table.proofs.Places.{thread_within}
 use Rattle.litmus_table.proofs.Walk.{found_in, passed, stopped, all_passed}
 use Rattle.litmus_table.proofs.table.Table.check_labels.Goals as goal

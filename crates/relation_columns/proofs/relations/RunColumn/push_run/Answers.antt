@@ -17,7 +17,7 @@ invariant_of-self c =
 
 pub invariant_of-self-else-count-gt0 : goal.invariant_of-self-else-count-gt0
 invariant_of-self-else-count-gt0 c =
-    let more = pushed _ _ _ _ _ _ _ c.self.invariant.1 c.next_place.ensures.regular (c.in_ok-place.ensures.start ∙ ap length c.deref-else-count-gt0.ensures.value) c.in_ok-place.ensures.count c.reserve.ensures.items c.push_reserved.ensures.items c.in_ok-append_to.ensures.added in (
+    let more = pushed _ _ _ _ _ _ _ c.self.invariant.1 c.next_span.ensures.regular (c.in_ok-span.ensures.start ∙ ap length c.deref-else-count-gt0.ensures.value) c.in_ok-span.ensures.count c.reserve.ensures.items c.push_reserved.ensures.items c.in_ok-append_to.ensures.added in (
       added _ _ _ _ _ _ _ _ c.self.invariant.0 c.self.view_is c.requires
           (ap (λ rs. run_ends rs) c.reserve.ensures.items)
           (ends_more _ _ _ c.push_reserved.ensures.items) more.1,
@@ -35,7 +35,7 @@ returns-then-is_value-clause-added c =
 
 pub returns-in_ok-append_to-clause-added : goal.returns-in_ok-append_to-clause-added
 returns-in_ok-append_to-clause-added c =
-    let more = pushed _ _ _ _ _ _ _ c.self.invariant.1 c.next_place.ensures.regular (c.in_ok-place.ensures.start ∙ ap length c.deref-else-count-gt0.ensures.value) c.in_ok-place.ensures.count c.reserve.ensures.items c.push_reserved.ensures.items c.in_ok-append_to.ensures.added in
+    let more = pushed _ _ _ _ _ _ _ c.self.invariant.1 c.next_span.ensures.regular (c.in_ok-span.ensures.start ∙ ap length c.deref-else-count-gt0.ensures.value) c.in_ok-span.ensures.count c.reserve.ensures.items c.push_reserved.ensures.items c.in_ok-append_to.ensures.added in
     added_told _ _ _ _ _ _ _ _ c.self.invariant.0 c.self.view_is
     (ap (λ rs. run_ends rs) c.reserve.ensures.items)
     (ends_more _ _ _ c.push_reserved.ensures.items) more.1

@@ -12,8 +12,8 @@ returns-then-orders-eq0 c = (
 pub returns : goal.returns
 returns c =
     let orders : c.len-orders.result ≡ length c.args.self.now.orders = omega arith in
-    let sources : c.len.result ≡ length c.args.self.now.sources.items = omega (arith, c.args.self.now.sources.ok.0) in
-    let e : (c.args.index / c.len-orders.result < c.len.result) ↔ (c.args.index < length (candidates_of c.args.self.now)) = rw (orders, sources) (has_index c.args.self.now c.args.index (omega (arith, orders))) in (
+    let reads_from : c.len.result ≡ length c.args.self.now.reads_from.items = omega (arith, c.args.self.now.reads_from.ok.0) in
+    let e : (c.args.index / c.len-orders.result < c.len.result) ↔ (c.args.index < length (candidates_of c.args.self.now)) = rw (orders, reads_from) (has_index c.args.self.now c.args.index (omega (arith, orders))) in (
       λ t. e.0 (search (rules, tests)),
       λ lt.
           let k : c.args.index / c.len-orders.result < c.len.result = e.1 lt in

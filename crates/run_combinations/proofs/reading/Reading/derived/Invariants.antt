@@ -5,8 +5,8 @@ use Rattle.run_combinations.proofs.reading.Reading.derived.Given as goal
 abbrev pub invariant-loop-derived : goal.invariant-loop-derived
 invariant-loop-derived l = record {
   count : l.derived.count ≡ min l.self.count 128;
-  round : IsArisingRound l.self l.way l.without l.derived l.next;
-  arise : AllArise l.self l.way l.without l.derived;
+  round : IsArisingRound l.self l.reads_from l.without l.derived l.next;
+  arise : AllArise l.self l.reads_from l.without l.derived;
 }
 
 abbrev pub decreases-loop-derived : goal.decreases-loop-derived

@@ -6,9 +6,9 @@ use Rattle.run_combinations.proofs.reading.Reading.extend_all.Given as goal
 
 abbrev pub invariant-loop-place : goal.invariant-loop-place
 invariant-loop-place l = record {
-  next : AreNext l.self l.load l.index l.place (lists_of l.initial.fronts.items)
+  next : AreNext l.self l.load l.index l.place (lists_of l.initial.prefixes.items)
       (lists_of l.longer.items);
-  many : length l.fronts.items ≡ length l.initial.fronts.items;
+  many : length l.prefixes.items ≡ length l.initial.prefixes.items;
   rest : (k : ℕ) (d : Vec ℕ Global) → l.place ≤ k
-      → slice_index_or l.fronts.items k d ≡ slice_index_or l.initial.fronts.items k d;
+      → slice_index_or l.prefixes.items k d ≡ slice_index_or l.initial.prefixes.items k d;
 }

@@ -12,7 +12,7 @@ loop-index-preserved c =
     ap (λ (l : List Load). slice_get l c.loop-index.index) (sym c.deref-load-items.ensures.value)
     ∙ slice_get_read c.deref-load-items.result.now (length c.deref-load-items.result.now)
     c.loop-index.index c.load-item.result refl (omega arith) c.load-item.is in
-    one_step_more load_event (CanArise c.args.way.now c.args.without c.args.derived.now)
+    one_step_more load_event (CanArise c.args.reads_from.now c.args.without c.args.derived.now)
     (IsMember c.args.derived.now) c.args.derived.now.count c.loop-index.index
     c.args.self.now.loads.items c.load-item.result c.can_arise-is_wanted.result
     c.loop-index.next _ at c.can_arise-is_wanted.ensures c.loop-index.invariant c.add_if.ensures

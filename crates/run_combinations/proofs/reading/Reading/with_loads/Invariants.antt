@@ -6,5 +6,5 @@ use Rattle.run_combinations.proofs.reading.Reading.with_loads.Given as goal
 abbrev pub invariant-loop-index : goal.invariant-loop-index
 invariant-loop-index l =
     IsEvents l.next l.derived.count (λ x. IsMember l.derived x
-    ⊎ Stepped load_event (CanArise l.way l.without l.derived) l.derived.count l.index
+    ⊎ Stepped load_event (CanArise l.reads_from l.without l.derived) l.derived.count l.index
     l.self.loads.items x)

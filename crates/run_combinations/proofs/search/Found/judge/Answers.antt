@@ -11,15 +11,15 @@ returns-in-None c =
     _ _ c.deref.ensures.value c.deref-2.ensures.value c.deref-3.ensures.value fits
     c.order_count.ensures c.max-orders.ensures c.in_ok-show.ensures c.saturating_sub.ensures
     few)
-    (rw c.in-None.is at c.in_ok-ways.ensures)
+    (rw c.in-None.is at c.in_ok-read_choices.ensures)
 
 pub returns-in_ok-keep-in-Some : goal.returns-in_ok-keep-in-Some
 returns-in_ok-keep-in-Some c =
     λ fits few. judged (min c.args.locations 128) (prefix_lists c.args.prefix.now)
     (tally c.args.self.now) (tally c.keep.new.self) c.show.new.self c.max-orders.result
-    c.saturating_sub.result c.in-Some.ways.items
+    c.saturating_sub.result c.in-Some.read_choices.items
     (known _ _ _ c.deref.result.now c.deref-2.result.now c.deref-3.result.now c.order_count.result _
     _ _ c.deref.ensures.value c.deref-2.ensures.value c.deref-3.ensures.value fits
     c.order_count.ensures c.max-orders.ensures c.in_ok-show.ensures c.saturating_sub.ensures
     few)
-    (rw c.in-Some.is at c.in_ok-ways.ensures) c.in_ok-keep-in-Some.ensures
+    (rw c.in-Some.is at c.in_ok-read_choices.ensures) c.in_ok-keep-in-Some.ensures

@@ -10,40 +10,40 @@ is_some : (n : ℕ) (b : Bool) → b ≡ (n == 0) → b ≡ false → 0 < n
 is_some zero b test is = absurd cc
 is_some (suc n) b test is = omega arith
 
--- a combination with ways to read is counted, and kept unless there is a fault
-counted : (b : PrefixLists) (ways : List (List ℕ)) (orders n : ℕ) (t new : Tally) → n ≡ length ways
+-- a combination with read choices is counted, and kept unless there is a fault
+counted : (b : PrefixLists) (read_choices : List (List ℕ)) (orders n : ℕ) (t new : Tally) → n ≡ length read_choices
     → 0 < n → new.count ≡ min (t.count + min (n * orders) (2 ^ 64 - 1)) (2 ^ 64 - 1)
     → new.faulted ≡ (t.faulted || b.faulted)
     → new.kept ≡ (if new.faulted then t.kept
-    else t.kept ++ record b.combination { sources = ways } ∷ [])
-    → new ≡ capped_tally_with b ways orders t
+    else t.kept ++ record b.combination { reads_from = read_choices } ∷ [])
+    → new ≡ capped_tally_with b read_choices orders t
 counted b [] orders n t new long some count faulted kept = absurd (omega (arith, long, some))
-counted b (way ∷ ways) orders n t new long some count faulted kept =
-    let all : List CombinationLists = t.kept ++ record b.combination { sources = way ∷ ways } ∷ [] in
+counted b (reads_from ∷ read_choices) orders n t new long some count faulted kept =
+    let all : List CombinationLists = t.kept ++ record b.combination { reads_from = reads_from ∷ read_choices } ∷ [] in
     let keeps = kept ∙ ap (λ (f : Bool). if f then t.kept else all) faulted in
     let counts = count ∙ ap (λ (m : ℕ). min (t.count + min (m * orders) (2 ^ 64 - 1)) (2 ^ 64 - 1)) long in
     λ i. record { kept = keeps i; count = counts i; faulted = faulted i }
 
 pub returns-then-self : goal.returns-then-self
 returns-then-self c =
-    let ways = c.args.ways in
-    let some = is_some ways.len c.is_empty.result c.is_empty.ensures c.if-is_empty.false in
-    let long = length-map ways.items (λ (v : Vec ℕ Global). v.items) in
-    let kept = ap (map combination_lists) (ap (λ (v : Vec _ Global). v.items) c.count_ways.ensures.combinations) in
-    counted (prefix_lists c.args.prefix.now) (lists_of ways.items) c.args.orders c.len.result
-    (tally c.args.self.now) (tally c.count_ways.new.self)
-    (omega (arith, long, ways.ok.0, c.len.ensures)) (omega (arith, some, c.len.ensures))
-    c.count_ways.ensures.count c.count_ways.ensures.faulted (rw c.if-self.true kept)
+    let read_choices = c.args.read_choices in
+    let some = is_some read_choices.len c.is_empty.result c.is_empty.ensures c.if-is_empty.false in
+    let long = length-map read_choices.items (λ (v : Vec ℕ Global). v.items) in
+    let kept = ap (map combination_lists) (ap (λ (v : Vec _ Global). v.items) c.count_read_choices.ensures.combinations) in
+    counted (prefix_lists c.args.prefix.now) (lists_of read_choices.items) c.args.orders c.len.result
+    (tally c.args.self.now) (tally c.count_read_choices.new.self)
+    (omega (arith, long, read_choices.ok.0, c.len.ensures)) (omega (arith, some, c.len.ensures))
+    c.count_read_choices.ensures.count c.count_read_choices.ensures.faulted (rw c.if-self.true kept)
 
 pub returns : goal.returns
 returns c =
-    let ways = c.args.ways in
-    let all = lists_of ways.items in
-    let some = is_some ways.len c.is_empty.result c.is_empty.ensures c.if-is_empty.false in
-    let long = length-map ways.items (λ (v : Vec ℕ Global). v.items) in
-    let one = c.combination.ensures ∙ ap (λ (r : CombinationLists). record r { sources = all }) c.in_ok-runs.ensures in
-    let kept : map combination_lists c.push.new.self.items ≡ map combination_lists c.args.self.now.combinations.items ++ record (runs_lists c.args.prefix.now.runs) { sources = all } ∷ [] = ap (map combination_lists) c.in_ok-push.ensures.items ∙ map_push combination_lists c.count_ways.new.self.combinations.items c.combination.result ∙ (λ i. map combination_lists (c.count_ways.ensures.combinations i).items ++ one i ∷ []) in
-    let new : Tally = record { kept = map combination_lists c.push.new.self.items; count = c.count_ways.new.self.count; faulted = c.count_ways.new.self.is_faulted } in
+    let read_choices = c.args.read_choices in
+    let all = lists_of read_choices.items in
+    let some = is_some read_choices.len c.is_empty.result c.is_empty.ensures c.if-is_empty.false in
+    let long = length-map read_choices.items (λ (v : Vec ℕ Global). v.items) in
+    let one = c.combination.ensures ∙ ap (λ (r : CombinationLists). record r { reads_from = all }) c.in_ok-runs.ensures in
+    let kept : map combination_lists c.push.new.self.items ≡ map combination_lists c.args.self.now.combinations.items ++ record (runs_lists c.args.prefix.now.runs) { reads_from = all } ∷ [] = ap (map combination_lists) c.in_ok-push.ensures.items ∙ map_push combination_lists c.count_read_choices.new.self.combinations.items c.combination.result ∙ (λ i. map combination_lists (c.count_read_choices.ensures.combinations i).items ++ one i ∷ []) in
+    let new : Tally = record { kept = map combination_lists c.push.new.self.items; count = c.count_read_choices.new.self.count; faulted = c.count_read_choices.new.self.is_faulted } in
     counted (prefix_lists c.args.prefix.now) all c.args.orders c.len.result (tally c.args.self.now)
-    new (omega (arith, long, ways.ok.0, c.len.ensures)) (omega (arith, some, c.len.ensures))
-    c.count_ways.ensures.count c.count_ways.ensures.faulted (rw c.if-self.false kept)
+    new (omega (arith, long, read_choices.ok.0, c.len.ensures)) (omega (arith, some, c.len.ensures))
+    c.count_read_choices.ensures.count c.count_read_choices.ensures.faulted (rw c.if-self.false kept)

@@ -3,11 +3,11 @@ use Rattle.std.proofs.lemmas.List.{take-append-le, take_all}
 use Rattle.text_values.proofs.name.Name.new.Goals as goal
 
 -- the bytes that were written in front
-written : (text front behind : List ℕ) → front ≡ text → take (length text) (front ++ behind) ≡ text
-written text front behind e =
-    let l : length text ≤ length front = omega (arith, ap length e) in
-    take-append-le (length text) front behind l
-    ∙ take_all (length text) front (omega (arith, ap length e)) ∙ e
+written : (text prefix behind : List ℕ) → prefix ≡ text → take (length text) (prefix ++ behind) ≡ text
+written text prefix behind e =
+    let l : length text ≤ length prefix = omega (arith, ap length e) in
+    take-append-le (length text) prefix behind l
+    ∙ take_all (length text) prefix (omega (arith, ap length e)) ∙ e
 
 pub returns-then-text-gt-SHORT : goal.returns-then-text-gt-SHORT
 returns-then-text-gt-SHORT c =

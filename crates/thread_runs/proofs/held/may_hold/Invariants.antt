@@ -1,7 +1,0 @@
-use Rattle.std.proofs.Common.{◌≡◌, false, take}
-use Rattle.std.specs.List.{list_any}
-use Rattle.thread_runs.specs.Held.{line_may_put}
-use Rattle.thread_runs.proofs.held.may_hold.Given as goal
-
-abbrev pub invariant-loop-line : goal.invariant-loop-line
-invariant-loop-line l = list_any (line_may_put l.r l.value) (take l.line-index l.line-items) ≡ false
