@@ -1,4 +1,3 @@
-pub mod Table
 pub mod Likeness
 pub mod Scopes
 pub mod Applying

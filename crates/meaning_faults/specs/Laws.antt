@@ -1,5 +1,5 @@
 -- What the laws of this crate say: the faults of a model are those that the program answers.
-use Rattle.std.specs.Prelude.{◌≡◌, ◌↔◌, List, [], ◌∷◌, Contains, map, reverse, Option, Some, None}
+use Rattle.std.specs.Prelude.{◌≡◌, ◌↔◌, List, [], ◌∷◌, map, reverse, Option, Some, None}
 use Rattle.text_values.specs.declared.model.Item.{Item}
 use Rattle.text_values.specs.declared.predefined.Predefined.{Predefined}
 use Rattle.text_values.specs.declared.predefined.TheConstants.{PREDEFINED}
@@ -9,7 +9,6 @@ use Rattle.binding_kinds.specs.declared.fault.ModelFault.TheVariants as program_
 use Rattle.binding_kinds.specs.Value.{Naming, bare_item}
 use Rattle.binding_kinds.specs.Outermost.{naming_of}
 use Rattle.binding_kinds.specs.Faults.{FirstFault, HasNoFault}
-use Rattle.meaning.specs.Sets.{IsOnce}
 use Rattle.meaning.specs.Faults.{ModelFault, Unbound, Kind, NotMonotone, Duplicate, SetInRec, Arity, TooLarge, faults}
 
 -- a fault as the program has it
@@ -30,10 +29,6 @@ head_of (k ∷ ks) = Some (fault_of k)
 -- the names that the first item sees
 abbrev pub outer_namings : List Predefined → List Naming
 outer_namings ps = reverse (map naming_of ps)
-
--- Each predefined name stands in the list, and none twice.
-abbrev pub HasEachNameOnce : List Predefined → Type 0
-HasEachNameOnce ps = ((p : Predefined) → Contains ps p) × IsOnce ps
 
 -- The program answers a fault just where it is the first in the list of the items' faults.
 abbrev pub FirstFaultIsHead : List Item → Type 0

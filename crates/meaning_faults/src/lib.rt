@@ -6,12 +6,11 @@ ghost use Rattle.std.specs.Prelude.{◌≡◌, List};
 ghost use Rattle.text_values.specs.declared.model.Item.{Item};
 ghost use Rattle.text_values.specs.declared.predefined.TheConstants.{PREDEFINED};
 ghost use Rattle.meaning.specs.Predefined.{predefined_names};
-ghost use Rattle.meaning_faults.specs.Laws.{HasEachNameOnce, FirstFaultIsHead, NoFaultIsNone};
+ghost use Rattle.meaning_faults.specs.Laws.{FirstFaultIsHead, NoFaultIsNone};
 
-/// The table of predefined names has each of them once, in the order of the definitions.
-pub fn names_stand_once()
-    ensures same { PREDEFINED ≡ predefined_names }
-    ensures once { HasEachNameOnce PREDEFINED }
+/// The table of predefined names is that of the definitions.
+pub fn the_table_is_meant()
+    ensures { PREDEFINED ≡ predefined_names }
 {}
 
 /// The fault that refuses a model is the first in the list of its faults, and a model is not

@@ -14,7 +14,7 @@ use Rattle.thread_runs.specs.declared.value.Value.TheVariants as numbers
 use Rattle.thread_runs.specs.declared.instruction.Program.{Program}
 use Rattle.thread_runs.specs.declared.instruction.RunStep.{RunStep}
 use Rattle.thread_runs.specs.declared.instruction.Event as numbered_event
-use Rattle.thread_runs.specs.declared.instruction.Event.TheVariants.{Reads, Writes, Orders}
+use Rattle.thread_runs.specs.declared.instruction.Event.TheVariants.{Load, Store, Fence}
 use Rattle.thread_runs.specs.Runs as by_number
 use Rattle.thread_runs.specs.Runs.{Thread, Outcome}
 use Rattle.thread_runs.specs.AllRuns.{thread_of}
@@ -78,14 +78,14 @@ run_by_number names labels (runs.both {o = o} {r = r} same) q e =
 -- ---- What is stored
 
 abbrev is_write : numbered_event.Event → Bool
-is_write (Writes a v) = true
-is_write (Reads a v) = false
-is_write (Orders f) = false
+is_write (Store a v) = true
+is_write (Load a v) = false
+is_write (Fence f) = false
 
 abbrev value_written : numbered_event.Event → numbered_value.Value
-value_written (Writes a v) = v
-value_written (Reads a v) = v
-value_written (Orders f) = numbers.NoValue
+value_written (Store a v) = v
+value_written (Load a v) = v
+value_written (Fence f) = numbers.NoValue
 
 -- what the instance stores
 abbrev Stores : Instance → Value → Type 0
@@ -133,30 +133,30 @@ only_one x y h = elim (head_or_tail x [] y h) [
 ]
 
 one_stored : (names : List Name) (i : Instance) {es : List numbered_event.Event}
-    → AreEventsOf names i es → (a v : numbered_value.Value) → Contains es (Writes a v)
+    → AreEventsOf names i es → (a v : numbered_value.Value) → Contains es (Store a v)
     → (w : Value) × Stores i w × IsSameValue names v w
 one_stored names i (told.loads {a = b} {v = u} load place value) a v h =
-    absurd (true≢false (sym (ap is_write (only_one (Reads b u) (Writes a v) h))))
+    absurd (true≢false (sym (ap is_write (only_one (Load b u) (Store a v) h))))
 one_stored names i (told.stores {a = b} {v = u} {w = w} stored place value) a v h = (
   w,
   subst (λ (ws : List Value). Contains ws w) (sym stored) (here w []),
   subst (λ (x : numbered_value.Value). IsSameValue names x w)
-      (ap value_written (only_one (Writes b u) (Writes a v) h)) value,
+      (ap value_written (only_one (Store b u) (Store a v) h)) value,
 )
 one_stored names i (told.fences {f = f} fence) a v h =
-    absurd (true≢false (sym (ap is_write (only_one (Orders f) (Writes a v) h))))
-one_stored names i (told.nothing event) a v h = absurd (nothing_in (Writes a v) h)
+    absurd (true≢false (sym (ap is_write (only_one (Fence f) (Store a v) h))))
+one_stored names i (told.nothing event) a v h = absurd (nothing_in (Store a v) h)
 
 one_written : (names : List Name) (i : Instance) {es : List numbered_event.Event}
     → AreEventsOf names i es → (w : Value) → Stores i w
-    → (a : numbered_value.Value) × (v : numbered_value.Value) × Contains es (Writes a v)
+    → (a : numbered_value.Value) × (v : numbered_value.Value) × Contains es (Store a v)
     × IsSameValue names v w
 one_written names i (told.loads load place value) w h =
     absurd (load_stores_none i.instruction i.before w load h)
 one_written names i (told.stores {a = a} {v = v} {w = z} stored place value) w h = (
   a,
   v,
-  here (Writes a v) [],
+  here (Store a v) [],
   subst (λ (x : Value). IsSameValue names v x)
       (only_one z w (subst (λ (ws : List Value). Contains ws w) stored h)) value,
 )
@@ -168,11 +168,11 @@ one_written names i (told.nothing event) w h =
 module _ (names labels : List Name) where
   stored_down : {steps : List RunStep} {events : List numbered_event.Event} {is : List Instance}
       → AreSameSteps names labels steps events is → (a v : numbered_value.Value)
-      → Contains events (Writes a v)
+      → Contains events (Store a v)
       → (i : Instance) × (w : Value) × Contains is i × Stores i w × IsSameValue names v w
-  stored_down runs.none a v h = absurd (nothing_in (Writes a v) h)
+  stored_down runs.none a v h = absurd (nothing_in (Store a v) h)
   stored_down (runs.more {es = es} {events = events} {i = i} {instances = is} same loaded does rest) a v h =
-      elim (Contains-append_cases es events (Writes a v) h) [
+      elim (Contains-append_cases es events (Store a v) h) [
         | inl there ↦
             let one : _ = one_stored names i does a v there in
             (i, one.0, here i is, one.1, one.2)
@@ -184,17 +184,17 @@ module _ (names labels : List Name) where
   stored_up : {steps : List RunStep} {events : List numbered_event.Event} {is : List Instance}
       → AreSameSteps names labels steps events is → (i : Instance) (w : Value)
       → Contains is i → Stores i w
-      → (a : numbered_value.Value) × (v : numbered_value.Value) × Contains events (Writes a v)
+      → (a : numbered_value.Value) × (v : numbered_value.Value) × Contains events (Store a v)
       × IsSameValue names v w
   stored_up runs.none i w there stored = absurd (nothing_in i there)
   stored_up (runs.more {es = es} {events = events} {i = j} {instances = is} same loaded does rest) i w there stored =
       elim (head_or_tail j is i there) [
         | inl eq ↦
             let one : _ = one_written names j does w (subst (λ (k : Instance). Stores k w) (sym eq) stored) in
-            (one.0, one.1, Contains-append_left es events (Writes one.0 one.1) one.2, one.3)
+            (one.0, one.1, Contains-append_left es events (Store one.0 one.1) one.2, one.3)
         | inr later ↦
             let found : _ = stored_up rest i w later stored in
-            (found.0, found.1, Contains-append_right es events (Writes found.0 found.1) found.2, found.3)
+            (found.0, found.1, Contains-append_right es events (Store found.0 found.1) found.2, found.3)
       ]
 
 -- ---- Values of loads

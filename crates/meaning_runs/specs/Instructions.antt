@@ -6,7 +6,7 @@ use Rattle.text_values.specs.declared.instruction.Instruction.TheVariants.{Fence
 use Rattle.thread_runs.specs.declared.value.Value as numbered_value
 use Rattle.thread_runs.specs.declared.state.State as numbered_state
 use Rattle.thread_runs.specs.declared.instruction.Event as numbered_event
-use Rattle.thread_runs.specs.declared.instruction.Event.TheVariants.{Reads, Writes, Orders}
+use Rattle.thread_runs.specs.declared.instruction.Event.TheVariants as run_event
 use Rattle.thread_runs.specs.Machine as numbered
 use Rattle.ppc_semantics.specs.Lowering.{lowered_instruction, name_index}
 use Rattle.meaning.specs.Names.{Name}
@@ -19,12 +19,13 @@ use Rattle.meaning_runs.specs.Values.{IsSameValue, IsSameState}
 pub data AreEventsOf (names : List Name) (i : Instance) : List numbered_event.Event → Type 0 where
   loads : {a v : numbered_value.Value} → IsTrue (is_load i.instruction)
       → IsSameValue names a (address_of i.instruction i.before) → IsSameValue names v i.loaded
-      → AreEventsOf names i (Reads a v ∷ [])
+      → AreEventsOf names i (run_event.Load a v ∷ [])
   stores : {a v : numbered_value.Value} {w : Value}
       → stored_values i.instruction i.before ≡ w ∷ []
       → IsSameValue names a (address_of i.instruction i.before) → IsSameValue names v w
-      → AreEventsOf names i (Writes a v ∷ [])
-  fences : {f : kinds.Fence} → i.instruction ≡ Fence f → AreEventsOf names i (Orders f ∷ [])
+      → AreEventsOf names i (run_event.Store a v ∷ [])
+  fences : {f : kinds.Fence} → i.instruction ≡ Fence f
+      → AreEventsOf names i (run_event.Fence f ∷ [])
   nothing : is_event i.instruction ≡ false → AreEventsOf names i []
 
 -- In these states the instruction does the same on both machines, where the program numbers these

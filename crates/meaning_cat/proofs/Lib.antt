@@ -1,0 +1,6 @@
+pub mod Operators
+pub mod Trees
+pub mod Terms
+pub mod Least
+pub mod Own
+pub mod Laws

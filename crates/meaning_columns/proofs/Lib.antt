@@ -1,0 +1,9 @@
+pub mod Used
+pub mod Naming
+pub mod Seen
+pub mod Growing
+pub mod Bodies
+pub mod Recursive
+pub mod State
+pub mod Steps
+pub mod Columns

@@ -1,0 +1,5 @@
+pub mod Ordering
+pub mod Relating
+pub mod Threads
+pub mod Sole
+pub mod Matching

@@ -1,0 +1,4 @@
+pub mod Applying
+pub mod Slots
+pub mod Items
+pub mod Putting

@@ -1,0 +1,4 @@
+pub mod Formulas
+pub mod Bound
+pub mod Behind
+pub mod Laws
