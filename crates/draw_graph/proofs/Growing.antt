@@ -81,17 +81,17 @@ none_below events named s n old = record {
   members = λ a. ((λ m. absurd ((old.members a).0 m)), (λ x. absurd (omega (arith, x.0))));
 }
 
-pub read_is_among : (sources ends : List ℕ) (n : ℕ) (b : Bool) → b ≡ true
-    → IsTrue b ↔ Contains sources n → IsTrue true ↔ Contains (sources ++ ends) n
-read_is_among sources ends n b is told =
-    ((λ t. Contains-append_left sources ends n (told.0 is)), (λ c. refl))
+pub read_is_among : (reads_from ends : List ℕ) (n : ℕ) (b : Bool) → b ≡ true
+    → IsTrue b ↔ Contains reads_from n → IsTrue true ↔ Contains (reads_from ++ ends) n
+read_is_among reads_from ends n b is told =
+    ((λ t. Contains-append_left reads_from ends n (told.0 is)), (λ c. refl))
 
-pub end_is_among : (sources ends : List ℕ) (n : ℕ) (b r : Bool) → b ≡ false
-    → IsTrue b ↔ Contains sources n → IsTrue r ↔ Contains ends n
-    → IsTrue r ↔ Contains (sources ++ ends) n
-end_is_among sources ends n b r is none told = (
-  (λ t. Contains-append_right sources ends n (told.0 t)),
-  (λ c. elim (Contains-append_cases sources ends n c) [
+pub end_is_among : (reads_from ends : List ℕ) (n : ℕ) (b r : Bool) → b ≡ false
+    → IsTrue b ↔ Contains reads_from n → IsTrue r ↔ Contains ends n
+    → IsTrue r ↔ Contains (reads_from ++ ends) n
+end_is_among reads_from ends n b r is none told = (
+  (λ t. Contains-append_right reads_from ends n (told.0 t)),
+  (λ c. elim (Contains-append_cases reads_from ends n c) [
     | inl read ↦ absurd
         (false≢true (sym is ∙ none.1 read))
     | inr end ↦ told.1 end

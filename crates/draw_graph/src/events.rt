@@ -9,11 +9,11 @@ use bit_relations::EventSet;
 use candidates::Event;
 
 // Whether a load reads the store of this number.
-fn is_read(sources: &[u8], number: usize) -> bool
-    ensures { IsTrue result ↔ Contains sources.now number }
+fn is_read(reads_from: &[u8], number: usize) -> bool
+    ensures { IsTrue result ↔ Contains reads_from.now number }
 {
-    for index in 0..sources.len() {
-        if usize::from(sources[index]) == number {
+    for index in 0..reads_from.len() {
+        if usize::from(reads_from[index]) == number {
             return true;
         }
     }
@@ -32,45 +32,50 @@ fn is_end(ends: &[usize], number: usize) -> bool
     false
 }
 
-fn is_named(sources: &[u8], ends: &[usize], number: usize) -> bool
-    ensures { IsTrue result ↔ Contains (sources.now ++ ends.now) number }
+fn is_named(reads_from: &[u8], ends: &[usize], number: usize) -> bool
+    ensures { IsTrue result ↔ Contains (reads_from.now ++ ends.now) number }
 {
-    if is_read(sources, number) {
+    if is_read(reads_from, number) {
         return true;
     }
     is_end(ends, number)
 }
 
-fn is_named_if_initial(thread: Option<usize>, sources: &[u8], ends: &[usize], number: usize) -> bool
-    ensures { IsTrue result ↔ IsAmongIfInitial thread (sources.now ++ ends.now) number }
+fn is_named_if_initial(
+    thread: Option<usize>,
+    reads_from: &[u8],
+    ends: &[usize],
+    number: usize,
+) -> bool
+    ensures { IsTrue result ↔ IsAmongIfInitial thread (reads_from.now ++ ends.now) number }
 {
     match thread {
         Some(_) => true,
-        None => is_named(sources, ends, number),
+        None => is_named(reads_from, ends, number),
     }
 }
 
 #[tactic(auto, using(crate::proofs::Growing::drawn_is))]
-fn is_drawn(events: &[Event], sources: &[u8], ends: &[usize], number: usize) -> bool
-    ensures { IsTrue result ↔ IsDrawnEvent events.now (sources.now ++ ends.now) number }
+fn is_drawn(events: &[Event], reads_from: &[u8], ends: &[usize], number: usize) -> bool
+    ensures { IsTrue result ↔ IsDrawnEvent events.now (reads_from.now ++ ends.now) number }
 {
     match events.get(number) {
-        Some(event) => is_named_if_initial(event.thread, sources, ends, number),
+        Some(event) => is_named_if_initial(event.thread, reads_from, ends, number),
         None => false,
     }
 }
 
 /// The events that are drawn: those of the threads, and the initial stores that loads read or at
-/// which a step of a reason ends. `sources` has the store that each load reads, and `ends` the
+/// which a step of a reason ends. `reads_from` has the store that each load reads, and `ends` the
 /// events at which the steps begin and end.
-pub fn drawn_events(events: &[Event], sources: &[u8], ends: &[usize]) -> EventSet
+pub fn drawn_events(events: &[Event], reads_from: &[u8], ends: &[usize]) -> EventSet
     requires { length events.now ≤ 128 }
     ensures { IsEvents result (length events.now)
-        (IsDrawnEvent events.now (sources.now ++ ends.now)) }
+        (IsDrawnEvent events.now (reads_from.now ++ ends.now)) }
 {
     let mut drawn = EventSet::empty(events.len());
     for number in 0..events.len() {
-        if is_drawn(events, sources, ends, number) {
+        if is_drawn(events, reads_from, ends, number) {
             drawn.insert(number);
         }
     }

@@ -41,7 +41,8 @@ use Rattle.text_values.specs.ModelValues as means
 use Rattle.text_values.specs.declared.predefined.TheConstants.{PREDEFINED}
 use Rattle.from_scratch.specs.declared.cell.ItemAnswers.{ItemAnswers}
 use Rattle.from_scratch.specs.Answers.{AreSoundItems}
-use Rattle.from_scratch.specs.FromScratch.{AreItemsOf, IsFaultless, outermost}
+use Rattle.from_scratch.specs.FromScratch.{AreItemsOf, IsFaultless}
+use Rattle.binding_kinds.specs.Outermost.{outermost_names}
 use Rattle.from_scratch.specs.Known.{HasAllColumns}
 use Rattle.from_scratch.proofs.Ordered.{resolved_ordered}
 use Rattle.from_scratch.proofs.Rising.{resolved_rising}
@@ -139,7 +140,7 @@ last_tree clauses x text resolved item stands resolves last =
     ∙ ap (λ (cs : List Clause). slice_get cs (length before)) same
     ∙ at_end before (check_on body) in
     let (one, there, check) = some_of means.clause_of (slice_get text.items.items (length before)) (check_on body) here in
-    check_at [] [] outermost 0 text.items.items resolved resolves.0 (length before) one
+    check_at [] [] outermost_names 0 text.items.items resolved resolves.0 (length before) one
     words.Acyclic body item there (check_clause one _ None check) (subst
     (λ (k : ℕ). slice_get resolved k ≡ Some item) at last)
 
@@ -198,7 +199,7 @@ pub items_sound : (text : ModelText) (resolved : List ResolvedItem) → IsFaultl
     → AreItemsOf text resolved → AreSoundItems resolved
 items_sound text resolved faultless items = (
   resolved_ordered PREDEFINED (map bare_item text.items.items) resolved items.0,
-  resolved_rising outermost 0 (map bare_item text.items.items) resolved faultless items.0,
+  resolved_rising outermost_names 0 (map bare_item text.items.items) resolved faultless items.0,
 )
 
 pub last_found : (space : Space) (text : ModelText) (resolved : List ResolvedItem)

@@ -10,7 +10,7 @@ use Rattle.draw_layout.specs.declared.arrow.Arrow.{Arrow}
 use Rattle.draw_layout.specs.declared.frame.Frame.{Frame}
 use Rattle.draw_layout.specs.declared.layout.Layout.{Layout}
 use Rattle.draw_layout.specs.Layout.{top_of}
-use Rattle.draw_svg.specs.Escaped.{escaped}
+use Rattle.html_text.specs.Escaped.{escaped}
 use Rattle.draw_svg.specs.Paths.{pair, path_on, head_on}
 
 -- ---- attributes
@@ -47,7 +47,7 @@ text_at class x y text =
 unfoldable pub rectangle : List ℕ → (x y width height : ℕ) → List ℕ
 rectangle class x y width height =
     codes "<rect class=\"" ++ class ++ codes "\"" ++ at_point x y ++ sizes width height
-    ++ codes " rx=\"5\"/>"
+    ++ codes " rx=\"5\"></rect>"
 
 -- what the event does, and its instruction if it has one
 unfoldable pub box_texts : ℕ → ℕ → Label → List ℕ
@@ -106,15 +106,18 @@ threads_boxes l (left ∷ lefts) (events ∷ threads) =
 
 -- ---- lines
 
-unfoldable pub path_text : Arrow → List ℕ
-path_text a =
-    codes "<path class=\"l\" d=\"" ++ path_on a.course a ++ codes "\"/><path class=\"h\" d=\"M"
-    ++ pair a.end.x a.end.y ++ head_on a.course a ++ codes "\"/>"
+unfoldable pub line_path : Arrow → List ℕ
+line_path a = codes "<path class=\"l\" d=\"" ++ path_on a.course a ++ codes "\"></path>"
+
+unfoldable pub head_path : Arrow → List ℕ
+head_path a =
+    codes "<path class=\"h\" d=\"M" ++ pair a.end.x a.end.y ++ head_on a.course a
+    ++ codes "\"></path>"
 
 unfoldable pub line_text : Line → Arrow → List ℕ
 line_text line a =
-    codes "<g class=\"" ++ line_class line.ink line.is_thick ++ codes "\">" ++ path_text a
-    ++ codes "</g>"
+    codes "<g class=\"" ++ line_class line.ink line.is_thick ++ codes "\">" ++ line_path a
+    ++ head_path a ++ codes "</g>"
 
 unfoldable pub anchor : Bool → List ℕ
 anchor ends = if ends then codes " text-anchor=\"end\"" else []
@@ -155,8 +158,9 @@ unfoldable pub boxes_text : Picture → Layout → List ℕ
 boxes_text p l =
     stores l l.lefts.items p.initial.items ++ threads_boxes l l.lefts.items p.threads.items
 
-unfoldable pub svg_text : Picture → Layout → List ℕ
-svg_text p l =
-    head_text l p.title.items ++ grounds l 0 l.lefts.items p.threads.items
+-- with this style, where it is drawn alone
+unfoldable pub svg_text : List ℕ → Picture → Layout → List ℕ
+svg_text style p l =
+    head_text l p.title.items ++ style ++ grounds l 0 l.lefts.items p.threads.items
     ++ lines_text p.lines.items l.arrows.items ++ boxes_text p l
     ++ names_text p.lines.items l.arrows.items ++ codes "</svg>\n"

@@ -1,11 +1,12 @@
 //! The elements.
 
 ghost use Rattle.std.specs.Prelude.{◌≡◌, ◌++◌, ◌<◌, ◌≤◌, ◌^◌, OnOk, length, slice_get};
-ghost use Rattle.draw_svg.specs.Svg.{at_point, sizes, ink_class, line_class, text_at, rectangle, box_texts, box_at, thread_name, ground, grounds, stores, events_from, thread_boxes, threads_boxes, path_text, line_text, anchor, name_front, name_text, lines_text, names_text, svg_start, view_text, head_text, boxes_text, svg_text};
+ghost use Rattle.draw_svg.specs.Svg.{at_point, sizes, ink_class, line_class, text_at, rectangle, box_texts, box_at, thread_name, ground, grounds, stores, events_from, thread_boxes, threads_boxes, line_path, head_path, line_text, anchor, name_front, name_text, lines_text, names_text, svg_start, view_text, head_text, boxes_text, svg_text};
 
-use crate::escape::{put_bytes, put_escaped, put_number};
+use crate::bytes::{put_bytes, put_number};
 use crate::path::{head_bytes, put_pair, put_path};
 use draw_layout::{Arrow, Frame, Ink, Label, Layout, Line, Picture, top_of};
+use html_text::put_escaped;
 use std::alloc::AllocError;
 
 #[tactic(auto, unfolding(crate::specs::Svg::at_point))]
@@ -90,7 +91,7 @@ fn put_rectangle(
     put_bytes(text, b"\"")?;
     put_point(text, x, y)?;
     put_sizes(text, width, height)?;
-    put_bytes(text, b" rx=\"5\"/>")
+    put_bytes(text, b" rx=\"5\"></rect>")
 }
 
 #[tactic(auto, unfolding(crate::specs::Svg::box_texts))]
@@ -244,16 +245,23 @@ fn put_threads(
     Ok(())
 }
 
-#[tactic(auto, unfolding(crate::specs::Svg::path_text))]
-fn put_paths(text: &mut Vec<u8>, arrow: Arrow) -> Result<(), AllocError>
-    ensures { OnOk result (text.new.items ≡ text.old.items ++ path_text arrow) }
+#[tactic(auto, unfolding(crate::specs::Svg::line_path))]
+fn put_line_path(text: &mut Vec<u8>, arrow: Arrow) -> Result<(), AllocError>
+    ensures { OnOk result (text.new.items ≡ text.old.items ++ line_path arrow) }
 {
     put_bytes(text, b"<path class=\"l\" d=\"")?;
     put_path(text, arrow)?;
-    put_bytes(text, b"\"/><path class=\"h\" d=\"M")?;
+    put_bytes(text, b"\"></path>")
+}
+
+#[tactic(auto, unfolding(crate::specs::Svg::head_path))]
+fn put_head_path(text: &mut Vec<u8>, arrow: Arrow) -> Result<(), AllocError>
+    ensures { OnOk result (text.new.items ≡ text.old.items ++ head_path arrow) }
+{
+    put_bytes(text, b"<path class=\"h\" d=\"M")?;
     put_pair(text, u64::from(arrow.end.x), u64::from(arrow.end.y))?;
     put_bytes(text, head_bytes(arrow))?;
-    put_bytes(text, b"\"/>")
+    put_bytes(text, b"\"></path>")
 }
 
 #[tactic(auto, unfolding(crate::specs::Svg::line_text))]
@@ -263,7 +271,8 @@ fn put_line(text: &mut Vec<u8>, line: &Line, arrow: Arrow) -> Result<(), AllocEr
     put_bytes(text, b"<g class=\"")?;
     put_bytes(text, line_class(line.ink, line.is_thick))?;
     put_bytes(text, b"\">")?;
-    put_paths(text, arrow)?;
+    put_line_path(text, arrow)?;
+    put_head_path(text, arrow)?;
     put_bytes(text, b"</g>")
 }
 
@@ -365,12 +374,20 @@ fn put_boxes(text: &mut Vec<u8>, picture: &Picture, layout: &Layout) -> Result<(
     put_threads(text, layout, &picture.threads)
 }
 
-/// Appends a picture that has this layout. Errors: want of memory.
+/// Appends a picture that has this layout. `style` is a `<style>` element where the picture stands
+/// alone, and empty in a page that has one. Errors: want of memory.
 #[tactic(auto, unfolding(crate::specs::Svg::svg_text))]
-pub fn put_svg(text: &mut Vec<u8>, picture: &Picture, layout: &Layout) -> Result<(), AllocError>
-    ensures { OnOk result (text.new.items ≡ text.old.items ++ svg_text picture.now layout.now) }
+pub fn put_svg(
+    text: &mut Vec<u8>,
+    style: &[u8],
+    picture: &Picture,
+    layout: &Layout,
+) -> Result<(), AllocError>
+    ensures { OnOk result (text.new.items
+        ≡ text.old.items ++ svg_text style.now picture.now layout.now) }
 {
     put_head(text, layout, &picture.title)?;
+    put_bytes(text, style)?;
     put_grounds(text, layout, &picture.threads)?;
     put_lines(text, &picture.lines, &layout.arrows)?;
     put_boxes(text, picture, layout)?;

@@ -2,8 +2,8 @@
 //! of draw_layout. Other crates cite `put_svg`.
 #![tactic(auto)]
 
+mod bytes;
 mod element;
-mod escape;
 mod path;
 
 pub use element::put_svg;

@@ -3,7 +3,7 @@
 ghost use Rattle.std.specs.Prelude.{◌≡◌, ◌++◌, OnOk};
 ghost use Rattle.draw_svg.specs.Paths.{toward, pair, start_at, level_to, upright_to, round, level_turn, upright_turn, last_piece, spine_path, curve, near_path, beside_path, from_lane, to_lane, far_path, from_store_path, to_store_path, path_on, side_head, head_on};
 
-use crate::escape::{put_bytes, put_number};
+use crate::bytes::{put_bytes, put_number};
 use draw_layout::{Arrow, Course, Point};
 use std::alloc::AllocError;
 

@@ -17,7 +17,7 @@ blank_below b = if b == 9 then 9 else 32
 
 -- the line before the end of these bytes, at most its last 100
 abbrev pub line_before : List ℕ → List ℕ
-line_before front = drop (length front - min (count_behind 10 front) 100) front
+line_before prefix = drop (length prefix - min (count_behind 10 prefix) 100) prefix
 
 -- the line from the start of these bytes on, at most its first 100
 abbrev pub line_behind : List ℕ → List ℕ
@@ -25,9 +25,9 @@ line_behind rest = take (min (position_or_len is_line_end rest) 100) rest
 
 -- the line of an offset, and a mark below its byte
 unfoldable pub picture : List ℕ → List ℕ → List ℕ
-picture front rest =
-    map shown_byte (line_before front) ++ map shown_byte (line_behind rest) ++ codes "\n"
-    ++ map blank_below (line_before front) ++ codes "^\n"
+picture prefix rest =
+    map shown_byte (line_before prefix) ++ map shown_byte (line_behind rest) ++ codes "\n"
+    ++ map blank_below (line_before prefix) ++ codes "^\n"
 
 -- ---- what stands there
 

@@ -11,7 +11,7 @@ litmus_words number =
     else (if number == 4 then codes "an entry of the init block must not begin with a type"
     else (if number == 5 then codes "the header must name the threads in order, from `P0` on"
     else (if number == 6 then codes "a row must have as many cells as the header"
-    else (if number == 7 then codes "a cell must hold a known instruction or a label"
+    else (if number == 7 then codes "a cell must hold a known instruction or a label, and a condition must follow the cells"
     else (if number == 8 then codes "`r0` must not be the first address register, where it means 0"
     else (if number == 9 then codes "an offset must be 0"
     else (if number == 10 then codes

@@ -7,6 +7,7 @@ mod line;
 mod position;
 mod words;
 
+pub use found::{MOST_SHOWN, put_shown};
 pub use line::{put_fault_lines, put_rule};
-pub use position::{count_behind, put_position};
+pub use position::{Position, count_behind, position_of, put_position};
 pub use words::rule_words;

@@ -8,11 +8,11 @@ use crate::position::{count_behind, put_position};
 use std::alloc::AllocError;
 use text_values::{line_length, put_bytes, put_decimal};
 
-fn line_before(front: &[u8]) -> &[u8]
-    ensures { result.now ≡ line_before front.now }
+fn line_before(prefix: &[u8]) -> &[u8]
+    ensures { result.now ≡ line_before prefix.now }
 {
-    let length = count_behind(front, b'\n').min(MOST_SHOWN);
-    &front[front.len() - length..]
+    let length = count_behind(prefix, b'\n').min(MOST_SHOWN);
+    &prefix[prefix.len() - length..]
 }
 
 fn line_behind(rest: &[u8]) -> &[u8]
@@ -23,10 +23,10 @@ fn line_behind(rest: &[u8]) -> &[u8]
 }
 
 #[tactic(auto, unfolding(crate::specs::Lines::picture))]
-fn put_picture(lines: &mut Vec<u8>, front: &[u8], rest: &[u8]) -> Result<(), AllocError>
-    ensures { OnOk result (lines.new.items ≡ lines.old.items ++ picture front.now rest.now) }
+fn put_picture(lines: &mut Vec<u8>, prefix: &[u8], rest: &[u8]) -> Result<(), AllocError>
+    ensures { OnOk result (lines.new.items ≡ lines.old.items ++ picture prefix.now rest.now) }
 {
-    let before = line_before(front);
+    let before = line_before(prefix);
     put_shown(lines, before)?;
     put_shown(lines, line_behind(rest))?;
     put_bytes(lines, b"\n")?;
@@ -71,9 +71,9 @@ pub fn put_fault_lines(
     ensures { OnOk result (lines.new.items
         ≡ lines.old.items ++ fault_lines path.now text.now letter number words.now offset) }
 {
-    let (front, rest) = text.split_at(offset.min(text.len()));
+    let (prefix, rest) = text.split_at(offset.min(text.len()));
     put_position(lines, path, text, offset)?;
     put_rule(lines, letter, number, words)?;
     put_what_is_found(lines, rest, offset)?;
-    put_picture(lines, front, rest)
+    put_picture(lines, prefix, rest)
 }

@@ -49,6 +49,28 @@ fn put_label(text: &mut Vec<u8>, path: &[u8], line: u64, column: u64) -> Result<
     put_bytes(text, b": ")
 }
 
+/// A line and a column of a text, both from 1, the column in bytes.
+#[derive(Clone, Copy, Debug, PartialEq, Eq)]
+pub struct Position {
+    /// The line.
+    pub line: u64,
+    /// The column.
+    pub column: u64,
+}
+
+/// Where an offset of a text is; behind its end, where that is.
+pub fn position_of(text: &[u8], offset: usize) -> Position
+    ensures line { result.line ≡ line_number text.now offset }
+    ensures column { result.column ≡ column_number text.now offset }
+{
+    let end = offset.min(text.len());
+    let before = &text[..end];
+    Position {
+        line: count_line_ends(before) as u64 + 1,
+        column: count_behind(before, b'\n') as u64 + 1,
+    }
+}
+
 /// Appends a path and the line and the column of an offset of a text, both from 1, the column in
 /// bytes. Errors: out of memory.
 pub fn put_position(
@@ -62,9 +84,6 @@ pub fn put_position(
         ++ position_label path.now (line_number text.now offset)
         (column_number text.now offset)) }
 {
-    let end = offset.min(text.len());
-    let before = &text[..end];
-    let line = count_line_ends(before) as u64 + 1;
-    let column = count_behind(before, b'\n') as u64 + 1;
-    put_label(lines, path, line, column)
+    let position = position_of(text, offset);
+    put_label(lines, path, position.line, position.column)
 }

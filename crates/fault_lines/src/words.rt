@@ -14,7 +14,8 @@ fn litmus_words(number: u8) -> &'static str
         4 => "an entry of the init block must not begin with a type",
         5 => "the header must name the threads in order, from `P0` on",
         6 => "a row must have as many cells as the header",
-        7 => "a cell must hold a known instruction or a label",
+        7 =>
+            "a cell must hold a known instruction or a label, and a condition must follow the cells",
         8 => "`r0` must not be the first address register, where it means 0",
         9 => "an offset must be 0",
         10 =>

@@ -7,7 +7,8 @@ use Rattle.binding_kinds.specs.Value.{Naming, BareItem, bare_item}
 use Rattle.binding_kinds.specs.Senses.{Sense}
 use Rattle.binding_kinds.specs.Faults.{IsFault, names_after, senses_after}
 use Rattle.fault_places.specs.declared.place.ItemFault.{ItemFault}
-use Rattle.fault_places.specs.Found.{outermost, IsItemFault}
+use Rattle.fault_places.specs.Found.{IsItemFault}
+use Rattle.binding_kinds.specs.Outermost.{outermost_names}
 
 item_below : (ss : List Sense) (names : List Naming) (from : ℕ) (cs : List BareItem) (i p : ℕ)
     (k : ModelFault) → IsFault ss names from cs i p k → i < length cs
@@ -24,7 +25,7 @@ item_below ss names from (c ∷ cs) i p k h = elim h [
 pub place_below : (items : List Item) (place : ItemFault) → IsItemFault (map bare_item items) place
     → place.item < length items
 place_below items place h =
-    let b = item_below [] outermost 0 (map bare_item items) h.first.item h.first.index place.fault h.first.there in
+    let b = item_below [] outermost_names 0 (map bare_item items) h.first.item h.first.index place.fault h.first.there in
     let e = h.item_is in
     let l = length-map items bare_item in
     omega (arith, b, e, l)

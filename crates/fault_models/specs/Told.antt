@@ -10,7 +10,8 @@ use Rattle.binding_kinds.specs.Numbers.{number as fault_number}
 use Rattle.binding_kinds.specs.Value as kinds
 use Rattle.binding_kinds.specs.Faults.{HasNoFault}
 use Rattle.fault_places.specs.declared.place.ItemFault.{ItemFault}
-use Rattle.fault_places.specs.Found.{outermost, IsItemFault}
+use Rattle.fault_places.specs.Found.{IsItemFault}
+use Rattle.binding_kinds.specs.Outermost.{outermost_names}
 use Rattle.fault_lines.specs.Words.{rule_words}
 use Rattle.fault_lines.specs.Lines.{rule_said}
 
@@ -30,7 +31,7 @@ fault_told name number fault sign item =
 -- nothing of a model without fault, and of another what its first fault is and where it stands
 pub data IsModelFaultText (name : List ℕ) (numbers : List ℕ) (items : List Item) (text : List ℕ)
     : Type 0 where
-  IsFaultless : HasNoFault [] outermost 0 (map kinds.bare_item items) → text ≡ []
+  IsFaultless : HasNoFault [] outermost_names 0 (map kinds.bare_item items) → text ≡ []
       → IsModelFaultText name numbers items text
   IsFaulty : (place : ItemFault) → IsItemFault (map kinds.bare_item items) place → (item : Item)
       → slice_get items place.item ≡ Some item

@@ -4,21 +4,21 @@ use Rattle.std.specs.Prelude.{option_map}
 use Rattle.text_values.specs.declared.predefined.TheConstants.{PREDEFINED}
 use Rattle.binding_kinds.specs.declared.function.Function.{Function}
 use Rattle.binding_kinds.specs.declared.scope.Entry.{Entry}
-use Rattle.binding_kinds.specs.Outermost.{naming_of}
+use Rattle.binding_kinds.specs.Outermost.{naming_of, outermost_names}
 use Rattle.binding_kinds.specs.Value.{Naming, BareItem, entry_of}
 use Rattle.binding_kinds.specs.Senses.{Sense, HaveSenses}
 use Rattle.fault_places.specs.declared.place.ItemFault.{ItemFault}
-use Rattle.fault_places.specs.Found.{outermost, IsFirstItemFault}
+use Rattle.fault_places.specs.Found.{IsFirstItemFault}
 use Rattle.fault_places.specs.Search.{IndexedFault, indexed_fault_of, first_fault_in_items}
 use Rattle.fault_places.proofs.Signing.{IsPlaced, ArePlaced, items_are_placed}
 
 found_of : (items : List BareItem) (o : Option ItemFault)
-    → option_map indexed_fault_of o ≡ first_fault_in_items [] outermost 0 items → IsFirstItemFault items o
+    → option_map indexed_fault_of o ≡ first_fault_in_items [] outermost_names 0 items → IsFirstItemFault items o
 found_of items None e =
-    subst (λ (p : Option IndexedFault). ArePlaced [] outermost 0 items p) (sym e)
-    (items_are_placed [] outermost 0 items)
+    subst (λ (p : Option IndexedFault). ArePlaced [] outermost_names 0 items p) (sym e)
+    (items_are_placed [] outermost_names 0 items)
 found_of items (Some x) e =
-    let p : IsPlaced [] outermost 0 items (indexed_fault_of x) = subst (λ (p : Option IndexedFault). ArePlaced [] outermost 0 items p) (sym e) (items_are_placed [] outermost 0 items) in
+    let p : IsPlaced [] outermost_names 0 items (indexed_fault_of x) = subst (λ (p : Option IndexedFault). ArePlaced [] outermost_names 0 items p) (sym e) (items_are_placed [] outermost_names 0 items) in
     record { first = p.first; item_is = let i = p.item_is in omega (arith, i); sign_is = p.sign_is }
 
 pub found_in : {E : Type 0} (es : List Entry) (fs : List Function) (items : List BareItem)

@@ -59,11 +59,11 @@ later_stays n a b k l h =
     elim h [ inl lt ↦ inl (omega arith) | inr (e, r) ↦ inr (ap (λ (x : ℕ). n + x) e, r) ]
 
 -- the signs of a part stand in front
-front : (F : ℕ → ModelFault → Type 0) (xs zs : List (List ℕ)) (o : Option SignedFault)
+prefix : (F : ℕ → ModelFault → Type 0) (xs zs : List (List ℕ)) (o : Option SignedFault)
     → ((i : ℕ) (s : List ℕ) → slice_get xs i ≡ Some s → slice_get zs i ≡ Some s) → Shows F xs o
     → Shows F zs o
-front F xs zs None at h = h
-front F xs zs (Some s) at h = (h.0, at h.0.index s.sign h.1)
+prefix F xs zs None at h = h
+prefix F xs zs (Some s) at h = (h.0, at h.0.index s.sign h.1)
 
 -- or further on
 behind : (F : ℕ → ModelFault → Type 0) (n : ℕ) (ys zs : List (List ℕ)) (o : Option SignedFault)
@@ -88,11 +88,11 @@ at_sign : (F : ℕ → ModelFault → Type 0) (n : ℕ) (zs : List (List ℕ)) (
 at_sign F n zs sign None here at h = h
 at_sign F n zs sign (Some k) here at h = (h, ap (slice_get zs) (here h.index k h.there) ∙ at)
 
-get_front : (xs ys : List (List ℕ)) (i : ℕ) (s : List ℕ) → slice_get xs i ≡ Some s
+get_prefix : (xs ys : List (List ℕ)) (i : ℕ) (s : List ℕ) → slice_get xs i ≡ Some s
     → slice_get (xs ++ ys) i ≡ Some s
-get_front [] ys i s e = absurd (let f : None ≡ Some s = e in cc)
-get_front (x ∷ xs) ys zero s e = e
-get_front (x ∷ xs) ys (suc i) s e = get_front xs ys i s e
+get_prefix [] ys i s e = absurd (let f : None ≡ Some s = e in cc)
+get_prefix (x ∷ xs) ys zero s e = e
+get_prefix (x ∷ xs) ys (suc i) s e = get_prefix xs ys i s e
 
 next_at : (x : List ℕ) (xs : List (List ℕ)) (i : ℕ) → slice_get (x ∷ xs) (1 + i) ≡ slice_get xs i
 next_at x xs i = ap (slice_get (x ∷ xs)) (let a : 1 + i ≡ suc i = omega arith in a)
@@ -202,7 +202,7 @@ mutual
       let zs = signs a ++ infix_sign op ∷ signs b in
       turn _ _ (width a) zs _ _ (inside ss names from under a)
       (λ p k h. elim h [ inl s ↦ omega (arith, s.0) | inr (after, e, f) ↦ omega (arith, e) ])
-      (front _ (signs a) zs _ (get_front (signs a) (infix_sign op ∷ signs b))
+      (prefix _ (signs a) zs _ (get_prefix (signs a) (infix_sign op ∷ signs b))
       (shown ss names from under a))
       (turn _ _ (width a + 1) zs _ _ (λ p k s. omega (arith, s.0))
       (λ p k (after, e, f). omega (arith, e))
@@ -215,7 +215,7 @@ mutual
   shown ss names from under (Mark op a) =
       let zs = signs a ++ postfix_sign op ∷ [] in
       turn _ _ (width a) zs _ _ (inside ss names from under a) (λ p k s. omega (arith, s.0))
-      (front _ (signs a) zs _ (get_front (signs a) (postfix_sign op ∷ []))
+      (prefix _ (signs a) zs _ (get_prefix (signs a) (postfix_sign op ∷ []))
       (shown ss names from under a))
       (at_sign _ (width a) zs (postfix_sign op) _ (λ p k h. h.0)
       (get_here (signs a) (postfix_sign op) [] (width a) (wide a))
@@ -246,7 +246,7 @@ mutual
       let zs = signs a ++ signs_of_all others in
       turn _ _ (width a) zs _ _ (inside ss names from (under || under_at i) a)
       (λ p k (after, e, f). omega (arith, e))
-      (front _ (signs a) zs _ (get_front (signs a) (signs_of_all others))
+      (prefix _ (signs a) zs _ (get_prefix (signs a) (signs_of_all others))
       (shown ss names from (under || under_at i) a))
       (behind (IsFaultAmong ss names from under under_at (suc i) others) (width a)
       (signs_of_all others) zs _
@@ -326,7 +326,7 @@ shown_group ss names from recursive earlier (b ∷ bs) =
     omega (arith, e, lt))
     (λ p k (after, e, f). omega (arith, e))
     (behind (IsFaultAt ss names from false b.body) 1 (xs ++ ys) zs _ (next_at b.name (xs ++ ys))
-    (front _ xs (xs ++ ys) _ (get_front xs ys) (shown ss names from false b.body)))
+    (prefix _ xs (xs ++ ys) _ (get_prefix xs ys) (shown ss names from false b.body)))
     (behind (IsFaultIn ss names from recursive (b.name ∷ earlier) bs) (1 + width b.body) ys zs _
     (λ i. ap (slice_get zs) (
     let a : 1 + width b.body + i ≡ 1 + (width b.body + i) = omega arith in
@@ -456,14 +456,14 @@ mutual
   shown_body ss names ps (Join op a b) =
       let zs = signs a ++ infix_sign op ∷ signs b in
       turn _ _ (width a) zs _ _ (inside_body ss names ps a) (λ p k (after, e, f). omega (arith, e))
-      (front _ (signs a) zs _ (get_front (signs a) (infix_sign op ∷ signs b))
+      (prefix _ (signs a) zs _ (get_prefix (signs a) (infix_sign op ∷ signs b))
       (shown_body ss names ps a))
       (behind (IsFaultOfBody ss names ps b) (width a + 1) (signs b) zs _
       (λ i. get_next (signs a) (infix_sign op) (signs b) (width a) i (wide a))
       (shown_body ss names ps b))
   shown_body ss names ps (Mark op a) =
-      front _ (signs a) (signs a ++ postfix_sign op ∷ []) _
-      (get_front (signs a) (postfix_sign op ∷ [])) (shown_body ss names ps a)
+      prefix _ (signs a) (signs a ++ postfix_sign op ∷ []) _
+      (get_prefix (signs a) (postfix_sign op ∷ [])) (shown_body ss names ps a)
   shown_body ss names ps (Not a) =
       behind (IsFaultOfBody ss names ps a) 1 (signs a) (signs (Not a)) _
       (next_at (codes "~") (signs a)) (shown_body ss names ps a)
@@ -485,7 +485,7 @@ mutual
   shown_bodies ss names ps (OneMore a others) =
       let zs = signs a ++ signs_of_all others in
       turn _ _ (width a) zs _ _ (inside_body ss names ps a) (λ p k (after, e, f). omega (arith, e))
-      (front _ (signs a) zs _ (get_front (signs a) (signs_of_all others))
+      (prefix _ (signs a) zs _ (get_prefix (signs a) (signs_of_all others))
       (shown_body ss names ps a))
       (behind (IsFaultOfBodies ss names ps others) (width a) (signs_of_all others) zs _
       (λ n. get_behind (signs a) (signs_of_all others) (width a) n (wide a))
@@ -509,7 +509,7 @@ shown_item ss names item Mute = λ p k h. absurd h
 shown_item ss names item (Defined n ps b) =
     turn _ _ (length ps) (ps ++ signs b) _ _ (inside_parameters [] ps)
     (λ p k (after, h, f). omega (arith, h))
-    (front _ ps (ps ++ signs b) _ (get_front ps (signs b)) (shown_parameters [] ps))
+    (prefix _ ps (ps ++ signs b) _ (get_prefix ps (signs b)) (shown_parameters [] ps))
     (behind (IsFaultOfBody ss names ps b) (length ps) (signs b) (ps ++ signs b) _
     (λ i. get_behind ps (signs b) (length ps) i refl) (shown_body ss names ps b))
 

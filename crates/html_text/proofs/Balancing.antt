@@ -53,21 +53,21 @@ safe_in_quotes name around (b ∷ bs) safe =
     ap (λ r. behind r bs) (cond-false (b == 34) (Attributes name around) (Quoted name around) ((safe_is_no_markup b parts.0).1))
     ∙ safe_in_quotes name around bs parts.1
 
-front_is_safe : (text before after : List ℕ) → escaped text ≡ before ++ after
+prefix_is_safe : (text before after : List ℕ) → escaped text ≡ before ++ after
     → list_all is_safe before ≡ true
-front_is_safe text before after is =
+prefix_is_safe text before after is =
     let whole = subst (λ (t : List ℕ). list_all is_safe t ≡ true) is (all_safe text) in
     (and_parts _ _ (sym (list_all-append is_safe before after) ∙ whole)).0
 
 pub stays_in_content : (text before after : List ℕ) (around : Names) → escaped text ≡ before ++ after
     → behind (Content around) before ≡ Content around
 stays_in_content text before after around is =
-    safe_in_content around before (front_is_safe text before after is)
+    safe_in_content around before (prefix_is_safe text before after is)
 
 pub stays_in_quotes : (text before after name : List ℕ) (around : Names)
     → escaped text ≡ before ++ after → behind (Quoted name around) before ≡ Quoted name around
 stays_in_quotes text before after name around is =
-    safe_in_quotes name around before (front_is_safe text before after is)
+    safe_in_quotes name around before (prefix_is_safe text before after is)
 
 pub text_is_balanced : (text : List ℕ) → IsBalanced (escaped text)
 text_is_balanced text around = safe_in_content around (escaped text) (all_safe text)
@@ -77,23 +77,23 @@ text_is_balanced text around = safe_in_content around (escaped text) (all_safe t
 letter_is_high : (b : ℕ) → is_name_letter b ≡ true → 97 ≤ b
 letter_is_high b letter = leb-true 97 b ((and_parts _ _ letter).0)
 
-name_grows : (front name : List ℕ) (around : Names) → list_all is_name_byte name ≡ true
-    → behind (Opening front around) name ≡ Opening (front ++ name) around
-name_grows front [] around letters = ap (λ n. Opening n around) (sym (append-nil front))
-name_grows front (b ∷ bs) around letters =
+name_grows : (prefix name : List ℕ) (around : Names) → list_all is_name_byte name ≡ true
+    → behind (Opening prefix around) name ≡ Opening (prefix ++ name) around
+name_grows prefix [] around letters = ap (λ n. Opening n around) (sym (append-nil prefix))
+name_grows prefix (b ∷ bs) around letters =
     let parts = and_parts _ _ letters in
     ap (λ r. behind r bs) (cond-true (is_name_byte b) _ _ parts.0)
-    ∙ name_grows (front ++ b ∷ []) bs around parts.1
-    ∙ ap (λ n. Opening n around) (append_assoc front (b ∷ []) bs)
+    ∙ name_grows (prefix ++ b ∷ []) bs around parts.1
+    ∙ ap (λ n. Opening n around) (append_assoc prefix (b ∷ []) bs)
 
-ending_grows : (front name : List ℕ) (around : Names) → list_all is_name_byte name ≡ true
-    → behind (Closing front around) name ≡ Closing (front ++ name) around
-ending_grows front [] around letters = ap (λ n. Closing n around) (sym (append-nil front))
-ending_grows front (b ∷ bs) around letters =
+ending_grows : (prefix name : List ℕ) (around : Names) → list_all is_name_byte name ≡ true
+    → behind (Closing prefix around) name ≡ Closing (prefix ++ name) around
+ending_grows prefix [] around letters = ap (λ n. Closing n around) (sym (append-nil prefix))
+ending_grows prefix (b ∷ bs) around letters =
     let parts = and_parts _ _ letters in
     ap (λ r. behind r bs) (cond-true (is_name_byte b) _ _ parts.0)
-    ∙ ending_grows (front ++ b ∷ []) bs around parts.1
-    ∙ ap (λ n. Closing n around) (append_assoc front (b ∷ []) bs)
+    ∙ ending_grows (prefix ++ b ∷ []) bs around parts.1
+    ∙ ap (λ n. Closing n around) (append_assoc prefix (b ∷ []) bs)
 
 letter_opens : (b : ℕ) (around : Names) → is_name_letter b ≡ true
     → step (Angle around) b ≡ Opening (b ∷ []) around
@@ -224,10 +224,10 @@ pub element_is_balanced : (name inside : List ℕ) (attributes : List Attribute)
     → IsBalanced inside → IsBalanced (element name attributes inside)
 unfolding element
 element_is_balanced name inside attributes is pair named balanced around =
-    let front = open_tag name attributes in
+    let prefix = open_tag name attributes in
     let opens = tag_opens name attributes around is named ∙ cond-false (is_void name) (Content around) (Content (name ∷ around)) pair in
-    fold-append step (Content around) (front ++ inside) (close_tag name)
-    ∙ ap (λ r. behind r (close_tag name)) (fold-append step (Content around) front inside
+    fold-append step (Content around) (prefix ++ inside) (close_tag name)
+    ∙ ap (λ r. behind r (close_tag name)) (fold-append step (Content around) prefix inside
     ∙ ap (λ r. behind r inside) opens ∙ balanced (name ∷ around))
     ∙ tag_closes name around is
 

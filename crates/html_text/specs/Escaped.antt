@@ -24,8 +24,8 @@ escaped text = flat_map escaped_byte text
 
 abbrev pub begins_with : List ℕ → List ℕ → Bool
 begins_with [] text = true
-begins_with (a ∷ front) [] = false
-begins_with (a ∷ front) (b ∷ text) = a == b && begins_with front text
+begins_with (a ∷ prefix) [] = false
+begins_with (a ∷ prefix) (b ∷ text) = a == b && begins_with prefix text
 
 -- a byte that is not shown is read as a question mark
 abbrev pub shown_byte : ℕ → ℕ

@@ -5,7 +5,7 @@ use Rattle.std.specs.List.{flat_map, list_any}
 use Rattle.std.specs.declared.cmp.Ordering.{Ordering}
 use Rattle.std.specs.declared.cmp.Ordering.TheVariants.{Less, Equal, Greater}
 use Rattle.binding_kinds.specs.Numbers.{number as fault_number}
-use Rattle.candidates.specs.Faults.{number as refusal_number}
+use Rattle.ppc_semantics.specs.Numbers.{number as refusal_number}
 use Rattle.verdict.specs.declared.answer.CountedState.{CountedState}
 use Rattle.verdict.specs.declared.answer.Evaluation.{Evaluation}
 use Rattle.verdict.specs.declared.answer.OutcomeResult.{OutcomeResult}

@@ -4,7 +4,7 @@ use Rattle.std.specs.List.{flat_map}
 use Rattle.text_values.specs.declared.test.Quantifier.{Quantifier}
 use Rattle.text_values.specs.declared.test.Quantifier.TheVariants.{Exists, NotExists, Forall}
 use Rattle.binding_kinds.specs.Numbers.{number as fault_number}
-use Rattle.candidates.specs.Faults.{number as refusal_number}
+use Rattle.ppc_semantics.specs.Numbers.{number as refusal_number}
 use Rattle.verdict.specs.declared.answer.CountedState.{CountedState}
 use Rattle.verdict.specs.declared.answer.Evaluation.{Evaluation}
 use Rattle.verdict.specs.declared.answer.Observation.{Observation}

@@ -3,7 +3,7 @@
 ghost use Rattle.std.specs.Prelude.{◌≡◌, ◌∷◌, ◌++◌, ◌+◌, ◌<◌, [], IfOk, OnOk, IfSome, MatchOption, filter, length, map};
 ghost use Rattle.std.specs.List.{flat_map, list_any};
 ghost use Rattle.outcome_texts.specs.Cells.{cell_of};
-ghost use Rattle.outcome_texts.specs.Differences.{merged, has_other_count, is_same_refusal, flag_lines, evaluations_differ, results_differ, cells_differ, states_of, pair_of, is_told_apart, shared_line, state_difference, state_differences, pair_line, test_difference, difference_line, difference_of};
+ghost use Rattle.outcome_texts.specs.Differences.{merged, has_other_count, is_same_refusal, flag_lines, evaluations_differ, results_differ, cells_differ, states_of, shared_states, pair_of, is_told_apart, shared_line, state_difference, state_differences, pair_line, test_difference, difference_line, difference_of};
 
 use crate::cell::{Shown, put_cell};
 use crate::log::put_flags;
@@ -26,10 +26,13 @@ pub struct TestPair<'a> {
 
 /// A state, and its count in either cell: 0 in a cell that has no such state.
 #[derive(Drop)]
-struct SharedState<'a> {
-    text: &'a [u8],
-    first: u64,
-    second: u64,
+pub struct SharedState<'a> {
+    /// The printed state.
+    pub text: &'a [u8],
+    /// The count in the first cell.
+    pub first: u64,
+    /// The count in the second cell.
+    pub second: u64,
 }
 
 impl<'a> Model for SharedState<'a> {
@@ -157,7 +160,8 @@ fn merged<'a>(
     Ok(states)
 }
 
-fn has_other_count(state: &SharedState<'_>) -> bool
+/// Whether the two counts of a state differ.
+pub fn has_other_count(state: &SharedState<'_>) -> bool
     ensures { result ≡ has_other_count state.now }
 {
     state.first != state.second
@@ -221,7 +225,9 @@ fn results_differ(
     }
 }
 
-fn cells_differ(alloc: Global, first: Shown<'_>, second: Shown<'_>) -> Result<bool, AllocError>
+/// Whether two cells of a test differ: their kinds, refusals, counts or flags. Errors: want of
+/// memory.
+pub fn cells_differ(alloc: Global, first: Shown<'_>, second: Shown<'_>) -> Result<bool, AllocError>
     ensures { IfOk result (λ b. b ≡ cells_differ (cell_of first.entry) (cell_of second.entry)) }
 {
     match (first, second) {
@@ -244,6 +250,19 @@ fn states_of<'a>(cell: Shown<'a>) -> &'a [CountedState]
         },
         _ => &[],
     }
+}
+
+/// The states of two cells as one list that rises, each with its count in either cell. Errors: want
+/// of memory.
+pub fn shared_states<'a>(
+    alloc: Global,
+    first: Shown<'a>,
+    second: Shown<'a>,
+) -> Result<Vec<SharedState<'a>>, AllocError>
+    ensures { IfOk result (λ v. v.items
+        ≡ shared_states (cell_of first.entry) (cell_of second.entry)) }
+{
+    merged(alloc, states_of(first), states_of(second))
 }
 
 fn put_shared(text: &mut Vec<u8>, state: &SharedState<'_>) -> Result<(), AllocError>
@@ -299,7 +318,7 @@ fn put_test(alloc: Global, text: &mut Vec<u8>, test: &TestPair<'_>) -> Result<bo
         return Ok(false);
     }
     put_pair(text, test)?;
-    let states = merged(alloc, states_of(test.first), states_of(test.second))?;
+    let states = shared_states(alloc, test.first, test.second)?;
     put_states(text, &states)?;
     Ok(true)
 }

@@ -8,7 +8,9 @@ mod difference;
 mod log;
 mod table;
 
-pub use cell::{Shown, counts_text, log_text};
-pub use difference::{TestPair, difference_text};
-pub use log::outcome_log;
+pub use cell::{Shown, counts_text, log_text, put_cell};
+pub use difference::{
+    SharedState, TestPair, cells_differ, difference_text, has_other_count, shared_states,
+};
+pub use log::{observation_word, outcome_log, put_refusal};
 pub use table::{TestRow, table_text};

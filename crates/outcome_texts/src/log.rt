@@ -19,8 +19,9 @@ fn kind_word(kind: Quantifier) -> &'static [u8]
     }
 }
 
+/// The word of an observation.
 #[tactic(auto, unfolding(crate::specs::Log::observation_word))]
-fn observation_word(observation: Observation) -> &'static [u8]
+pub fn observation_word(observation: Observation) -> &'static [u8]
     ensures { result.now ≡ observation_word observation }
 {
     match observation {

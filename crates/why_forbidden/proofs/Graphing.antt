@@ -1,10 +1,9 @@
 -- The graph of an execution, and the drawings one after another.
 use Rattle.std.proofs.Common.{ℕ, ◌≡◌, ◌<◌, ◌≤◌, ◌+◌, ◌↔◌, ◌∙◌, List, [], ◌∷◌, ◌++◌, Bool, true, false, length, get_or, sym, ap, subst, arith}
-use Rattle.std.specs.Prelude.{not, Option, Some, option_map}
+use Rattle.std.specs.Prelude.{drop, nat_lt, not, Option, Some, option_map}
 use Rattle.std.specs.List.{All}
 use Rattle.std.specs.Option.{is_none, is_some}
-use Rattle.std.proofs.lemmas.Grind.{flat_map-append}
-use Rattle.std.proofs.lemmas.List.{append-nil, length-append, length-map}
+use Rattle.std.proofs.lemmas.List.{length-append, length-map}
 use Rattle.std.proofs.lemmas.Option.{same_Some, slice_get-map, slice_get_within}
 use Rattle.std.proofs.lemmas.Slice.Zip.{AllZip-long}
 use Rattle.bit_relations.specs.Relation.{Events, IsEvents, IsMember}
@@ -18,11 +17,12 @@ use Rattle.text_values.specs.declared.predefined.TheConstants.{PREDEFINED}
 use Rattle.draw_graph.specs.declared.drawing.Cluster.{Cluster}
 use Rattle.draw_graph.specs.declared.drawing.Drawing.{Drawing}
 use Rattle.draw_graph.specs.Drawn.{IsDrawnEvent}
-use Rattle.draw_graph.specs.Texts.{drawing_text}
+use Rattle.draw_scene.proofs.Texts.{texts_on}
 use Rattle.text_values.specs.declared.test.Test.{Test}
 use Rattle.text_values.specs.TestValue.{formula_of}
 use Rattle.from_scratch.specs.Answers.{AreSoundItems}
-use Rattle.from_scratch.specs.FromScratch.{AreItemsOf, IsFaultless, bare_items, outermost}
+use Rattle.from_scratch.specs.FromScratch.{AreItemsOf, IsFaultless, bare_items}
+use Rattle.binding_kinds.specs.Outermost.{outermost_names}
 use Rattle.from_scratch.proofs.Knowing.{item_at}
 use Rattle.from_scratch.proofs.Ordered.{resolved_ordered}
 use Rattle.from_scratch.proofs.Rising.{resolved_rising}
@@ -31,10 +31,11 @@ use Rattle.run_combinations.specs.declared.combination.Event.{Event}
 use Rattle.verdict.specs.Evaluated.{is_satisfied}
 use Rattle.why_forbidden.specs.declared.checks.CheckValues.{CheckValues}
 use Rattle.why_forbidden.specs.declared.checks.FirstRefusal.{FirstRefusal}
+use Rattle.why_forbidden.specs.declared.drawing.DrawRequest.{DrawRequest}
 use Rattle.why_forbidden.specs.declared.drawing.Wanted.{Wanted}
 use Rattle.why_forbidden.specs.Checked.{IsChecked}
 use Rattle.why_forbidden.specs.Drawable.{AddsDrawing}
-use Rattle.why_forbidden.specs.Drawings.{AreBoxesOf, AreClusters, AreDrawings, IsCandidateAt, OneDrawn, OneLeft, OneTooMany, Subject, drawings_text, has_asked, is_execution_wanted}
+use Rattle.why_forbidden.specs.Drawings.{AreBoxesOf, AreClusters, AreDrawings, AreTextsOf, IsCandidateAt, OneDrawn, OneLeft, OneTooMany, Subject, has_asked, is_execution_wanted}
 use Rattle.why_forbidden.specs.Told.{Scene}
 
 -- ---- one execution
@@ -61,9 +62,9 @@ pub events_shown : (space : Space) (k : ℕ) (e : Execution) (one : Candidate) �
 events_shown space k e one shown is = ap (λ (s : Shown). s.events) (shown_at space k e one shown is)
 
 pub sources_shown : (space : Space) (k : ℕ) (e : Execution) (one : Candidate) → IsShownAt space k e
-    → IsCandidateAt space k one → e.sources.items ≡ one.1.0
+    → IsCandidateAt space k one → e.reads_from.items ≡ one.1.0
 sources_shown space k e one shown is =
-    ap (λ (s : Shown). s.sources) (shown_at space k e one shown is)
+    ap (λ (s : Shown). s.reads_from) (shown_at space k e one shown is)
 
 -- whether the candidate has what the test asks for
 pub asked_is : (s : Subject) (k : ℕ) (e : Execution) (one : Candidate) (locations : List (List ℕ))
@@ -118,62 +119,53 @@ clusters_as scene S T threads same clusters old = record {
 }
 
 -- the members of the set are the events that are drawn of the candidate
-pub drawn_in : (events : List Event) (sources ends : List ℕ) (one : Candidate) (drawn : Events)
-    → events ≡ one.0.events.items → sources ≡ one.1.0
-    → IsEvents drawn (length events) (IsDrawnEvent events (sources ++ ends)) → (a : ℕ)
+pub drawn_in : (events : List Event) (reads_from ends : List ℕ) (one : Candidate) (drawn : Events)
+    → events ≡ one.0.events.items → reads_from ≡ one.1.0
+    → IsEvents drawn (length events) (IsDrawnEvent events (reads_from ++ ends)) → (a : ℕ)
     → IsMember drawn a ↔ IsDrawnEvent one.0.events.items (one.1.0 ++ ends) a
-drawn_in events sources ends one drawn es ss are a =
+drawn_in events reads_from ends one drawn es ss are a =
     subst (λ (xs : List ℕ). IsMember drawn a ↔ IsDrawnEvent one.0.events.items (xs ++ ends) a) ss
-    (subst (λ (xs : List Event). IsMember drawn a ↔ IsDrawnEvent xs (sources ++ ends) a) es
+    (subst (λ (xs : List Event). IsMember drawn a ↔ IsDrawnEvent xs (reads_from ++ ends) a) es
     (are.members a))
 
 -- ---- one drawing after another
 
-text_more : (space : Space) (ds : List Drawing) (d : Drawing)
-    → drawings_text space (ds ++ d ∷ [])
-    ≡ drawings_text space ds
-    ++ drawing_text space.locations.items (length space.locations.items) d
-text_more space ds d =
-    let draw = drawing_text space.locations.items (length space.locations.items) in
-    flat_map-append draw ds (d ∷ [])
-    ∙ ap (λ (t : List ℕ). drawings_text space ds ++ t) (append-nil (draw d))
-
 -- so many drawings, and their text
-abbrev pub AreDrawnBefore : Wanted → ℕ → Subject → ℕ → ℕ → List ℕ → Type 0
-AreDrawnBefore wanted most s k count text =
-    (ds : List Drawing) × AreDrawings wanted most s k ds × (count ≡ length ds)
-    × (text ≡ drawings_text s.space ds)
+abbrev pub AreDrawnBefore : DrawRequest → Subject → ℕ → ℕ → List ℕ → Type 0
+AreDrawnBefore request s k count text =
+    (ds : List Drawing) × AreDrawings request.wanted request.most s k ds × (count ≡ length ds)
+    × AreTextsOf request.format s.space (drop request.skipped ds) text
 
-pub more_drawn : (wanted : Wanted) (most : ℕ) (s : Subject) (k count : ℕ) (old new : List ℕ)
-    → count < most → AddsDrawing wanted s k old new true → AreDrawnBefore wanted most s k count old
-    → AreDrawnBefore wanted most s (k + 1) (count + 1) new
-more_drawn wanted most s k count old new lt adds before =
-    let (ds, are, number, text) = before in
+pub more_drawn : (request : DrawRequest) (s : Subject) (k count : ℕ) (old new : List ℕ)
+    → count < request.most
+    → AddsDrawing request (nat_lt count request.skipped) s k old new true
+    → AreDrawnBefore request s k count old → AreDrawnBefore request s (k + 1) (count + 1) new
+more_drawn request s k count old new lt adds before =
+    let (ds, are, number, texts) = before in
     let (one, found, d, wants, graph, more) = adds in
-    let lower : length ds < most = omega (arith, lt, number) in
-    let long : length (ds ++ d ∷ []) ≡ count + 1 = length-append ds (d ∷ []) ∙ ap (λ (n : ℕ). n + 1) (sym number) in (
+    let lower : length ds < request.most = omega (arith, lt, number) in
+    let long : length (ds ++ d ∷ []) ≡ count + 1 = length-append ds (d ∷ []) ∙ ap (λ (n : ℕ). n + 1) (sym number) in
+    let passes : nat_lt (length ds) request.skipped ≡ nat_lt count request.skipped = ap (λ (n : ℕ). nat_lt n request.skipped) (sym number) in (
       ds ++ d ∷ [],
       OneDrawn k ds one found d are lower wants graph,
       sym long,
-      more
-          ∙ ap
-          (λ (t : List ℕ). t
-          ++ drawing_text s.space.locations.items (length s.space.locations.items) d)
-          text ∙ sym (text_more s.space ds d),
+      texts_on request.format s.space.locations.items (length s.space.locations.items)
+          request.skipped ds d old new (nat_lt count request.skipped) passes texts more,
     )
 
-pub not_drawn : (wanted : Wanted) (most : ℕ) (s : Subject) (k count : ℕ) (old new : List ℕ)
-    → AddsDrawing wanted s k old new false → AreDrawnBefore wanted most s k count old
-    → AreDrawnBefore wanted most s (k + 1) count new
-not_drawn wanted most s k count old new adds before =
-    let (ds, are, number, text) = before in
+pub not_drawn : (request : DrawRequest) (skipped : Bool) (s : Subject) (k count : ℕ)
+    (old new : List ℕ) → AddsDrawing request skipped s k old new false
+    → AreDrawnBefore request s k count old → AreDrawnBefore request s (k + 1) count new
+not_drawn request skipped s k count old new adds before =
+    let (ds, are, number, texts) = before in
     let (one, found, wants, same) = adds in
-    (ds, OneLeft k ds one found are wants, number, same ∙ text)
+    let still = subst (λ (t : List ℕ). AreTextsOf request.format s.space (drop request.skipped ds) t) (sym same) texts in
+    (ds, OneLeft k ds one found are wants, number, still)
 
-pub too_many : (wanted : Wanted) (most : ℕ) (s : Subject) (k count : ℕ) (text : List ℕ)
-    → most ≤ count → AreDrawnBefore wanted most s k count text
-    → AreDrawnBefore wanted most s (k + 1) count text
-too_many wanted most s k count text full before =
+pub too_many : (request : DrawRequest) (s : Subject) (k count : ℕ) (text : List ℕ)
+    → request.most ≤ count → AreDrawnBefore request s k count text
+    → AreDrawnBefore request s (k + 1) count text
+too_many request s k count text full before =
     let (ds, are, number, same) = before in
     (ds, OneTooMany k ds are (omega (arith, full, number)), number, same)
 
@@ -183,7 +175,7 @@ pub resolved_sound : (model : ModelText) (resolved : List ResolvedItem) → IsFa
     → AreItemsOf model resolved → AreSoundItems resolved
 resolved_sound model resolved faultless items = (
   resolved_ordered PREDEFINED (bare_items model) resolved items.0,
-  resolved_rising outermost 0 (bare_items model) resolved faultless items.0,
+  resolved_rising outermost_names 0 (bare_items model) resolved faultless items.0,
 )
 
 -- the checks stand in the model's text

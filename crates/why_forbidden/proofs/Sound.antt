@@ -10,7 +10,8 @@ use Rattle.candidates.specs.declared.candidate.Space.{Space}
 use Rattle.candidates.specs.Listed.{ListsExecutions, ShowsExecution}
 use Rattle.candidates.specs.Space.{candidate_count, candidates_in, shown_in, shown_of}
 use Rattle.from_scratch.specs.Answers.{AreSoundItems}
-use Rattle.from_scratch.specs.FromScratch.{AreItemsOf, IsFaultless, bare_items, outermost}
+use Rattle.from_scratch.specs.FromScratch.{AreItemsOf, IsFaultless, bare_items}
+use Rattle.binding_kinds.specs.Outermost.{outermost_names}
 use Rattle.from_scratch.proofs.Ordered.{resolved_ordered}
 use Rattle.from_scratch.proofs.Rising.{resolved_rising}
 
@@ -19,7 +20,7 @@ pub sound_items : (model : ModelText) (items : List ResolvedItem) → IsFaultles
     → AreItemsOf model items → AreSoundItems items
 sound_items model items none resolved = (
   resolved_ordered PREDEFINED (bare_items model) items resolved.0,
-  resolved_rising outermost 0 (bare_items model) items none resolved.0,
+  resolved_rising outermost_names 0 (bare_items model) items none resolved.0,
 )
 
 pub few_candidates : (test : Test) (space : Space) → ListsExecutions test space

@@ -1,6 +1,6 @@
 -- What is at hand when executions are drawn. The contracts of drawing.rt and lines.rt cite it;
 -- Drawings says what comes of it.
-use Rattle.std.specs.Prelude.{ℕ, ◌≡◌, ◌<◌, ◌++◌, Bool, true, false, List, Option, length}
+use Rattle.std.specs.Prelude.{ℕ, ◌≡◌, ◌<◌, Bool, true, false, List, Option, length}
 use Rattle.std.specs.List.{All, AllZip}
 use Rattle.cat_eval.specs.Executions.{events_of}
 use Rattle.text_values.specs.declared.predefined.Predefined.{Predefined}
@@ -9,11 +9,12 @@ use Rattle.candidates.specs.Space.{Candidate}
 use Rattle.draw_graph.specs.declared.drawing.Drawing.{Drawing}
 use Rattle.draw_graph.specs.declared.drawing.Edges.{Edges}
 use Rattle.draw_graph.specs.declared.drawing.Ink.{Ink}
-use Rattle.draw_graph.specs.Texts.{drawing_text}
 use Rattle.draw_relations.specs.Values.{IsSized}
+use Rattle.draw_scene.specs.declared.drawn.Format.{Format}
+use Rattle.draw_scene.specs.Drawn.{AddsUnless}
 use Rattle.why_forbidden.specs.declared.checks.FirstRefusal.{FirstRefusal}
 use Rattle.why_forbidden.specs.declared.drawing.Scene.{Scene}
-use Rattle.why_forbidden.specs.declared.drawing.Wanted.{Wanted}
+use Rattle.why_forbidden.specs.declared.drawing.DrawRequest.{DrawRequest}
 use Rattle.why_forbidden.specs.declared.lines.DrawnRelation.{DrawnRelation}
 use Rattle.why_forbidden.specs.Drawings.{AreAllLines, AreLines, IsCandidateAt, IsAskedOrNot, IsGraph, Subject, relations}
 use Rattle.why_forbidden.specs.Language.{IsOfLanguage}
@@ -46,15 +47,21 @@ IsGraphAt s k found d = (one : Candidate) → IsCandidateAt s.space k one → Is
 abbrev pub HasCount : Space → ℕ → ℕ → Type 0
 HasCount space k n = (one : Candidate) × IsCandidateAt space k one × (n ≡ events_of one)
 
+-- over the locations of a space
+abbrev pub AddsUnlessOf : (skipped : Bool) → Format → Space → Drawing → (old new : List ℕ) → Type 0
+AddsUnlessOf skipped format space d old new =
+    AddsUnless skipped format space.locations.items (length space.locations.items) d old new
+
 -- the text of one drawing more, where the candidate of number k is asked for
-abbrev pub AddsDrawing : Wanted → Subject → ℕ → List ℕ → List ℕ → Bool → Type 0
-AddsDrawing wanted s k old new true =
+abbrev pub AddsDrawing : DrawRequest → (skipped : Bool) → Subject → ℕ → (old new : List ℕ) → Bool
+    → Type 0
+AddsDrawing request skipped s k old new true =
     (one : Candidate) × (found : Option FirstRefusal) × (d : Drawing)
-    × IsAskedOrNot wanted s k one found true × IsGraph s k one found d
-    × (new ≡ old ++ drawing_text s.space.locations.items (length s.space.locations.items) d)
-AddsDrawing wanted s k old new false =
-    (one : Candidate) × (found : Option FirstRefusal) × IsAskedOrNot wanted s k one found false
-    × (new ≡ old)
+    × IsAskedOrNot request.wanted s k one found true × IsGraph s k one found d
+    × AddsUnlessOf skipped request.format s.space d old new
+AddsDrawing request skipped s k old new false =
+    (one : Candidate) × (found : Option FirstRefusal)
+    × IsAskedOrNot request.wanted s k one found false × (new ≡ old)
 
 -- the edges of a relation among these events, in the candidate of number k
 abbrev pub AreLinesAt : Space → ℕ → (ℕ → Type 0) → Predefined × Ink → Edges → Type 0

@@ -2,17 +2,17 @@
 -- specs/Checked and Told, and Drawn and Texts of draw_graph.
 use Rattle.std.specs.Prelude.{ℕ, ◌≡◌, ◌<◌, ◌≤◌, ◌+◌, ◌↔◌, Option, Some, None, MatchOption, vec_len}
 use Rattle.std.specs.Prelude.{Bool, true, false, ◌&&◌, not}
-use Rattle.std.specs.Prelude.{List, [], ◌∷◌, ◌++◌, map, length, slice_get, slice_index_or, codes, decimal}
+use Rattle.std.specs.Prelude.{List, [], ◌∷◌, ◌++◌, map, drop, length, slice_get, slice_index_or, codes, decimal}
 use Rattle.std.specs.Option.{is_none}
-use Rattle.std.specs.List.{All, AllPairs, AllZip, Contains, flat_map}
+use Rattle.std.specs.List.{All, AllPairs, AllZip, Contains}
 use Rattle.binding_graph.specs.declared.resolved.ResolvedItem.{ResolvedItem}
 use Rattle.binding_graph.specs.declared.resolved.Source.TheVariants as sources
 use Rattle.binding_kinds.specs.declared.fault.ModelFault.{ModelFault}
 use Rattle.binding_kinds.specs.Numbers as model_faults
 use Rattle.candidates.specs.declared.candidate.Space.{Space}
-use Rattle.candidates.specs.declared.fault.EvalRefusal.{EvalRefusal}
+use Rattle.ppc_semantics.specs.declared.fault.EvalRefusal.{EvalRefusal}
 use Rattle.candidates.specs.Listed.{ListsExecutions, IsSpaceRefusal}
-use Rattle.candidates.specs.Faults as refusals
+use Rattle.ppc_semantics.specs.Numbers as refusals
 use Rattle.candidates.specs.Space.{Candidate, candidate_count, candidates_in, shown_of}
 use Rattle.cat_eval.specs.Executions.{events_of, PairsAt}
 use Rattle.cat_printing.specs.Printing.{printed_item}
@@ -31,7 +31,9 @@ use Rattle.draw_graph.specs.declared.drawing.Edges.{Edges}
 use Rattle.draw_graph.specs.declared.drawing.Ink.{Ink}
 use Rattle.draw_graph.specs.declared.drawing.Ink.TheVariants as inks
 use Rattle.draw_graph.specs.Drawn.{AreEdges, DrawnAmong, IsDrawnEvent}
-use Rattle.draw_graph.specs.Texts.{drawing_text}
+use Rattle.draw_scene.specs.declared.drawn.Format.{Format}
+use Rattle.draw_scene.specs.declared.drawn.Format.TheVariants as formats
+use Rattle.draw_scene.specs.Drawn.{AreTexts}
 use Rattle.text_values.specs.declared.test.Test.{Test}
 use Rattle.text_values.specs.TestValue.{formula_of}
 use Rattle.from_scratch.specs.declared.cell.ItemAnswers.{ItemAnswers}
@@ -47,6 +49,7 @@ use Rattle.why_labels.specs.declared.label.NameValues.{NameValues}
 use Rattle.verdict.specs.Evaluated.{is_satisfied}
 use Rattle.why_forbidden.specs.declared.checks.CheckValues.{CheckValues}
 use Rattle.why_forbidden.specs.declared.checks.FirstRefusal.{FirstRefusal}
+use Rattle.why_forbidden.specs.declared.drawing.DrawRequest.{DrawRequest}
 use Rattle.why_forbidden.specs.declared.drawing.Wanted.{Wanted}
 use Rattle.why_forbidden.specs.declared.drawing.Wanted.TheVariants as wanteds
 use Rattle.why_forbidden.specs.Checked.{AcceptBelow, IsChecked, IsFirstRefusal, check_indexes, checked_items}
@@ -257,15 +260,16 @@ pub data AreDrawings (wanted : Wanted) (most : ℕ) (s : Subject) : ℕ → List
 
 -- ---- the whole
 
--- the texts of the drawings, one after another
-abbrev pub drawings_text : Space → List Drawing → List ℕ
-drawings_text space ds =
-    flat_map (drawing_text space.locations.items (length space.locations.items)) ds
+-- the texts of drawings over the locations of a space
+abbrev pub AreTextsOf : Format → Space → List Drawing → List ℕ → Type 0
+AreTextsOf format space ds text =
+    AreTexts format space.locations.items (length space.locations.items) ds text
 
--- the text of the drawings of the candidates before a number
-abbrev pub AreDrawingsOf : Wanted → ℕ → Subject → ℕ → List ℕ → Type 0
-AreDrawingsOf wanted most s n text =
-    (ds : List Drawing) × AreDrawings wanted most s n ds × (text ≡ drawings_text s.space ds)
+-- the text of the drawings of the candidates before a number, but for those that are passed over
+abbrev pub AreDrawingsOf : DrawRequest → Subject → ℕ → List ℕ → Type 0
+AreDrawingsOf request s n text =
+    (ds : List Drawing) × AreDrawings request.wanted request.most s n ds
+    × AreTextsOf request.format s.space (drop request.skipped ds) text
 
 -- these are the checks of the resolved items, with the values of their expressions in the
 -- candidates of the space, and the values of all names
@@ -279,7 +283,7 @@ pub record AreChecks (s : Subject) : Type 0 where
   pub all_names : valued_names s.model.values.predefined.now ≡ relation_names PREDEFINED
 
 -- the drawings of a test over its space, of all candidates, by the checks of a model without fault
-pub record AreDrawn (wanted : Wanted) (most : ℕ) (test : Test) (model : ModelText) (text : List ℕ)
+pub record AreDrawn (request : DrawRequest) (test : Test) (model : ModelText) (text : List ℕ)
     : Type 0 where
   pub resolved : List ResolvedItem
   pub resolves : AreItemsOf model resolved
@@ -290,23 +294,34 @@ pub record AreDrawn (wanted : Wanted) (most : ℕ) (test : Test) (model : ModelT
   pub shown : List ShownValues
   pub all_shown : AreAllShown space model shown
   pub checked : AreChecks (subject test space (judgement model resolved values) checks shown)
-  pub drawn : AreDrawingsOf wanted most
+  pub drawn : AreDrawingsOf request
       (subject test space (judgement model resolved values) checks shown) (candidate_count space)
       text
 
--- a comment of `dot`
-unfoldable pub refused_comment : List ℕ → ℕ → List ℕ
-refused_comment letter number = codes "// Refused " ++ letter ++ decimal number ++ codes "\n"
+-- a comment of `dot`, or of `svg`
+unfoldable pub comment_front : Format → List ℕ
+comment_front formats.Dot = codes "// Refused "
+comment_front formats.Svg = codes "<!-- Refused "
+comment_front formats.Figure = codes "<!-- Refused "
+
+unfoldable pub comment_end : Format → List ℕ
+comment_end formats.Dot = codes "\n"
+comment_end formats.Svg = codes " -->\n"
+comment_end formats.Figure = codes " -->\n"
+
+unfoldable pub refused_comment : Format → List ℕ → ℕ → List ℕ
+refused_comment format letter number =
+    comment_front format ++ letter ++ decimal number ++ comment_end format
 
 -- what is drawn of a test under a model: of a model with a fault, and of a test that is refused, a
 -- comment tells its number
-pub data IsDrawn (wanted : Wanted) (most : ℕ) (test : Test) (model : ModelText) (text : List ℕ)
+pub data IsDrawn (request : DrawRequest) (test : Test) (model : ModelText) (text : List ℕ)
     : Type 0 where
   HasFault : (fault : ModelFault) → IsFaultOf model fault
-      → text ≡ refused_comment (codes "M") (model_faults.number fault)
-      → IsDrawn wanted most test model text
+      → text ≡ refused_comment request.format (codes "M") (model_faults.number fault)
+      → IsDrawn request test model text
   HasNoSpace : IsFaultless model → (refusal : EvalRefusal) → IsSpaceRefusal test refusal
-      → text ≡ refused_comment (codes "E") (refusals.number refusal)
-      → IsDrawn wanted most test model text
-  HasGraphs : IsFaultless model → AreDrawn wanted most test model text
-      → IsDrawn wanted most test model text
+      → text ≡ refused_comment request.format (codes "E") (refusals.number refusal)
+      → IsDrawn request test model text
+  HasGraphs : IsFaultless model → AreDrawn request test model text
+      → IsDrawn request test model text

@@ -9,7 +9,7 @@ ghost use Rattle.from_scratch.specs.FromScratch.{AreItemsOf, IsFaultless};
 ghost use Rattle.why_forbidden.specs.Drawable.{AddsDrawing, AreEdgesAt, AreReady, HasCount, IsGraphAt, subject_of};
 ghost use Rattle.bit_relations.specs.Relation.{IsMember};
 ghost use Rattle.why_forbidden.specs.Drawings.{AreDrawingsOf, AreDrawn, AreSteps, IsCheckText, IsDrawn, IsFate, step_ends};
-ghost use Rattle.why_forbidden.specs.Drawings.{IsFirstRefusalIfAny, refused_comment, title_text};
+ghost use Rattle.why_forbidden.specs.Drawings.{IsFirstRefusalIfAny, comment_end, comment_front, refused_comment, title_text};
 ghost use Rattle.why_forbidden.specs.Drawings as drawings;
 ghost use Rattle.why_forbidden.specs.Views.{judgement_of, scene_of};
 
@@ -23,8 +23,9 @@ use binding_graph::{ResolveFault, Resolved, resolve};
 use bit_relations::EventSet;
 use candidates::{Execution, Space, SpaceFault, space};
 use cat_printing::print_item;
-use draw_graph::{Drawing, Edges, drawn_events, put_drawing};
+use draw_graph::{Drawing, Edges, drawn_events};
 use draw_relations::{ShownValues, shown_values};
+use draw_scene::{Format, put_unless_skipped};
 use ppc_semantics::Run;
 use std::alloc::{AllocError, Global};
 use text_values::{ModelText, Test, put_bytes, put_decimal};
@@ -41,6 +42,19 @@ pub enum Wanted {
     Forbidden,
     /// All, kept or forbidden.
     All,
+}
+
+/// What is asked of `draw`.
+#[derive(Clone, Copy)]
+pub struct DrawRequest {
+    /// Which executions are drawn.
+    pub wanted: Wanted,
+    /// How many of these are passed over.
+    pub skipped: u64,
+    /// How many there are at most, with those that are passed over.
+    pub most: u64,
+    /// As what they are written.
+    pub format: Format,
 }
 
 // Whether an execution is asked for that has what the test asks for, or not, and that the model
@@ -201,7 +215,7 @@ fn drawing_of(
     let fate = fate_of(alloc, scene.judged, candidate, found)?;
     let (first, steps) = steps_of(alloc, scene.judged, told, found)?;
     let ends = step_ends(alloc, first, &steps)?;
-    let drawn = drawn_events(&execution.events, &execution.sources, &ends);
+    let drawn = drawn_events(&execution.events, &execution.reads_from, &ends);
     Ok(Drawing {
         title: title_of(alloc, scene.test.name.as_bytes(), candidate, &fate)?,
         initial: boxes(alloc, told, &drawn, None)?,
@@ -217,14 +231,15 @@ fn put_candidate(
     alloc: Global,
     text: &mut Vec<u8>,
     scene: Scene<'_>,
-    wanted: Wanted,
+    request: DrawRequest,
+    is_skipped: bool,
     candidate: usize,
 ) -> Result<bool, AllocError>
     requires ready { AreReady (subject_of scene) scene.relations.now }
     requires runs { AreAllRuns scene.test.now scene.runs.now }
     requires within { candidate < candidate_count scene.space.now }
-    ensures { IfOk result (AddsDrawing wanted (subject_of scene.entry) candidate text.old.items
-        text.new.items) }
+    ensures { IfOk result (AddsDrawing request is_skipped (subject_of scene.entry) candidate
+        text.old.items text.new.items) }
 {
     let Some(execution) = scene.space.execution(alloc, candidate)? else {
         return Ok(false);
@@ -232,7 +247,7 @@ fn put_candidate(
     let locations = &scene.space.locations;
     let satisfied = is_satisfied(locations, &scene.test.condition.proposition, &execution);
     let found = first_refusal(alloc, scene.judged.checks, candidate)?;
-    if !is_wanted(wanted, satisfied, found.is_none()) {
+    if !is_wanted(request.wanted, satisfied, found.is_none()) {
         return Ok(false);
     }
     let drawing = drawing_of(alloc, scene, candidate, &execution, &found)?;
@@ -241,27 +256,29 @@ fn put_candidate(
         locations,
         initial_count: locations.len(),
     };
-    put_drawing(text, telling, &drawing)?;
+    put_unless_skipped(alloc, text, is_skipped, request.format, telling, &drawing)?;
     Ok(true)
 }
 
-// Draws the candidates that are asked for, so many at most.
+// Draws the candidates that are asked for.
 fn candidates_text(
     alloc: Global,
     scene: Scene<'_>,
-    wanted: Wanted,
-    most: u64,
+    request: DrawRequest,
 ) -> Result<Vec<u8>, AllocError>
     requires ready { AreReady (subject_of scene) scene.relations.now }
     requires runs { AreAllRuns scene.test.now scene.runs.now }
     requires few { candidate_count scene.space.now < 2 ^ 64 }
-    ensures { IfOk result (λ v. AreDrawingsOf wanted most (subject_of scene.entry)
+    ensures { IfOk result (λ v. AreDrawingsOf request (subject_of scene.entry)
         (candidate_count scene.entry.space.now) v.items) }
 {
     let mut text = Vec::new(alloc);
     let mut count = 0;
     for candidate in 0..scene.space.len() {
-        if count < most && put_candidate(alloc, &mut text, scene, wanted, candidate)? {
+        let is_skipped = count < request.skipped;
+        if count < request.most
+            && put_candidate(alloc, &mut text, scene, request, is_skipped, candidate)?
+        {
             count += 1;
         }
     }
@@ -275,13 +292,12 @@ fn space_text<'x>(
     model: &'x ModelText,
     resolved: &'x Resolved,
     space: &'x Space,
-    wanted: Wanted,
-    most: u64,
+    request: DrawRequest,
 ) -> Result<Vec<u8>, AllocError>
     requires faultless { IsFaultless model.now }
     requires items { AreItemsOf model.now resolved.now.items.items }
     requires executions { ListsExecutions test.now space.now }
-    ensures { IfOk result (λ v. AreDrawn wanted most test.now model.now v.items) }
+    ensures { IfOk result (λ v. AreDrawn request test.now model.now v.items) }
 {
     let evaluated = Evaluated::of(alloc, space, resolved)?;
     let relations = drawn_relations(alloc, space)?;
@@ -295,19 +311,39 @@ fn space_text<'x>(
         runs: &runs,
         shown: &shown,
     };
-    candidates_text(alloc, scene, wanted, most)
+    candidates_text(alloc, scene, request)
 }
 
-// A comment of `dot` that tells a refusal.
+#[tactic(auto, unfolding(crate::specs::Drawings::comment_front))]
+fn comment_front(format: Format) -> &'static [u8]
+    ensures { result.now ≡ comment_front format }
+{
+    match format {
+        Format::Dot => b"// Refused ",
+        Format::Svg | Format::Figure => b"<!-- Refused ",
+    }
+}
+
+#[tactic(auto, unfolding(crate::specs::Drawings::comment_end))]
+fn comment_end(format: Format) -> &'static [u8]
+    ensures { result.now ≡ comment_end format }
+{
+    match format {
+        Format::Dot => b"\n",
+        Format::Svg | Format::Figure => b" -->\n",
+    }
+}
+
+// A comment that tells a refusal.
 #[tactic(auto, unfolding(crate::specs::Drawings::refused_comment))]
-fn comment(alloc: Global, letter: &[u8], number: u8) -> Result<Vec<u8>, AllocError>
-    ensures { IfOk result (λ v. v.items ≡ refused_comment letter.now number) }
+fn comment(alloc: Global, format: Format, letter: &[u8], number: u8) -> Result<Vec<u8>, AllocError>
+    ensures { IfOk result (λ v. v.items ≡ refused_comment format letter.now number) }
 {
     let mut text = Vec::new(alloc);
-    put_bytes(&mut text, b"// Refused ")?;
+    put_bytes(&mut text, comment_front(format))?;
     put_bytes(&mut text, letter)?;
     put_decimal(&mut text, u64::from(number))?;
-    put_bytes(&mut text, b"\n")?;
+    put_bytes(&mut text, comment_end(format))?;
     Ok(text)
 }
 
@@ -317,34 +353,34 @@ fn resolved_text(
     test: &Test,
     model: &ModelText,
     resolved: &Resolved,
-    wanted: Wanted,
-    most: u64,
+    request: DrawRequest,
 ) -> Result<Vec<u8>, AllocError>
     requires faultless { IsFaultless model.now }
     requires items { AreItemsOf model.now resolved.now.items.items }
-    ensures { IfOk result (λ v. IsDrawn wanted most test.now model.now v.items) }
+    ensures { IfOk result (λ v. IsDrawn request test.now model.now v.items) }
 {
     match space(alloc, test) {
-        Ok(space) => space_text(alloc, test, model, resolved, &space, wanted, most),
-        Err(SpaceFault::Refused(refusal)) => comment(alloc, b"E", refusal.number()),
+        Ok(space) => space_text(alloc, test, model, resolved, &space, request),
+        Err(SpaceFault::Refused(refusal)) => {
+            comment(alloc, request.format, b"E", refusal.number())
+        }
         Err(SpaceFault::OutOfMemory(e)) => Err(e),
     }
 }
 
-/// Drawings of executions of a test under a model, at most so many, for `dot`; of a model with a
-/// fault and of a test that is refused, a comment that tells its number. Errors: want of memory.
+/// Drawings of executions of a test under a model, one after another; of a model with a fault and
+/// of a test that is refused, a comment that tells its number. Errors: want of memory.
 pub fn draw(
     alloc: Global,
     test: &Test,
     model: &ModelText,
-    wanted: Wanted,
-    most: u64,
+    request: DrawRequest,
 ) -> Result<Vec<u8>, AllocError>
-    ensures { IfOk result (λ v. IsDrawn wanted most test.now model.now v.items) }
+    ensures { IfOk result (λ v. IsDrawn request test.now model.now v.items) }
 {
     match resolve(alloc, model) {
-        Ok(resolved) => resolved_text(alloc, test, model, &resolved, wanted, most),
-        Err(ResolveFault::Refused(fault)) => comment(alloc, b"M", fault.number()),
+        Ok(resolved) => resolved_text(alloc, test, model, &resolved, request),
+        Err(ResolveFault::Refused(fault)) => comment(alloc, request.format, b"M", fault.number()),
         Err(ResolveFault::OutOfMemory(e)) => Err(e),
     }
 }

@@ -14,5 +14,6 @@ mod telling;
 
 pub use answer::{Asked, why};
 pub use checks::{CheckValues, FirstRefusal, all_checks, first_refusal};
-pub use drawing::{Wanted, draw};
+pub use draw_scene::Format;
+pub use drawing::{DrawRequest, Wanted, draw};
 pub use labels::predefined_values;

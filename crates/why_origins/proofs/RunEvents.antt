@@ -11,16 +11,16 @@ use Rattle.text_values.specs.declared.instruction.Fence.{Fence}
 use Rattle.thread_runs.specs.declared.value.Value.{Value}
 use Rattle.thread_runs.specs.declared.value.Value.TheVariants.{Number, Address, NoValue}
 use Rattle.thread_runs.specs.declared.instruction.Event as run
-use Rattle.thread_runs.specs.declared.instruction.Event.TheVariants.{Reads, Writes, Orders}
+use Rattle.thread_runs.specs.declared.instruction.Event.TheVariants as run_event
 use Rattle.thread_runs.specs.declared.instruction.Instruction.{Instruction}
-use Rattle.thread_runs.specs.declared.instruction.Instruction.TheVariants.{Immediate, Move, AddImmediate, Operate, Load, LoadIndexed, Store, StoreIndexed, Compare, CompareImmediate, Branch, Jump, Barrier}
+use Rattle.thread_runs.specs.declared.instruction.Instruction.TheVariants.{Immediate, Move, AddImmediate, Operate, Load, LoadIndexed, Store, StoreIndexed, Compare, CompareImmediate, Branch, Jump, Fence as FenceInstruction}
 use Rattle.thread_runs.specs.declared.instruction.Line.{Line}
 use Rattle.thread_runs.specs.declared.instruction.Line.TheVariants.{Label, Does}
 use Rattle.thread_runs.specs.declared.instruction.RunStep.{RunStep}
 use Rattle.thread_runs.specs.declared.state.State.{State}
 use Rattle.thread_runs.specs.Machine.{register, sum_of, is_load, is_fault, is_address, takes_branch, event_of}
 use Rattle.thread_runs.specs.Runs.{Walk, Outcome, Run, walk_at, walk_after, walk_past, ends, after_load, after_instruction, after_line, run_from, run_of}
-use Rattle.run_combinations.specs.Events.{action_in, with_action, thread_events, initial_stores, makes_store, fence_of_instruction}
+use Rattle.run_combinations.specs.Events.{action_in, with_action, thread_events, initial_stores, is_store_instruction, fence_of_instruction}
 use Rattle.run_combinations.specs.declared.combination.Action.{Action}
 use Rattle.run_combinations.specs.declared.combination.Action.TheVariants.{Fence as FenceAction}
 use Rattle.run_combinations.specs.declared.combination.Event.{Event}
@@ -46,9 +46,9 @@ true_false e = cc
 no_fence : {f : Fence} → Some f ≡ None → ⊥
 no_fence e = cc
 
-read_comes : (t : ℕ) (i : Instruction) (x v : Value) → makes_event i ≡ true → makes_store i ≡ false
+read_comes : (t : ℕ) (i : Instruction) (x v : Value) → makes_event i ≡ true → is_store_instruction i ≡ false
     → fence_of_instruction i ≡ None → not (is_address x) ≡ false
-    → AllZip ComesFrom (Some i ∷ []) (thread_events t (Reads x v ∷ []))
+    → AllZip ComesFrom (Some i ∷ []) (thread_events t (run_event.Load x v ∷ []))
 read_comes t i (Number n) v makes never unfenced h = absurd cc
 read_comes t i (Address l) v makes never unfenced h = (
   (
@@ -67,7 +67,7 @@ read_comes t i NoValue v makes never unfenced h = absurd cc
 
 write_comes : (t : ℕ) (i : Instruction) (x v : Value) → makes_event i ≡ true → is_load i ≡ false
     → fence_of_instruction i ≡ None → not (is_address x) ≡ false
-    → AllZip ComesFrom (Some i ∷ []) (thread_events t (Writes x v ∷ []))
+    → AllZip ComesFrom (Some i ∷ []) (thread_events t (run_event.Store x v ∷ []))
 write_comes t i (Number n) v makes never unfenced h = absurd cc
 write_comes t i (Address l) v makes never unfenced h = (
   (
@@ -106,7 +106,7 @@ comes t (Compare a b) given v s h = tt
 comes t (CompareImmediate a n) given v s h = tt
 comes t (Branch c l) given v s h = tt
 comes t (Jump l) given v s h = tt
-comes t (Barrier f) given v s h = (
+comes t (FenceInstruction f) given v s h = (
   (
     refl,
     t,
@@ -211,20 +211,20 @@ other_values n m (x ∷ es) e =
 own_values : (n : ℕ) (es : List run.Event) → nat_eq n n ≡ true → AreLocated es
     → values_read n (thread_events n es) ≡ read_in es
 own_values n [] e h = refl
-own_values n (Reads (Number k) v ∷ es) e h = absurd (nothing_there h.0.1)
+own_values n (run_event.Load (Number k) v ∷ es) e h = absurd (nothing_there h.0.1)
   where
     nothing_there : {a : Action} → None ≡ Some a → ⊥
     nothing_there e = cc
-own_values n (Reads (Address l) v ∷ es) e h =
+own_values n (run_event.Load (Address l) v ∷ es) e h =
     rw e (ap (λ (vs : List Value). v ∷ vs) (own_values n es e h.1))
-own_values n (Reads NoValue v ∷ es) e h = absurd (nothing_there h.0.1)
+own_values n (run_event.Load NoValue v ∷ es) e h = absurd (nothing_there h.0.1)
   where
     nothing_there : {a : Action} → None ≡ Some a → ⊥
     nothing_there e = cc
-own_values n (Writes (Number k) v ∷ es) e h = own_values n es e h.1
-own_values n (Writes (Address l) v ∷ es) e h = rw e (own_values n es e h.1)
-own_values n (Writes NoValue v ∷ es) e h = own_values n es e h.1
-own_values n (Orders f ∷ es) e h = rw e (own_values n es e h.1)
+own_values n (run_event.Store (Number k) v ∷ es) e h = own_values n es e h.1
+own_values n (run_event.Store (Address l) v ∷ es) e h = rw e (own_values n es e h.1)
+own_values n (run_event.Store NoValue v ∷ es) e h = own_values n es e h.1
+own_values n (run_event.Fence f ∷ es) e h = rw e (own_values n es e h.1)
 
 same_number : (n : ℕ) → nat_eq n n ≡ true
 same_number n = eq-eqb n n refl

@@ -17,13 +17,12 @@ use Rattle.thread_runs.specs.Runs.{Thread, Outcome, Run, IsThreadRun, run_of, wa
 use Rattle.ppc_semantics.specs.Domain.{threads_from, threads_of}
 use Rattle.ppc_semantics.specs.Lowering.{IsProgram, IsTestDomainFault}
 use Rattle.ppc_semantics.specs.declared.fault.DomainFault.TheVariants as faults
-use Rattle.ppc_semantics.specs.declared.fault.DomainRefusal.{DomainRefusal}
-use Rattle.ppc_semantics.specs.declared.fault.DomainRefusal.TheVariants as no_domain
+use Rattle.ppc_semantics.specs.declared.fault.EvalRefusal.{EvalRefusal}
 use Rattle.run_combinations.specs.Events.{thread_events, initial_stores}
 use Rattle.run_combinations.specs.Lists.{IsFiltered, none, kept, left}
 use Rattle.run_combinations.specs.declared.combination.Event.{Event}
 use Rattle.candidates.specs.declared.candidate.Space.{Space}
-use Rattle.candidates.specs.declared.fault.EvalRefusal.TheVariants.{TooManyEvents, TooManyValues, TooManyRuns, TooManyCombinations}
+use Rattle.ppc_semantics.specs.declared.fault.EvalRefusal.TheVariants.{TooManyEvents, TooManyValues, TooManyRuns, TooManyCandidates, AddressFault, TooManyCombinations}
 use Rattle.candidates.specs.Executions.{IsExecution, events, events_from, over_runs, product}
 use Rattle.candidates.specs.Listed.{ListsExecutions, ShowsExecution}
 use Rattle.candidates.specs.Space.{shown_in}
@@ -210,16 +209,18 @@ runs_come m (t ∷ ts) (r ∷ rs) h =
 
 -- ---- the whole
 
-not_refused : (test : Test) (space : Space) (r : DomainRefusal) → ListsExecutions test space
+not_refused : (test : Test) (space : Space) (r : EvalRefusal) → ListsExecutions test space
     → IsTestDomainFault test (faults.Refused r) → ⊥
-not_refused test space no_domain.TooManyEvents lists fault =
+not_refused test space TooManyEvents lists fault =
     (one_outcome test).listed_or_refused space TooManyEvents lists fault
-not_refused test space no_domain.TooManyValues lists fault =
+not_refused test space TooManyValues lists fault =
     (one_outcome test).listed_or_refused space TooManyValues lists fault
-not_refused test space no_domain.TooManyRuns lists fault =
+not_refused test space TooManyRuns lists fault =
     (one_outcome test).listed_or_refused space TooManyRuns lists fault
-not_refused test space no_domain.TooManyCombinations lists fault =
+not_refused test space TooManyCombinations lists fault =
     (one_outcome test).listed_or_refused space TooManyCombinations lists fault
+not_refused test space TooManyCandidates lists fault = absurd fault.2
+not_refused test space AddressFault lists fault = absurd fault.2
 
 module _ (test : Test) (p : Program) (of_test : IsProgram test p) (V : List Value) (rs : List Run)
     (are : AllZip (λ t r. IsThreadRun t (Contains V) r) (threads_of p) rs) where

@@ -6,7 +6,7 @@ use Rattle.std.specs.declared.alloc.Global.{Global}
 use Rattle.text_values.specs.declared.test.Test.{Test}
 use Rattle.ppc_semantics.specs.Lowering.{IsProgram, IsTestDomain, IsTestDomainFault, ShowsTestRuns}
 use Rattle.ppc_semantics.specs.declared.fault.DomainFault.TheVariants as faults
-use Rattle.ppc_semantics.specs.declared.fault.DomainRefusal.{DomainRefusal}
+use Rattle.ppc_semantics.specs.declared.fault.EvalRefusal.{EvalRefusal}
 use Rattle.run_combinations.specs.declared.combination.Action.{Action}
 use Rattle.run_combinations.specs.declared.combination.Action.TheVariants as actions
 use Rattle.run_combinations.specs.declared.combination.Event.{Event}
@@ -27,7 +27,7 @@ makes_event (instructions.Load target base) = true
 makes_event (instructions.LoadIndexed target base index) = true
 makes_event (instructions.Store source base) = true
 makes_event (instructions.StoreIndexed source base index) = true
-makes_event (instructions.Barrier fence) = true
+makes_event (instructions.Fence fence) = true
 makes_event instruction = false
 
 abbrev pub made_by : RunStep → Option (Option Instruction)
@@ -40,8 +40,8 @@ made_in steps = filter_map made_by steps
 -- ---- what the loads of a thread read
 
 abbrev pub read_by : Action → Option Value
-read_by (actions.Read location value) = Some value
-read_by (actions.Write location value) = None
+read_by (actions.Load location value) = Some value
+read_by (actions.Store location value) = None
 read_by (actions.Fence fence) = None
 
 abbrev pub is_of : Option ℕ → ℕ → Bool
@@ -102,7 +102,7 @@ abbrev pub AreMadeIn : Test → List Event → List (Option Instruction) → Typ
 AreMadeIn test events xs =
     ((domain : List Value) × IsTestDomain test domain
     × AreMadeBelow test domain events (vec_len test.threads) xs)
-    ⊎ ((r : DomainRefusal) × IsTestDomainFault test (faults.Refused r) × (xs ≡ []))
+    ⊎ ((r : EvalRefusal) × IsTestDomainFault test (faults.Refused r) × (xs ≡ []))
 
 -- for each event its instruction: first the initial stores, and then the events of the threads
 pub record AreInstructions (test : Test) (events : List Event) (xs : List (Option Instruction))
@@ -123,7 +123,7 @@ abbrev pub AreAllRuns : Test → List (Vec code_run.Run Global) → Type 0
 AreAllRuns test threads =
     ((domain : List Value) × IsTestDomain test domain
     × AreRunsOver test domain (vec_len test.threads) threads)
-    ⊎ ((r : DomainRefusal) × IsTestDomainFault test (faults.Refused r) × (threads ≡ []))
+    ⊎ ((r : EvalRefusal) × IsTestDomainFault test (faults.Refused r) × (threads ≡ []))
 
 -- this run reads these values, or none does
 abbrev pub Reads : List Value → code_run.Run → Type 0

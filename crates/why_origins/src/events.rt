@@ -19,7 +19,7 @@ fn makes_event(instruction: Instruction) -> bool
         Instruction::LoadIndexed(_, _, _) => true,
         Instruction::Store(_, _) => true,
         Instruction::StoreIndexed(_, _, _) => true,
-        Instruction::Barrier(_) => true,
+        Instruction::Fence(_) => true,
         _ => false,
     }
 }
@@ -45,8 +45,8 @@ fn read_by(action: Action) -> Option<Value>
     ensures { result ≡ read_by action }
 {
     match action {
-        Action::Read { value, .. } => Some(value),
-        Action::Write { .. } => None,
+        Action::Load { value, .. } => Some(value),
+        Action::Store { .. } => None,
         Action::Fence(_) => None,
     }
 }

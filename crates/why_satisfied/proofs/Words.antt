@@ -16,11 +16,11 @@ last_maybe : (d : Value) (xs : List Value) (o : Option Value)
 last_maybe d xs None = ap (last_or d) (append-nil xs)
 last_maybe d xs (Some x) = last_push d xs x
 
-pub word_more : (stored : ℕ → Option Value) (none : Value) (order : List ℕ) (i : ℕ)
-    → i < length order
-    → last_or none (filter_map stored (take (i + 1) order))
-    ≡ unwrap_or (stored (get_or order i 0)) (last_or none (filter_map stored (take i order)))
-word_more stored none order i lt =
-    ap (λ (l : List ℕ). last_or none (filter_map stored l)) (take_more order i 0 lt)
-    ∙ ap (last_or none) (filter_map-append stored (take i order) (get_or order i 0 ∷ []))
-    ∙ last_maybe none (filter_map stored (take i order)) (stored (get_or order i 0))
+pub word_more : (stored : ℕ → Option Value) (none : Value) (coherence : List ℕ) (i : ℕ)
+    → i < length coherence
+    → last_or none (filter_map stored (take (i + 1) coherence))
+    ≡ unwrap_or (stored (get_or coherence i 0)) (last_or none (filter_map stored (take i coherence)))
+word_more stored none coherence i lt =
+    ap (λ (l : List ℕ). last_or none (filter_map stored l)) (take_more coherence i 0 lt)
+    ∙ ap (last_or none) (filter_map-append stored (take i coherence) (get_or coherence i 0 ∷ []))
+    ∙ last_maybe none (filter_map stored (take i coherence)) (stored (get_or coherence i 0))

@@ -7,12 +7,12 @@ ghost use Rattle.candidates.specs.Space.{shown_by};
 ghost use Rattle.text_values.specs.TestValue.{formula_of};
 ghost use Rattle.verdict.specs.Evaluated.{is_satisfied};
 ghost use Rattle.verdict.specs.Final as ends;
-ghost use Rattle.verdict.specs.Meaning.{is_held, joined_by, known_place, known_value};
+ghost use Rattle.verdict.specs.Meaning.{is_held, joined_by, known_observable, known_value};
 
-use candidates::{Action, Execution};
+use candidates::Execution;
 use ppc_semantics::Value as RunValue;
 use text_values::{Connective, Name, Place, Proposition, Value};
-use verdict::{FinalValue, known_value, location_of, value_shown};
+use verdict::{FinalValue, known_value, location_of, value_shown, value_stored_at};
 
 fn final_register(execution: &Execution, thread: usize, register: u8) -> RunValue
     ensures { result ≡ ends.final_register (shown_by execution.now) thread register }
@@ -26,27 +26,12 @@ fn final_register(execution: &Execution, thread: usize, register: u8) -> RunValu
     }
 }
 
-// What the event stores at the location, if it stores there.
-fn stored_at(execution: &Execution, location: usize, event: u8) -> Option<RunValue>
-    ensures { result ≡ ends.value_stored_at execution.now.events.items location event }
-{
-    let event = execution.events.get(usize::from(event))?;
-    match event.action {
-        Action::Write {
-            location: to,
-            value,
-        } => { if to == location { Some(value) } else { None } }
-        Action::Read { .. } => None,
-        Action::Fence(_) => None,
-    }
-}
-
 fn final_word(execution: &Execution, location: usize) -> RunValue
     ensures { result ≡ ends.final_word (shown_by execution.now) location }
 {
     let mut word = RunValue::NoValue;
-    for event in &execution.order {
-        if let Some(value) = stored_at(execution, location, *event) {
+    for event in &execution.coherence {
+        if let Some(value) = value_stored_at(&execution.events, location, *event) {
             word = value;
         }
     }
@@ -54,12 +39,12 @@ fn final_word(execution: &Execution, location: usize) -> RunValue
 }
 
 // What an observable holds at the end, where it is one of the test.
-fn final_value(locations: &[Name], place: &Place, execution: &Execution) -> Option<FinalValue>
+fn final_value(locations: &[Name], observable: &Place, execution: &Execution) -> Option<FinalValue>
     ensures { result
         ≡ option_map (ends.final_value (shown_by execution.now))
-        (known_place locations.now place.now) }
+        (known_observable locations.now observable.now) }
 {
-    match place {
+    match observable {
         Place::Register(thread, register) => {
             let value = final_register(execution, *thread, register.number());
             Some(value_shown(value))
@@ -71,12 +56,12 @@ fn final_value(locations: &[Name], place: &Place, execution: &Execution) -> Opti
     }
 }
 
-fn is_held(locations: &[Name], place: &Place, value: &Value, execution: &Execution) -> bool
+fn is_held(locations: &[Name], observable: &Place, value: &Value, execution: &Execution) -> bool
     ensures { result
-        ≡ is_held (ends.final_value (shown_by execution.now)) (known_place locations.now place.now)
-        (known_value locations.now value.now) }
+        ≡ is_held (ends.final_value (shown_by execution.now))
+        (known_observable locations.now observable.now) (known_value locations.now value.now) }
 {
-    let Some(held) = final_value(locations, place, execution) else {
+    let Some(held) = final_value(locations, observable, execution) else {
         return false;
     };
     match known_value(locations, value) {
@@ -103,7 +88,7 @@ pub fn is_satisfied(locations: &[Name], proposition: &Proposition, execution: &E
 {
     match proposition {
         Proposition::Constant(value) => *value,
-        Proposition::Holds(place, value) => is_held(locations, place, value, execution),
+        Proposition::Holds(observable, value) => is_held(locations, observable, value, execution),
         Proposition::Not(negated) => !is_satisfied(locations, negated, execution),
         Proposition::Joined(connective, left, right) => {
             let first = is_satisfied(locations, left, execution);

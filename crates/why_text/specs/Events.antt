@@ -33,9 +33,9 @@ unfoldable pub fence_told : List ℕ → List ℕ
 fence_told name = codes "F[" ++ name ++ codes "]"
 
 unfoldable pub action_text : Bool → List (List ℕ) → Action → List ℕ
-action_text shows locations (actions.Read location value) =
+action_text shows locations (actions.Load location value) =
     access_text (codes "R") shows locations location value
-action_text shows locations (actions.Write location value) =
+action_text shows locations (actions.Store location value) =
     access_text (codes "W") shows locations location value
 action_text shows locations (actions.Fence f) = fence_told (fence_text f)
 
@@ -60,7 +60,7 @@ instruction_text (instructions.LoadIndexed target base index) =
 instruction_text (instructions.Store source base) = plain_access (codes "stw") source base
 instruction_text (instructions.StoreIndexed source base index) =
     indexed_access (codes "stwx") source base index
-instruction_text (instructions.Barrier f) = fence_text f
+instruction_text (instructions.Fence f) = fence_text f
 instruction_text instruction = []
 
 unfoldable pub instruction_told : Option Instruction → List ℕ

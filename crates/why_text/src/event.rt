@@ -129,8 +129,8 @@ pub fn put_action(
         ++ action_text telling.entry.shows telling.entry.locations.now action) }
 {
     match action {
-        Action::Read { location, value } => put_access(text, b"R", telling, location, value),
-        Action::Write { location, value } => put_access(text, b"W", telling, location, value),
+        Action::Load { location, value } => put_access(text, b"R", telling, location, value),
+        Action::Store { location, value } => put_access(text, b"W", telling, location, value),
         Action::Fence(fence) => put_fence(text, fence_name(fence)),
     }
 }
@@ -194,7 +194,7 @@ pub fn put_instruction(text: &mut Vec<u8>, instruction: Instruction) -> Result<(
         Instruction::StoreIndexed(source, base, index) => {
             put_indexed(text, b"stwx", source, base, index)
         }
-        Instruction::Barrier(fence) => put_bytes(text, fence_name(fence)),
+        Instruction::Fence(fence) => put_bytes(text, fence_name(fence)),
         _ => Ok(()),
     }
 }

@@ -5,4 +5,4 @@ use Rattle.draw_graph.proofs.events.drawn_events.Given as goal
 
 abbrev pub invariant-loop-number : goal.invariant-loop-number
 invariant-loop-number l =
-    IsEvents l.drawn (length l.events) (DrawnBelow l.events (l.sources ++ l.ends) l.number)
+    IsEvents l.drawn (length l.events) (DrawnBelow l.events (l.reads_from ++ l.ends) l.number)

@@ -10,5 +10,5 @@ returns-in-Err-Refused c =
     let fault = rw c.in-Err-Refused.field-0-is at c.in-Err-Refused.ensures.fault in
     IfOk-weaker c.comment.result _ _
     (λ v h. HasFault c.in-Err-Refused.fault fault (h
-    ∙ ap (refused_comment (codes "M")) (c.number.ensures
+    ∙ ap (refused_comment c.args.request.format (codes "M")) (c.number.ensures
     ∙ ap faults.number c.in-Err-Refused.fault-is))) c.comment.ensures

@@ -30,16 +30,16 @@ returns c = λ one is.
     let k = c.args.candidate in
     let e = c.args.execution.now in
     let events = e.events.items in
-    let sources = e.sources.items in
+    let reads_from = e.reads_from.items in
     let drawn = c.drawn_events-drawn.result in
     let same = events_shown space k e one c.requires.shown is in
     let read = sources_shown space k e one c.requires.shown is in
     let ends = step_ends c.in_ok-first.first c.in_ok-first.steps.items in
     let told : c.in_ok-ends.ends.items ≡ ends = rw c.deref-3.ensures.value at c.in_ok-ends.ensures in
     let named : c.deref-6.result.now ≡ ends = c.deref-6.ensures.value ∙ told in
-    let are : IsEvents drawn (length events) (IsDrawnEvent events (sources ++ ends)) = rw (c.deref-4.ensures.value, c.deref-5.ensures.value, named) at c.drawn_events-drawn.ensures in
+    let are : IsEvents drawn (length events) (IsDrawnEvent events (reads_from ++ ends)) = rw (c.deref-4.ensures.value, c.deref-5.ensures.value, named) at c.drawn_events-drawn.ensures in
     let scene : Scene = record { candidate = k; events = c.deref.result.now; instructions = c.deref-2.result.now } in
-    let members = drawn_in events sources ends one drawn same read are in
+    let members = drawn_in events reads_from ends one drawn same read are in
     let made = c.in_ok-instructions.ensures c.args.scene.test.now c.requires.runs in
     record {
       scene = scene;

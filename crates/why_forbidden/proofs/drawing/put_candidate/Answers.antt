@@ -16,7 +16,7 @@ returns-then-not-is_wanted c =
     let subject = subject_of c.args.scene in
     let has = asked_is subject k e one c.deref.result.now c.is_satisfied-satisfied.result shown is c.deref.ensures.value c.is_satisfied-satisfied.ensures in
     let kept = none_is c.is_none.result found c.is_none.ensures in
-    let asked = wanted_is c.args.wanted subject one found c.is_satisfied-satisfied.result c.is_none.result c.is_wanted.result has kept c.is_wanted.ensures in (
+    let asked = wanted_is c.args.request.wanted subject one found c.is_satisfied-satisfied.result c.is_none.result c.is_wanted.result has kept c.is_wanted.ensures in (
       one,
       found,
       record {
@@ -39,7 +39,7 @@ returns c =
     let subject = subject_of c.args.scene in
     let has = asked_is subject k e one c.deref.result.now c.is_satisfied-satisfied.result shown is c.deref.ensures.value c.is_satisfied-satisfied.ensures in
     let kept = none_is c.is_none.result found c.is_none.ensures in
-    let asked = wanted_is c.args.wanted subject one found c.is_satisfied-satisfied.result c.is_none.result c.is_wanted.result has kept c.is_wanted.ensures in
+    let asked = wanted_is c.args.request.wanted subject one found c.is_satisfied-satisfied.result c.is_none.result c.is_wanted.result has kept c.is_wanted.ensures in
     let number : c.len.result ≡ length space.locations.items = omega (arith, c.len.ensures, space.locations.ok.0) in (
       one,
       found,
@@ -50,5 +50,5 @@ returns c =
         asked = asked ∙ c.if-not-is_wanted.false;
       },
       c.in_ok-drawing.ensures one is,
-      rw (c.deref-2.ensures.value, number) at c.in_ok-put_drawing.ensures,
+      rw (c.deref-2.ensures.value, number) at c.in_ok-put_unless_skipped.ensures,
     )

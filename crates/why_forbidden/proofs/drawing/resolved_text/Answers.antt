@@ -1,7 +1,7 @@
 use Rattle.std.proofs.Common.{◌∙◌, ap}
 use Rattle.std.specs.Prelude.{codes}
 use Rattle.std.proofs.lemmas.Result.{IfOk-weaker}
-use Rattle.candidates.specs.Faults as refusals
+use Rattle.ppc_semantics.specs.Numbers as refusals
 use Rattle.why_forbidden.specs.Drawings.{HasGraphs, HasNoSpace, refused_comment}
 use Rattle.why_forbidden.proofs.drawing.resolved_text.Goals as goal
 
@@ -16,5 +16,5 @@ returns-in-Err-Refused c =
     IfOk-weaker c.comment.result _ _
     (λ v h. HasNoSpace c.requires.faultless c.in-Err-Refused.refusal refused
     (h
-    ∙ ap (refused_comment (codes "E")) (c.number.ensures
+    ∙ ap (refused_comment c.args.request.format (codes "E")) (c.number.ensures
     ∙ ap refusals.number c.in-Err-Refused.refusal-is))) c.comment.ensures

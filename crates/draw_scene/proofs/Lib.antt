@@ -1,0 +1,3 @@
+mod Adding
+mod Meaning
+pub mod Texts

@@ -1,0 +1,9 @@
+use Rattle.std.proofs.Common.{◌≡◌, map, take}
+use Rattle.draw_scene.specs.Scene.{store_texts, texts_in}
+use Rattle.draw_scene.proofs.boxes.store_labels.Given as goal
+
+abbrev pub invariant-loop-event : goal.invariant-loop-event
+invariant-loop-event l =
+    map texts_in l.labels.items
+    ≡ map (store_texts l.telling.locations.now l.telling.initial_count)
+    (take l.event-index l.events)

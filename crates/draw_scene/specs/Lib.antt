@@ -1,0 +1,4 @@
+pub mod Lines
+pub mod Scene
+pub mod Drawn
+pub mod Laws

@@ -1,0 +1,4 @@
+pub mod Subjects
+pub mod Records
+pub mod Tab
+pub mod Json
