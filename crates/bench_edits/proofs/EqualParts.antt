@@ -22,7 +22,8 @@ use Rattle.bench_edits.specs.declared.edited.EditedParts.{EditedParts}
 use Rattle.bench_edits.specs.declared.edited.EditedParts.TheVariants as edited
 use Rattle.bench_edits.specs.Edited.{test_id, AreTestsSame, PutsTest, DropsTest}
 use Rattle.bench_edits.specs.Laws.{IsEdit}
-use Rattle.bench_edits.specs.Owed.{AreApart, ArePartsOf, item_numbers}
+use Rattle.bench_edits.specs.Owed.{ArePartsOf, item_numbers}
+use Rattle.bench_text_laws.specs.Orderly.{AreApart}
 use Rattle.bench_edits.specs.Readings.{written_state}
 use Rattle.bench_edits.proofs.Faults.{items_left, faults_left}
 use Rattle.bench_edits.proofs.ModelEdits.{edits_keep}

@@ -23,7 +23,8 @@ use Rattle.bench_parts.specs.Items.{ItemFact, text_part, fact_at, item_facts, fa
 use Rattle.bench_parts.specs.ItemLaws.{HasFactText}
 use Rattle.bench_parts.specs.ItemLaws as items
 use Rattle.bench_parts.specs.Written.{text_in, item_text}
-use Rattle.bench_edits.specs.Owed.{AreApart, ArePartsOf, item_numbers}
+use Rattle.bench_edits.specs.Owed.{ArePartsOf, item_numbers}
+use Rattle.bench_text_laws.specs.Orderly.{AreApart}
 use Rattle.bench_edits.specs.Readings.{resolved_in, written_models, named_text, facts_in, all_facts}
 
 -- ---- the numbers of items

@@ -30,7 +30,8 @@ use Rattle.bench_edits.specs.declared.edited.EditedParts.TheVariants as edited
 use Rattle.bench_edits.specs.declared.edited.ModelParts.{ModelParts}
 use Rattle.bench_edits.specs.Edited.{held_models, AreModelsMade, AreModelsSame, AreModelsAfter, PutsModels}
 use Rattle.bench_edits.specs.Laws.{IsEdit}
-use Rattle.bench_edits.specs.Owed.{AreApart, ArePartsOf}
+use Rattle.bench_edits.specs.Owed.{ArePartsOf}
+use Rattle.bench_text_laws.specs.Orderly.{AreApart}
 use Rattle.bench_edits.specs.Readings.{fault_in, named_text, written_state, all_facts}
 use Rattle.bench_edits.proofs.PutModels.{held_content, held_stamp, held_ids, held_is, held_ids_are, held_were, content_pushed, were_pushed, were_removed}
 use Rattle.bench_edits.proofs.TestEdits.{fresh_above}

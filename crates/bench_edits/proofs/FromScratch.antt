@@ -5,7 +5,7 @@ use Rattle.text_values.specs.TestValue.{formula_of}
 use Rattle.text_values.specs.declared.model.ModelText.{ModelText}
 use Rattle.text_values.specs.declared.predefined.TheConstants.{PREDEFINED}
 use Rattle.candidates.specs.declared.candidate.Space.{Space}
-use Rattle.candidates.specs.declared.fault.EvalRefusal.{EvalRefusal}
+use Rattle.ppc_semantics.specs.declared.fault.EvalRefusal.{EvalRefusal}
 use Rattle.candidates.specs.Listed.{ListsExecutions, IsSpaceRefusal}
 use Rattle.binding_graph.specs.declared.resolved.ResolvedItem.{ResolvedItem}
 use Rattle.verdict.specs.declared.answer.Outcome.{Outcome}
@@ -21,7 +21,8 @@ use Rattle.bench_values.specs.Values.{NodeContent, OfSpace, OfRefusal, OfColumn,
 use Rattle.bench_values.proofs.PartTests.{of_each}
 use Rattle.from_scratch.specs.Answers.{AreSaid}
 use Rattle.from_scratch.specs.Cell.{IsEvaluationFrom}
-use Rattle.from_scratch.specs.FromScratch.{outermost, bare_items, IsFaultless, AreItemsOf, IsResultOf, IsFromScratch}
+use Rattle.from_scratch.specs.FromScratch.{bare_items, IsFaultless, AreItemsOf, IsResultOf, IsFromScratch}
+use Rattle.binding_kinds.specs.Outermost.{outermost_names}
 use Rattle.from_scratch.proofs.Knowing.{risen_at}
 use Rattle.from_scratch.proofs.Ordered.{resolved_ordered}
 use Rattle.from_scratch.proofs.Rising.{resolved_rising}
@@ -61,7 +62,7 @@ module _ (test : Test) (model : ModelText) (cell : SolvedCell) (solved : IsCellS
       → Fits cell.table cell.is_needed k r
   item_fits k r e = record {
     rises =
-        risen_at cell.items k r e (resolved_rising outermost 0 (bare_items model) cell.items
+        risen_at cell.items k r e (resolved_rising outermost_names 0 (bare_items model) cell.items
         solved.no_fault solved.of_model.0);
     asked = λ check. solved.checks k (r, e, check);
     closed = λ needs node. solved.names k r needs e node;

@@ -13,7 +13,8 @@ use Rattle.bench_edits.specs.declared.edited.EditedParts.TheVariants as edited
 use Rattle.bench_edits.specs.declared.edited.ModelParts.{ModelParts}
 use Rattle.bench_edits.specs.Edited.{AreModelsSame, AreModelsAfter}
 use Rattle.bench_edits.specs.Laws.{IsEdit}
-use Rattle.bench_edits.specs.Owed.{AreApart, item_numbers}
+use Rattle.bench_edits.specs.Owed.{item_numbers}
+use Rattle.bench_text_laws.specs.Orderly.{AreApart}
 use Rattle.bench_edits.specs.Readings.{named_text, all_facts}
 use Rattle.bench_edits.specs.Left.{AreKindsOf}
 use Rattle.bench_edits.proofs.Facts.{all_apart, all_written, unstamped_gone}

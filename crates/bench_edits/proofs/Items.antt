@@ -15,7 +15,7 @@ use Rattle.binding_graph.specs.declared.resolved.Role.TheVariants as roles
 use Rattle.binding_graph.specs.Reach.{ItemUses, IsReached, AreReached}
 use Rattle.binding_graph.proofs.Reaching.{leads_more}
 use Rattle.bench_items.specs.Items.{RoleContent, Group, Check, Silent, role_content}
-use Rattle.bench_items.specs.Naming.{SeenName, seen_names_in, number_of}
+use Rattle.bench_items.specs.Naming.{SeenName, seen_names_in, number_in_history}
 use Rattle.bench_nodes.specs.declared.table.SlotKey.{SlotKey}
 use Rattle.bench_nodes.specs.declared.table.SlotKey.TheVariants as slots
 use Rattle.bench_nodes.specs.Nodes.{has_slot, slot_keys}
@@ -44,7 +44,7 @@ IsOfKind Silent kind = ⊥
 -- the number of the name at a position of an item, in the history that its part holds
 abbrev pub number_in : Option PartContent → ℕ → ℕ
 number_in (Some (OfRole role history)) position =
-    number_of history (get_or (seen_names_in role) position no_name)
+    number_in_history history (get_or (seen_names_in role) position no_name)
 number_in _ position = 0
 
 -- where the parts of items hold this
@@ -87,9 +87,9 @@ name_is s numbers items name held is =
     let part = held name.item is.0 is.1 in
     let history : histories s own ≡ part.0 = held_history_is s own (role_content is.0.role) part.0 part.1 in
     let named : input_name items name ≡ get_or (seen_names_in (role_content is.0.role)) name.position no_name = ap (λ (o : Option ResolvedItem). bound_name o name.position) is.1 in
-    ap (λ (h : List SeenName). slots.Value kinds.Group own (number_of h (input_name items name)))
+    ap (λ (h : List SeenName). slots.Value kinds.Group own (number_in_history h (input_name items name)))
     history
-    ∙ ap (λ (n : SeenName). slots.Value kinds.Group own (number_of part.0 n)) named
+    ∙ ap (λ (n : SeenName). slots.Value kinds.Group own (number_in_history part.0 n)) named
     ∙ sym (ap (λ (o : Option PartContent). slots.Value kinds.Group own (number_in o name.position))
     part.1)
 

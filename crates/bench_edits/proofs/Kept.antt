@@ -21,7 +21,8 @@ use Rattle.bench_texts.specs.declared.model.NamedModel.{NamedModel}
 use Rattle.bench_texts.specs.declared.reading.Reading.{Reading}
 use Rattle.bench_texts.specs.declared.reading.Reading.TheVariants as readings
 use Rattle.bench_texts.specs.Held as held
-use Rattle.bench_texts.specs.Readings.{IsModelReading, predefined_names}
+use Rattle.bench_texts.specs.Readings.{IsModelReading}
+use Rattle.binding_kinds.specs.Outermost.{outermost_names}
 use Rattle.bench_slots.specs.Slots.{number_at}
 use Rattle.bench_slots.specs.Tables.{ModelReading, Sound, Faulty}
 use Rattle.bench_parts.specs.declared.parts.Parts.{Parts}
@@ -30,7 +31,8 @@ use Rattle.bench_parts.specs.States.{has_kind, has_model, has_own}
 use Rattle.bench_parts.specs.Items.{ItemFact, fact_at, kind_at}
 use Rattle.bench_parts.specs.ItemLaws.{IsOfItsKind, role_kind}
 use Rattle.bench_parts.proofs.ItemKinds.{kinds_of_roles}
-use Rattle.bench_edits.specs.Owed.{AreApart, ArePartsOf, item_numbers}
+use Rattle.bench_edits.specs.Owed.{ArePartsOf, item_numbers}
+use Rattle.bench_text_laws.specs.Orderly.{AreApart}
 use Rattle.bench_edits.specs.Readings.{reading_by, reading_of, readings_of, resolved_in, facts_in, all_facts}
 use Rattle.bench_edits.specs.Kept.{IsReadingOfText, id_in, numbers_in, AreOther, IsKeptState}
 use Rattle.bench_edits.proofs.Facts.{each_item_has_number}
@@ -228,7 +230,7 @@ module _ (p : Parts) (tests : List Test) (models : List NamedModel)
       =
       let same = sound_parts id id ns numbers (arc_value rs).items.items resolved us.items used e in (
         same.1,
-        kinds_of_roles [] [] predefined_names 0 items (arc_value rs).items.items
+        kinds_of_roles [] [] outermost_names 0 items (arc_value rs).items.items
             (read.0).as_resolved index r kind
             (ap (λ (l : List ResolvedItem). slice_get l index) same.2 ∙ found) k,
       )

@@ -17,7 +17,7 @@ use Rattle.bench_parts.specs.declared.parts.Parts.{Parts}
 use Rattle.bench_parts.specs.Contents.{PartContent, OfCondition, parts_state, test_part}
 use Rattle.bench_parts.specs.Written.{KeepsStamp}
 use Rattle.bench_edits.specs.declared.edited.EditedParts.{EditedParts}
-use Rattle.bench_edits.specs.Owed.{AreApart}
+use Rattle.bench_text_laws.specs.Orderly.{AreApart}
 use Rattle.bench_edits.specs.Readings.{reading_by, reading_of, written_model, written_models, written_state}
 use Rattle.bench_edits.specs.BenchCells.{AreReadAlike, IsTestLeft, IsLeftFor}
 use Rattle.bench_edits.specs.Left.{IsOrderlyEdit, CellRows, IsCellOfParts, IsSameCondition, IsSameFor, IsSameCell, IsLeft}

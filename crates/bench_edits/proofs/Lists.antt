@@ -4,7 +4,7 @@ use Rattle.std.specs.List.{remove}
 use Rattle.memo_core.specs.Step.{Has}
 use Rattle.bench_texts.specs.BenchTexts.{put_at}
 use Rattle.bench_slots.proofs.Lists.{has_append, has_behind}
-use Rattle.bench_edits.specs.Owed.{AreApart}
+use Rattle.bench_text_laws.specs.Orderly.{AreApart}
 
 pub has_map : {A K : Type 0} (f : A → K) (xs : List A) (a : A) → Has xs a → Has (map f xs) (f a)
 has_map f [] a h = absurd h

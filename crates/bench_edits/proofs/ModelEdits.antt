@@ -47,7 +47,8 @@ use Rattle.bench_edits.specs.declared.edited.EditedParts.TheVariants as edited
 use Rattle.bench_edits.specs.declared.edited.ModelParts.{ModelParts}
 use Rattle.bench_edits.specs.Edited.{held_models, model_id, AreModelPartsMade, PutsModels}
 use Rattle.bench_edits.specs.Laws.{IsEdit}
-use Rattle.bench_edits.specs.Owed.{AreApart, ArePartsOf, item_numbers}
+use Rattle.bench_edits.specs.Owed.{ArePartsOf, item_numbers}
+use Rattle.bench_text_laws.specs.Orderly.{AreApart}
 use Rattle.bench_edits.specs.Readings.{fault_in, resolved_in, reading_by, readings_of, written_models, written_state, named_text, facts_in, all_facts}
 use Rattle.bench_edits.proofs.PutModels.{held_is, held_ids_are, held_keys_are, held_were, content_pushed, were_pushed, content_removed, were_removed, faults_now, rows_after, ids_after, length_made, IsWithout, part_over}
 use Rattle.bench_edits.proofs.Making.{push_past}

@@ -20,7 +20,8 @@ use Rattle.bench_edits.specs.declared.edited.EditedParts.TheVariants as edited
 use Rattle.bench_edits.specs.declared.edited.ModelParts.{ModelParts}
 use Rattle.bench_edits.specs.Edited.{held_models, model_id, AreModelsMade, AreModelsSame, PutsModels}
 use Rattle.bench_edits.specs.Laws.{IsEdit}
-use Rattle.bench_edits.specs.Owed.{AreApart, ArePartsOf}
+use Rattle.bench_edits.specs.Owed.{ArePartsOf}
+use Rattle.bench_text_laws.specs.Orderly.{AreApart}
 use Rattle.bench_edits.proofs.Making.{push_past}
 use Rattle.bench_edits.proofs.PutModels.{held_keys_are, ids_after}
 use Rattle.bench_edits.proofs.Lists.{one_of_key, in_removed, kept_in_put}

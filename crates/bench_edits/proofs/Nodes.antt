@@ -29,14 +29,15 @@ use Rattle.bench_nodes.proofs.Laws.{used_by}
 use Rattle.bench_values.specs.Givens.{GivenContent, ForSpace, ForItem, ForVerdict, ForFault, asked, faulted}
 use Rattle.bench_items.specs.Items.{role_content}
 use Rattle.bench_values.specs.Makes.{output_names}
-use Rattle.bench_items.specs.Naming.{SeenName, item_outputs as numbers_in, seen_names_in, body_names, number_of, IsInHistory, AreInHistory}
+use Rattle.bench_items.specs.Naming.{SeenName, item_outputs as numbers_in, seen_names_in, body_names, number_in_history, IsInHistory, AreInHistory}
 use Rattle.bench_items.proofs.Naming.{number_tells}
 use Rattle.bench_values.specs.Parts.{parts_of}
 use Rattle.bench_edits.specs.Solved.{is_node, flag_name, flag_names}
 use Rattle.bench_slots.specs.Slots.{no_name, name_of as bound_name, number_at, function_key, name_key, space_key, item_keys, flag_key, answer_key, keys_by, verdict_keys}
 use Rattle.bench_slots.specs.Tables.{ModelReading, Sound, Faulty, name_count, IsNameOf}
 use Rattle.bench_slots.proofs.Lists.{has_map, contains_has, each_has, each_from_has}
-use Rattle.bench_slot_laws.specs.Closed.{predefined_names, all_keys}
+use Rattle.bench_slot_laws.specs.Closed.{all_keys}
+use Rattle.binding_kinds.specs.Outermost.{outermost_names}
 use Rattle.bench_slot_laws.proofs.Reached.{name_reached, all_flags, all_answers}
 use Rattle.bench_parts.specs.Contents.{PartContent, OfRole, OfCondition, OfObserved, PartsState, histories, content}
 use Rattle.bench_parts.specs.States.{contents, is_read, flag_name as parts_flag, flag_read, flags_read, given_item, given_verdict, given_by, given_to_node, net_in}
@@ -149,12 +150,12 @@ names_many (b ∷ bs) = ap suc (names_many bs)
 outputs_numbered : (history : List SeenName) (role : Role) (p : ℕ) → p < name_count role
     → slice_get
     (output_names (ForItem (role_content role) (numbers_in (role_content role) history))) p
-    ≡ Some (number_of history (get_or (seen_names_in (role_content role)) p no_name))
+    ≡ Some (number_in_history history (get_or (seen_names_in (role_content role)) p no_name))
 outputs_numbered history (roles.Group recursive bodies) p lt =
     let names = body_names bodies.items in
     let many = names_many bodies.items in
-    get_mapped (number_of history) names p
-    ∙ ap (option_map (number_of history)) (get_there names p (omega (arith, lt, many)))
+    get_mapped (number_in_history history) names p
+    ∙ ap (option_map (number_in_history history)) (get_there names p (omega (arith, lt, many)))
 outputs_numbered history (roles.Check check) p lt = absurd (omega (arith, lt))
 outputs_numbered history roles.Silent p lt = absurd (omega (arith, lt))
 
@@ -176,10 +177,10 @@ name_behind f (Some x) n e = (x, refl, some_number e)
 
 -- names that stand once in a list, and stand in a history, have numbers that stand once
 mapped_once : (history names : List SeenName) → Each (IsInHistory history) names → StandsOnce names
-    → StandsOnce (map (number_of history) names)
+    → StandsOnce (map (number_in_history history) names)
 mapped_once history names all once p q n at also =
-    let a = name_behind (number_of history) (slice_get names p) n (sym (get_mapped (number_of history) names p) ∙ at) in
-    let b = name_behind (number_of history) (slice_get names q) n (sym (get_mapped (number_of history) names q) ∙ also) in
+    let a = name_behind (number_in_history history) (slice_get names p) n (sym (get_mapped (number_in_history history) names p) ∙ at) in
+    let b = name_behind (number_in_history history) (slice_get names q) n (sym (get_mapped (number_in_history history) names q) ∙ also) in
     let same : a.0 ≡ b.0 = number_tells history a.0 b.0 (named_at history names p a.0 all a.1) (a.2 ∙ sym b.2) in
     once p q a.0 a.1 (b.1 ∙ ap (λ (x : SeenName). Some x) (sym same))
 
@@ -442,7 +443,7 @@ module _ (s : PartsState) where
         is.1,
         outputs_numbered (histories s (number_at numbers name.item)) is.0.role name.position is.2
             ∙ ap
-            (λ (o : Option ResolvedItem). Some (number_of
+            (λ (o : Option ResolvedItem). Some (number_in_history
             (histories s (number_at numbers name.item)) (bound_name o name.position)))
             (sym is.1),
       )
@@ -458,7 +459,7 @@ module _ (s : PartsState) where
       numbers_once k r inside at_k node =
           let read = each_has IsReadingOfText models kept.read (Sound model numbers items us) there in
           outputs_once (histories s (number_at numbers k)) r.role (history_holds k r at_k)
-          (names_once [] [] predefined_names 0 read.0 items read.1.no_fault read.1.resolved k r
+          (names_once [] [] outermost_names 0 read.0 items read.1.no_fault read.1.resolved k r
           at_k)
 
       name_outputs : (names : List Input) → ((name : Input) → Has names name → IsNameOf items name)

@@ -16,7 +16,7 @@ use Rattle.bench_parts.specs.Models.{fault_by, fault_stamp_by, raised_model}
 use Rattle.bench_parts.proofs.Stamping.{part_now}
 use Rattle.bench_parts.proofs.ModelRows.{fault_low, model_stamped}
 use Rattle.bench_edits.specs.Edited.{held_models, model_id, rest_of, IsModelMade, AreModelsMade}
-use Rattle.bench_edits.specs.Owed.{AreApart}
+use Rattle.bench_text_laws.specs.Orderly.{AreApart}
 use Rattle.bench_edits.specs.Readings.{fault_in}
 
 -- ---- what models were

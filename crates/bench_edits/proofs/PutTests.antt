@@ -14,7 +14,7 @@ use Rattle.bench_parts.specs.Stamps.{IsPartNow}
 use Rattle.bench_parts.specs.Tests.{TestEntry, held_by, stamp_by}
 use Rattle.bench_parts.proofs.TestRows.{row_stays}
 use Rattle.bench_edits.specs.Edited.{entry_by, test_id}
-use Rattle.bench_edits.specs.Owed.{AreApart}
+use Rattle.bench_text_laws.specs.Orderly.{AreApart}
 
 abbrev Names : Type 0
 Names = Vec (List ℕ) Global

@@ -30,7 +30,8 @@ use Rattle.bench_edits.specs.declared.edited.EditedParts.{EditedParts}
 use Rattle.bench_edits.specs.declared.edited.EditedParts.TheVariants as edited
 use Rattle.bench_edits.specs.Edited.{entry_at, test_id, IsTestMade, AreModelsSame, PutsTest, DropsTest}
 use Rattle.bench_edits.specs.Laws.{IsEdit, IsOfTest}
-use Rattle.bench_edits.specs.Owed.{AreApart, ArePartsOf}
+use Rattle.bench_edits.specs.Owed.{ArePartsOf}
+use Rattle.bench_text_laws.specs.Orderly.{AreApart}
 use Rattle.bench_edits.specs.Readings.{readings_of, written_models, written_state}
 use Rattle.bench_edits.proofs.PutTests.{entry_was, rows_put, zip_put, parts_put, apart_put, low_put, id_low, rows_removed, zip_removed, parts_removed, apart_removed, low_removed}
 

@@ -12,7 +12,7 @@ use Rattle.bench_nodes.specs.Nodes.{stamp_in, test_stamp, space_parts, space_key
 use Rattle.bench_parts.specs.Built.{IsTestRow, AreTestRows}
 use Rattle.bench_parts.specs.Contents.{test_part, test_content}
 use Rattle.bench_parts.specs.Tests.{TestEntry}
-use Rattle.bench_edits.specs.Owed.{AreApart}
+use Rattle.bench_text_laws.specs.Orderly.{AreApart}
 use Rattle.bench_edits.proofs.PutTests.{entry_in}
 
 abbrev Names : Type 0

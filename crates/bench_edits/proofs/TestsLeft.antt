@@ -25,7 +25,8 @@ use Rattle.bench_edits.specs.declared.edited.EditedParts.{EditedParts}
 use Rattle.bench_edits.specs.declared.edited.EditedParts.TheVariants as edited
 use Rattle.bench_edits.specs.Edited.{entry_at, test_id, AreTestsSame, IsTestMade, PutsTest, DropsTest}
 use Rattle.bench_edits.specs.Laws.{IsEdit}
-use Rattle.bench_edits.specs.Owed.{AreApart, ArePartsOf}
+use Rattle.bench_edits.specs.Owed.{ArePartsOf}
+use Rattle.bench_text_laws.specs.Orderly.{AreApart}
 use Rattle.bench_edits.proofs.Lists.{one_of_key, in_removed, kept_in_put}
 use Rattle.bench_edits.proofs.TestEntries.{entries, entries_put, entries_removed, entry_is, entry_name, entry_names}
 use Rattle.bench_edits.proofs.Faults.{kept_stamp}

@@ -20,7 +20,8 @@ use Rattle.bench_parts.specs.Written.{WrittenModel, StandsAt, IsReadAs, IsPaired
 use Rattle.bench_parts.specs.declared.parts.Parts.{Parts}
 use Rattle.bench_parts.proofs.Built.{built_valid}
 use Rattle.bench_edits.specs.Laws.{AreModelsWritten}
-use Rattle.bench_edits.specs.Owed.{AreApart, ArePartsOf, item_numbers}
+use Rattle.bench_edits.specs.Owed.{ArePartsOf, item_numbers}
+use Rattle.bench_text_laws.specs.Orderly.{AreApart}
 use Rattle.bench_edits.specs.Readings.{reading_by, reading_of, readings_of, written_model, written_models, written_state}
 use Rattle.bench_edits.proofs.Facts.{each_item_has_number, texts_are, unstamped_gone}
 use Rattle.bench_edits.proofs.ModelEdits.{each_read}

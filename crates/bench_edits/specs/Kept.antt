@@ -17,10 +17,10 @@ use Rattle.binding_graph.specs.declared.resolved.Role.TheVariants as roles
 use Rattle.binding_graph.specs.Reach.{AreReached}
 use Rattle.binding_graph.specs.Resolved.{AreResolved}
 use Rattle.bench_nodes.specs.declared.table.TestRow.{TestRow}
-use Rattle.bench_items.specs.Naming.{SeenName, number_of}
+use Rattle.bench_items.specs.Naming.{SeenName, number_in_history}
 use Rattle.bench_slots.specs.Slots.{number_at, input_name}
 use Rattle.bench_slots.specs.Tables.{ModelReading, Sound, Faulty}
-use Rattle.bench_slot_laws.specs.Closed.{predefined_names}
+use Rattle.binding_kinds.specs.Outermost.{outermost_names}
 use Rattle.bench_parts.specs.Built.{IsBuilt}
 use Rattle.bench_parts.specs.Contents.{PartsState}
 use Rattle.bench_parts.specs.States.{net_in}
@@ -33,8 +33,8 @@ use Rattle.bench_edits.specs.Settled.{CellNodes}
 -- the indexes of those that checks and flags reach
 pub record IsReadFrom (clauses : List BareItem) (numbers : List ℕ) (items : List ResolvedItem)
     (used : List ℕ) : Type 0 where
-  pub no_fault : HasNoFault [] predefined_names 0 clauses
-  pub resolved : AreResolved [] [] predefined_names 0 clauses items
+  pub no_fault : HasNoFault [] outermost_names 0 clauses
+  pub resolved : AreResolved [] [] outermost_names 0 clauses items
   pub reached : AreReached items used
   pub numbered : length numbers ≡ length items
   pub apart : AllPairs (λ a b. a ≡ b → ⊥) numbers
@@ -101,7 +101,7 @@ verdict_node test id = record { kind = kinds.Verdict; test = test; of = id }
 -- the number of a name that an item uses, in the history of the name's item
 abbrev pub name_number : (ℕ → List SeenName) → List ℕ → List ResolvedItem → Input → ℕ
 name_number histories numbers items name =
-    number_of (histories (number_at numbers name.item)) (input_name items name)
+    number_in_history (histories (number_at numbers name.item)) (input_name items name)
 
 -- the nodes of a test under a model without fault, where items have these histories
 abbrev pub nodes_of : (ℕ → List SeenName) → ℕ → ℕ → List ℕ → List ResolvedItem → CellNodes

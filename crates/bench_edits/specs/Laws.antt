@@ -13,7 +13,8 @@ use Rattle.bench_parts.specs.Stamps.{IsLaterNumber}
 use Rattle.bench_edits.specs.declared.edited.EditedParts.{EditedParts}
 use Rattle.bench_edits.specs.Edited.{ArePartsMade, Commits}
 use Rattle.bench_edits.specs.Readings.{written_state}
-use Rattle.bench_edits.specs.Owed.{AreApart, ArePartsOf, item_numbers}
+use Rattle.bench_edits.specs.Owed.{ArePartsOf, item_numbers}
+use Rattle.bench_text_laws.specs.Orderly.{AreApart}
 
 -- the parts before an edit of that number and after it
 pub record IsEdit (p : Parts) (tests : List Test) (models : List NamedModel) (r : Replacement)

@@ -18,7 +18,8 @@ use Rattle.bench_parts.specs.declared.parts.Parts.{Parts}
 use Rattle.bench_parts.specs.ItemLaws.{IsOfItsKind}
 use Rattle.bench_edits.specs.declared.edited.EditedParts.{EditedParts}
 use Rattle.bench_edits.specs.Laws.{IsEdit}
-use Rattle.bench_edits.specs.Owed.{AreApart, ArePartsOf, item_numbers}
+use Rattle.bench_edits.specs.Owed.{ArePartsOf, item_numbers}
+use Rattle.bench_text_laws.specs.Orderly.{AreApart}
 use Rattle.bench_edits.specs.Readings.{readings_of, written_model, written_state, all_facts}
 use Rattle.bench_edits.specs.Kept.{IsKeptState}
 use Rattle.bench_edits.specs.BenchCells.{HaveSameCells, LeavesCell, MayNodesKeep}

@@ -1,10 +1,9 @@
 -- What the parts of the bench owe to its tests and models. Read it after Readings. The laws cite
 -- it.
-use Rattle.std.specs.Prelude.{◌≡◌, ⊤, ℕ, ◌≤◌, List, [], ◌∷◌, length, map}
+use Rattle.std.specs.Prelude.{◌≡◌, ℕ, ◌≤◌, List, length, map}
 use Rattle.std.specs.List.{AllZip, AllByRecursion as Each, flat_map}
 use Rattle.text_values.specs.declared.test.Test.{Test}
 use Rattle.ppc_semantics.specs.Lowering.{AreNamesOf, test_names}
-use Rattle.memo_core.specs.Step.{Has}
 use Rattle.bench_texts.specs.declared.model.NamedModel.{NamedModel}
 use Rattle.bench_nodes.specs.declared.table.ModelRow.{ModelRow}
 use Rattle.bench_nodes.specs.declared.table.TestRow.{TestRow}
@@ -12,11 +11,7 @@ use Rattle.bench_parts.specs.Built.{IsBuilt}
 use Rattle.bench_parts.specs.Contents.{parts_state}
 use Rattle.bench_parts.specs.declared.parts.Parts.{Parts}
 use Rattle.bench_edits.specs.Readings.{readings_of}
-
--- no two are equal
-abbrev pub AreApart : {A : Type 0} → List A → Type 0
-AreApart [] = ⊤
-AreApart (x ∷ xs) = (Has xs x → ⊥) × AreApart xs
+use Rattle.bench_text_laws.specs.Orderly.{AreApart}
 
 -- the numbers of the items of all models
 abbrev pub item_numbers : List NamedModel → List ℕ

@@ -19,7 +19,7 @@ use Rattle.bench_nodes.specs.declared.table.TestRow.{TestRow}
 use Rattle.bench_nodes.specs.Nodes.{keys_at, slot_keys, thread_parts, row_parts, row_of, inputs_of}
 use Rattle.bench_texts.specs.BenchTexts.{test_index}
 use Rattle.bench_texts.specs.Held.{texts_of}
-use Rattle.bench_edits.specs.Owed.{AreApart}
+use Rattle.bench_text_laws.specs.Orderly.{AreApart}
 use Rattle.board.specs.declared.operation.BoardOp.{BoardOp}
 use Rattle.board.specs.Contents.{BoardContent}
 use Rattle.board.specs.Operations.{board_after}

@@ -6,7 +6,7 @@ use Rattle.text_values.specs.declared.test.Test.{Test}
 use Rattle.text_values.specs.TestValue.{content_of}
 use Rattle.verdict.specs.declared.answer.Outcome.{Outcome}
 use Rattle.bench_texts.specs.declared.model.NamedModel.{NamedModel}
-use Rattle.bench_texts.specs.BenchTexts.{BenchTexts, test_index, model_index}
+use Rattle.bench_texts.specs.BenchTexts.{BenchTexts, test_index, model_index, no_texts}
 use Rattle.bench_texts.specs.Edits as edits
 use Rattle.bench_texts.specs.Held.{texts_of, plain_model}
 use Rattle.bench_texts.specs.Replacements.{texts_with}
@@ -15,7 +15,7 @@ use Rattle.board.specs.declared.operation.BoardOp.TheVariants.{Edit, Settle}
 use Rattle.board.specs.Legal.{TestsAndModels, tests_and_models, texts_after}
 use Rattle.bench_instance.specs.declared.stamped_texts.StampedTexts.{StampedTexts}
 use Rattle.bench_instance.specs.StampedCells.{from_scratch, scratch_by, test_of as test_in, model_of as model_in}
-use Rattle.board.specs.Histories.{no_contents, contents_with, contents_after, IsEditOf, IsMadeOn, AreMadeFrom, IsHistory}
+use Rattle.board.specs.Histories.{contents_with, contents_after, IsEditOf, IsMadeOn, AreMadeFrom, IsHistory}
 use Rattle.bench_instance.specs.Texts.{AreAfter}
 use Rattle.bench_instance.specs.Lemmas.Laws.{made_few}
 use Rattle.board.proofs.Histories.{contents_are_those}
@@ -36,7 +36,7 @@ applied_here t (Settle at outcome) e number h = absurd h
 pub edit_is_applied : (ops : List BoardOp) (op : BoardOp) → IsApplied ops op
 edit_is_applied ops op e number h =
     subst (λ (t : BenchTexts). edits.Applies (contents_after ops) false e t)
-    (sym (one_more ops op no_contents)) (applied_here (contents_after ops) op e number h)
+    (sym (one_more ops op no_texts)) (applied_here (contents_after ops) op e number h)
 
 -- ---- the limits
 
@@ -55,7 +55,7 @@ few_from (op ∷ ops) t few made = few_from ops (contents_with t op) (few_with t
 
 pub history_is_within : (ops : List BoardOp) → IsHistory ops → AreWithinLimits (texts_after ops)
 history_is_within ops history =
-    let few = few_from ops no_contents (omega arith, omega arith) history.1 in
+    let few = few_from ops no_texts (omega arith, omega arith) history.1 in
     let same = contents_are_those ops in
     let h : TestsAndModels = texts_after ops in
     record {

@@ -8,7 +8,7 @@ use Rattle.std.proofs.lemmas.Option.{same_Some}
 use Rattle.text_values.specs.declared.test.Test.{Test}
 use Rattle.text_values.specs.TestValue.{content_of}
 use Rattle.verdict.specs.declared.answer.Outcome.{Outcome}
-use Rattle.bench_texts.specs.BenchTexts.{BenchTexts}
+use Rattle.bench_texts.specs.BenchTexts.{BenchTexts, no_texts}
 use Rattle.bench_texts.specs.Held.{texts_of}
 use Rattle.bench_texts.specs.Held as plain
 use Rattle.bench_texts.specs.declared.texts.Texts.{Texts as HeldTexts}
@@ -28,7 +28,6 @@ use Rattle.bench_instance.specs.declared.stamped_texts.PreparedEdit.{PreparedEdi
 use Rattle.bench_instance.specs.declared.stamped_texts.StampedTexts.{StampedTexts}
 use Rattle.bench_instance.specs.Cells.{cell_with, all_cells, IsCountable, board_cells, IsCellIndexOf, IsNamedAt, HasNoNames}
 use Rattle.bench_instance.specs.Lemmas.Listing.{are_all, all_length, all_get, cell_of_row, row_cell, outcome_at}
-use Rattle.board.specs.Histories.{no_contents}
 use Rattle.bench_instance.specs.Texts.{AreAfter, MayFollowBelow, IsAnnounced}
 
 -- ---- how many cells
@@ -188,7 +187,7 @@ none_of f (x ∷ xs) e = cc
 abbrev held : List Test → List NamedModel → TestsAndModels
 held ts ms = record { tests = ts; models = ms }
 
-pub after_nothing : (t : StampedTexts) → texts_of t.texts ≡ no_contents → AreAfter t []
+pub after_nothing : (t : StampedTexts) → texts_of t.texts ≡ no_texts → AreAfter t []
 after_nothing t e =
     let tests : t.texts.tests.items ≡ [] = none_of content_of t.texts.tests.items (ap (λ (x : BenchTexts). x.tests) e) in
     let models : t.texts.models.items ≡ [] = none_of plain.plain_model t.texts.models.items (ap (λ (x : BenchTexts). x.models) e) in

@@ -79,7 +79,7 @@ impl CellTexts for StampedTexts {
     ghost use Rattle.std.specs.Prelude.{◌≡◌, true, Some};
     ghost use Rattle.bench_texts.specs.Edits.{edit_of};
     ghost use Rattle.bench_texts.specs.Held.{texts_of};
-    ghost use Rattle.board.specs.Histories.{no_contents};
+    ghost use Rattle.bench_texts.specs.BenchTexts.{no_texts};
     ghost use Rattle.bench_values.specs.Values.{outcome_in};
     ghost use Rattle.bench_instance.specs.StampedTexts.{verdict_of};
     ghost use Rattle.bench_instance.specs.StampedCells.{from_scratch, ReachesCellNamed};
@@ -94,7 +94,7 @@ impl CellTexts for StampedTexts {
 
     ghost reaches = { ReachesCellNamed };
 
-    ghost is_empty = { λ t. texts_of t.texts ≡ no_contents };
+    ghost is_empty = { λ t. texts_of t.texts ≡ no_texts };
 
     ghost same_edit = { λ e f. edit_of e ≡ edit_of f };
 

@@ -2,7 +2,7 @@
 //!
 //! - The texts of the bench with their stamps, as a bench of cells asks for them:
 //!   `specs/StampedTexts`, then `specs/Edited` and `specs/StampedCells`.
-//! - The same texts as a desk asks for them, and the seed of a desk: `specs/Cells`, then
+//! - The same texts as a desk asks for them, and the desk of them: `specs/Cells`, then
 //!   `specs/Texts`.
 //! - What viewers are promised: each cell that a view shows is right for the texts after the
 //!   operations of the view, which begin with all that its viewer saw or was told. Read
@@ -14,12 +14,12 @@ mod board_texts;
 mod cell_texts;
 mod copies;
 mod outputs;
-mod seed;
+mod running;
 pub mod stamped_laws;
 mod stamped_texts;
 mod view;
 pub mod view_laws;
 
-pub use seed::{DeskSeed, RunningDesk};
+pub use running::RunningDesk;
 pub use stamped_texts::{PreparedEdit, StampedTexts};
 pub use view::{edit_count_in, newest_view, result_in};

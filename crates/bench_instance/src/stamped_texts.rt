@@ -118,7 +118,7 @@ impl StampedTexts {
             RefusesEdit (texts_of self.old.texts) spent (edit_of edit.now) fault) }
         ensures same { AreSameTexts self.old self.new }
     {
-        let texts = self.texts.prepare(alloc, edit, spent)?;
+        let texts = self.texts.prepare_unless_spent(alloc, edit, spent)?;
         match prepare_parts(
             alloc,
             &mut self.parts,
@@ -275,6 +275,10 @@ impl Texts for StampedTexts {
 
     fn used_after(prepared: &PreparedEdit) -> usize {
         prepared.used
+    }
+
+    fn refused_memory(_prepared: &PreparedEdit, error: AllocError) -> EditFault {
+        EditFault::OutOfMemory(error)
     }
 
     fn commit(&mut self, prepared: PreparedEdit, number: u64) {

@@ -13,7 +13,7 @@ ghost use Rattle.board.specs.Histories.{AreEditsMade};
 
 use crate::stamped_texts::StampedTexts;
 use board::view_laws::{cells_are_right, edits_are_counted, items_are_right};
-use desk_history::{Naming, View, Viewer};
+use desk::{Naming, View, Viewer};
 use outcome_texts::Shown;
 
 /// The board that was published last: its operations begin with all that the viewer saw or was

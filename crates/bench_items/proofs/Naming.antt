@@ -10,7 +10,7 @@ use Rattle.bench_items.specs.Items.{RoleContent}
 use Rattle.bench_items.specs.Laws.{KeepsNumbers, TellsNamesApart, HoldsNames}
 use Rattle.binding_kinds.specs.declared.kinds.Kind.{Kind}
 use Rattle.binding_kinds.specs.declared.kinds.Kind.TheVariants.{OfSet, OfRelation, OfAny}
-use Rattle.bench_items.specs.Naming.{SeenName, is_same_kind, is_same_name, seen_names_in, number_of, IsInHistory, IsNumberedAlike, AreInHistory, with_new_name, with_names, with_role_names}
+use Rattle.bench_items.specs.Naming.{SeenName, is_same_kind, is_same_name, seen_names_in, number_in_history, IsInHistory, IsNumberedAlike, AreInHistory, with_new_name, with_names, with_role_names}
 
 -- ---- names that are the same
 
@@ -44,7 +44,7 @@ one_name n m e =
 
 -- ---- numbers of a history
 
-number_within : (h : List SeenName) (a : SeenName) → number_of h a ≤ length h
+number_within : (h : List SeenName) (a : SeenName) → number_in_history h a ≤ length h
 number_within [] a = omega arith
 number_within (n ∷ h) a = elim (cases_Bool (is_same_name n a)) [
   | inl e ↦ rw e (omega arith)
@@ -53,7 +53,7 @@ number_within (n ∷ h) a = elim (cases_Bool (is_same_name n a)) [
 
 -- a name keeps its number where names are added behind
 pub number_stays : (h rest : List SeenName) (a : SeenName) → IsInHistory h a
-    → number_of (h ++ rest) a ≡ number_of h a
+    → number_in_history (h ++ rest) a ≡ number_in_history h a
 number_stays [] rest a lt = absurd (omega (arith, lt))
 number_stays (n ∷ h) rest a lt = elim (cases_Bool (is_same_name n a)) [
   | inl e ↦ rw e refl
@@ -95,17 +95,17 @@ number_tells (n ∷ h) a b lt same = elim (cases_Bool (is_same_name n a)) [
 -- ---- how a history grows
 
 with_name_named : (h : List SeenName) (a : SeenName) → IsInHistory (with_new_name h a) a
-with_name_named h a = elim (cases_Bool (number_of h a == length h)) [
+with_name_named h a = elim (cases_Bool (number_in_history h a == length h)) [
   | inl e ↦ rw e (last_named h a)
   | inr f ↦ (
       let within = number_within h a in
-      let unlike : number_of h a ≡ length h → ⊥ = λ same. (let no : false ≡ true = sym f ∙ eq-eqb (number_of h a) (length h) same in cc) in
+      let unlike : number_in_history h a ≡ length h → ⊥ = λ same. (let no : false ≡ true = sym f ∙ eq-eqb (number_in_history h a) (length h) same in cc) in
       rw f (omega (arith, within, unlike)))
 ]
 
 with_name_begins : (h : List SeenName) (a : SeenName)
     → (rest : List SeenName) × (with_new_name h a ≡ h ++ rest)
-with_name_begins h a = elim (cases_Bool (number_of h a == length h)) [
+with_name_begins h a = elim (cases_Bool (number_in_history h a == length h)) [
   | inl e ↦ (a ∷ [], rw e refl)
   | inr f ↦ ([], rw f (sym (append-nil h)))
 ]
@@ -126,8 +126,8 @@ with_names_begin h (n ∷ ns) =
 pub names_stay : (h names : List SeenName) → Each (IsInHistory h) names → with_names h names ≡ h
 names_stay h [] named = refl
 names_stay h (n ∷ ns) named =
-    let unlike : number_of h n ≡ length h → ⊥ = λ same. (let lt = named.0 in omega (arith, lt, same)) in
-    let same : with_new_name h n ≡ h = rw (ne_eqb (number_of h n) (length h) unlike) refl in
+    let unlike : number_in_history h n ≡ length h → ⊥ = λ same. (let lt = named.0 in omega (arith, lt, same)) in
+    let same : with_new_name h n ≡ h = rw (ne_eqb (number_in_history h n) (length h) unlike) refl in
     ap (λ (l : List SeenName). with_names l ns) same ∙ names_stay h ns named.1
 
 names_named : (h names : List SeenName) → Each (IsInHistory (with_names h names)) names
@@ -165,7 +165,7 @@ holds_itself h old role e = grown_stays h role (all_named h old role e)
 pub keeps_numbers : (h : List SeenName) (role : RoleContent) → KeepsNumbers h role
 keeps_numbers h role a named =
     let begins = grown_begins h role in
-    ap (λ (l : List SeenName). number_of l a) begins.1 ∙ number_stays h begins.0 a named
+    ap (λ (l : List SeenName). number_in_history l a) begins.1 ∙ number_stays h begins.0 a named
 
 pub holds_names : (h : List SeenName) (role : RoleContent) → HoldsNames h role
 holds_names h role = (grown_named h role, grown_stays h role)
@@ -173,13 +173,13 @@ holds_names h role = (grown_named h role, grown_stays h role)
 -- ---- the numbers of some names in two histories
 
 pub numbers_alike : (h g names : List SeenName) → Each (IsNumberedAlike h g) names
-    → map (number_of h) names ≡ map (number_of g) names
+    → map (number_in_history h) names ≡ map (number_in_history g) names
 numbers_alike h g [] alike = refl
 numbers_alike h g (n ∷ ns) alike =
-    let rest : map (number_of h) ns ≡ map (number_of g) ns = numbers_alike h g ns alike.1 in
+    let rest : map (number_in_history h) ns ≡ map (number_in_history g) ns = numbers_alike h g ns alike.1 in
     λ i. alike.0 i ∷ rest i
 
-pub alike_numbers : (h g names : List SeenName) → map (number_of h) names ≡ map (number_of g) names
+pub alike_numbers : (h g names : List SeenName) → map (number_in_history h) names ≡ map (number_in_history g) names
     → Each (IsNumberedAlike h g) names
 alike_numbers h g [] same = tt
 alike_numbers h g (n ∷ ns) same =

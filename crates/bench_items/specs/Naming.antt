@@ -50,16 +50,16 @@ abbrev pub is_same_name : SeenName → SeenName → Bool
 is_same_name n m = bytes_eq n.name m.name && is_same_kind n.kind m.kind
 
 -- the index of a name in a history, or how many names that has where it is none of them
-abbrev pub number_of : List SeenName → SeenName → ℕ
-number_of history name = position_or_len (λ n. is_same_name n name) history
+abbrev pub number_in_history : List SeenName → SeenName → ℕ
+number_in_history history name = position_or_len (λ n. is_same_name n name) history
 
 -- of the names of a group, in order
 abbrev pub numbers_of : List SeenName → RoleContent → List ℕ
-numbers_of history role = map (number_of history) (seen_names_in role)
+numbers_of history role = map (number_in_history history) (seen_names_in role)
 
 -- the name is one of the history
 abbrev pub IsInHistory : List SeenName → SeenName → Type 0
-IsInHistory history name = number_of history name < length history
+IsInHistory history name = number_in_history history name < length history
 
 -- so is each name of a group
 abbrev pub AreInHistory : List SeenName → RoleContent → Type 0
@@ -67,14 +67,14 @@ AreInHistory history role = Each (IsInHistory history) (seen_names_in role)
 
 -- the name has one number in two histories
 abbrev pub IsNumberedAlike : List SeenName → List SeenName → SeenName → Type 0
-IsNumberedAlike these those name = number_of these name ≡ number_of those name
+IsNumberedAlike these those name = number_in_history these name ≡ number_in_history those name
 
 -- ---- how a history grows
 
 -- a name that is none of a history yet is added as the last
 abbrev pub with_new_name : List SeenName → SeenName → List SeenName
 with_new_name history name =
-    if number_of history name == length history then history ++ name ∷ [] else history
+    if number_in_history history name == length history then history ++ name ∷ [] else history
 
 abbrev pub with_names : List SeenName → List SeenName → List SeenName
 with_names history [] = history

@@ -4,7 +4,7 @@ ghost use Rattle.std.specs.Prelude.{◌≡◌, ◌↔◌, ◌≤◌, ◌∷◌, 
 ghost use Rattle.std.specs.List.{AllByRecursion as Each};
 ghost use Rattle.std.specs.Arc.{arc_value};
 ghost use Rattle.binding_graph.specs.Contents.{body_content, role_content};
-ghost use Rattle.bench_items.specs.Naming.{seen_name, seen_names_in, body_names, is_same_kind, number_of, numbers_of, IsInHistory, IsNumberedAlike};
+ghost use Rattle.bench_items.specs.Naming.{seen_name, seen_names_in, body_names, is_same_kind, number_in_history, numbers_of, IsInHistory, IsNumberedAlike};
 ghost use Rattle.bench_items.specs.Naming.{with_new_name, with_names, with_role_names, item_outputs};
 
 use binding_graph::{Body, Kind, Role};
@@ -76,8 +76,9 @@ impl SeenName {
 
 /// The number of a name of a kind: its index in a history, or how many names that has where it is
 /// none of them.
-pub fn number_of(history: &[SeenName], name: &[u8], kind: Kind) -> usize
-    ensures number { result ≡ number_of history.now (record { name = name.now; kind = kind }) }
+pub fn number_in_history(history: &[SeenName], name: &[u8], kind: Kind) -> usize
+    ensures number { result
+        ≡ number_in_history history.now (record { name = name.now; kind = kind }) }
     ensures within { result ≤ length history.now }
 {
     for index in 0..history.len() {
@@ -90,10 +91,10 @@ pub fn number_of(history: &[SeenName], name: &[u8], kind: Kind) -> usize
 
 // The number of the name of a body.
 fn body_number(history: &[SeenName], body: &Body) -> usize
-    ensures number { result ≡ number_of history.now (seen_name (body_content body.now)) }
+    ensures number { result ≡ number_in_history history.now (seen_name (body_content body.now)) }
     ensures within { result ≤ length history.now }
 {
-    number_of(history, body.name.as_bytes(), body.code.kind)
+    number_in_history(history, body.name.as_bytes(), body.code.kind)
 }
 
 // The bodies of a group.
@@ -192,7 +193,8 @@ pub(crate) fn grown_history(
 }
 
 fn numbers_of(alloc: Global, history: &[SeenName], bodies: &[Body]) -> Result<Vec<u64>, AllocError>
-    ensures { IfOk result (λ v. v.items ≡ map (number_of history.now) (body_names bodies.now)) }
+    ensures { IfOk result (λ v. v.items
+        ≡ map (number_in_history history.now) (body_names bodies.now)) }
 {
     let mut numbers = Vec::with_capacity(alloc, bodies.len())?;
     for body in bodies {

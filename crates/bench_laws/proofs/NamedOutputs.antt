@@ -9,7 +9,7 @@ use Rattle.memo_core.specs.declared.keys.Kind.TheVariants as kinds
 use Rattle.memo_core.specs.declared.keys.Node.{Node}
 use Rattle.memo_core.specs.Step.{Has}
 use Rattle.binding_graph.specs.Contents.{BodyContent, RoleContent, Group, Check, Silent}
-use Rattle.bench_items.specs.Naming.{SeenName, names_of_bodies, number_of, item_outputs}
+use Rattle.bench_items.specs.Naming.{SeenName, names_of_bodies, number_in_history, item_outputs}
 use Rattle.bench_nodes.specs.declared.table.Slot.{Slot}
 use Rattle.bench_nodes.specs.declared.table.SlotKey.{SlotKey}
 use Rattle.bench_nodes.specs.Nodes.{keys_at, has_slot, slot_keys}
@@ -104,7 +104,7 @@ name_there name e = absurd cc
 
 -- an output of an item has a name
 group_name : (h : List SeenName) (bodies : List BodyContent) (i n : ℕ)
-    → slice_get (map (number_of h) (names_of_bodies bodies)) i ≡ Some n
+    → slice_get (map (number_in_history h) (names_of_bodies bodies)) i ≡ Some n
     → slice_get (map (λ b. b.name) bodies) i ≡ None → ⊥
 group_name h [] i n at none = none-some n at
 group_name h (b ∷ bs) zero n at none = name_there b.name none
@@ -136,7 +136,7 @@ module _ (t : StampedTexts) (sound : AreSoundTexts t) (test item : ℕ) (does : 
       (tells_at n at.0 at.1 (slice_get (names_given does) at.0) refl, each_tells ns all.1)
 
 pub returns_name_outputs : ReturnsNameOutputs
-returns_name_outputs old new r names test item does sound is node h =
-    let told = returns_tell_outputs old new r names h in
-    let g = item_given old.texts sound test item does is r.given (subst (λ (n : Node). given_to_node (stamped_state old.texts) n ≡ Some r.given) node told.given_is) in
-    record { given_is = g; each = each_tells old.texts sound test item does is names.items (subst (λ (x : GivenContent). Each (Has (output_names x)) names.items) g told.each) }
+returns_name_outputs old new r told test item does sound is node h =
+    let outputs = (returns_tell_outputs old new r told h).1 in
+    let g = item_given old.texts sound test item does is r.given (subst (λ (n : Node). given_to_node (stamped_state old.texts) n ≡ Some r.given) node outputs.given_is) in
+    record { given_is = g; each = each_tells old.texts sound test item does is told.names.items (subst (λ (x : GivenContent). Each (Has (output_names x)) told.names.items) g outputs.each) }

@@ -8,7 +8,7 @@ use Rattle.outcome_texts.specs.Cells.{Cell, NoCell, Open, Settled}
 use Rattle.memo_core.specs.Lemmas.Equality.{and_true}
 use Rattle.bench_texts.specs.declared.model.NamedModel.{NamedModel}
 use Rattle.bench_texts.specs.declared.replacement.Replacement.{Replacement}
-use Rattle.bench_texts.specs.BenchTexts.{BenchTexts}
+use Rattle.bench_texts.specs.BenchTexts.{BenchTexts, no_texts}
 use Rattle.bench_slices.specs.Reach.{cell_slice, is_of}
 use Rattle.bench_slices.specs.Slices.{Slice}
 use Rattle.bench_text_laws.specs.Orderly.{AreApart, IsOrderly}
@@ -19,7 +19,7 @@ use Rattle.board.specs.declared.operation.BoardOp.TheVariants.{Edit, Settle}
 use Rattle.board.specs.Contents.{RowContent, BoardContent, cell_at, shown_cell, cell_named}
 use Rattle.board.specs.Operations.{open_cell, rows_after, after_operation, no_board, board_after}
 use Rattle.board.specs.Legal.{TestsAndModels, no_tests_or_models, tests_and_models_with, tests_and_models_after, number_after, texts_after, Announces, MayFollow, LegalFrom, IsLegal}
-use Rattle.board.specs.Histories.{no_contents, contents_with, contents_after, IsContentOf, IsMadeOn, AreMadeFrom, IsHistory}
+use Rattle.board.specs.Histories.{contents_with, contents_after, IsContentOf, IsMadeOn, AreMadeFrom, IsHistory}
 use Rattle.board.specs.Results.{test_by_name, model_by_name, HasBoth, LacksOne, IsRightCell}
 use Rattle.board.proofs.Histories.{contents_are_those}
 use Rattle.board.proofs.Names.{IsNamed, names_from, beginning_is_legal}
@@ -66,12 +66,12 @@ orderly_from [] t orderly made = orderly
 orderly_from (op ∷ ops) t orderly made =
     orderly_from ops (contents_with t op) (orderly_with t op orderly made.0) made.1
 
-no_orderly : IsOrderly no_contents
+no_orderly : IsOrderly no_texts
 no_orderly = record { tests = tt; models = tt; items = tt; next = λ n h. absurd h }
 
-names_apart : (ops : List BoardOp) → AreMadeFrom no_contents ops → HasNamesApart (texts_after ops)
+names_apart : (ops : List BoardOp) → AreMadeFrom no_texts ops → HasNamesApart (texts_after ops)
 names_apart ops made =
-    let orderly = orderly_from ops no_contents no_orderly made in
+    let orderly = orderly_from ops no_texts no_orderly made in
     let same = contents_are_those ops in
     let h : TestsAndModels = texts_after ops in
     record {
@@ -187,7 +187,7 @@ module _ (ops : List BoardOp) (edit : BoardEdit) (history : IsHistory (with_edit
   announces = (last_may ops (Edit edit) no_tests_or_models 0 history.0).1
 
   apart_before : HasNamesApart h
-  apart_before = names_apart ops (made_beginning ops (Edit edit ∷ []) no_contents history.1)
+  apart_before = names_apart ops (made_beginning ops (Edit edit ∷ []) no_texts history.1)
 
   apart_later : HasNamesApart (tests_and_models_with r h)
   apart_later = subst HasNamesApart texts_are (names_apart (with_edit ops edit) history.1)
@@ -243,10 +243,10 @@ module _ (ops : List BoardOp) (edit : BoardEdit) (history : IsHistory (with_edit
 
   names_kept : HeldKept h (tests_and_models_with r h)
   names_kept =
-      let made = last_made ops (Edit edit) no_contents history.1 in
+      let made = last_made ops (Edit edit) no_texts history.1 in
       let was = contents_are_those ops in
       let now = contents_are_those (with_edit ops edit) in
-      let contents : contents_after (with_edit ops edit) ≡ contents_with (contents_after ops) (Edit edit) = fold_last contents_with ops (Edit edit) no_contents in
+      let contents : contents_after (with_edit ops edit) ≡ contents_with (contents_after ops) (Edit edit) = fold_last contents_with ops (Edit edit) no_texts in
       let are : IsContentOf (contents_with (contents_after ops) (Edit edit)) (texts_after (with_edit ops edit)) = subst (λ (t : BenchTexts). IsContentOf t (texts_after (with_edit ops edit))) contents now in
       subst (λ (g : TestsAndModels). HeldKept h g) texts_are
       (held_kept (contents_after ops) (contents_with (contents_after ops) (Edit edit)) h
@@ -287,7 +287,7 @@ module _ (ops : List BoardOp) (edit : BoardEdit) (history : IsHistory (with_edit
 pub keeps_unreached : (ops : List BoardOp) (edit : BoardEdit) → IsHistory (with_edit ops edit)
     → KeepsUnreached ops edit
 keeps_unreached ops edit history test model same part =
-    let made = last_made ops (Edit edit) no_contents history.1 in
+    let made = last_made ops (Edit edit) no_texts history.1 in
     kept_by ops edit history test model (slice_named (texts_after ops) test model) refl same
     (λ said. part (put_whole ops edit test model made said))
 

@@ -6,7 +6,7 @@ use Rattle.std.proofs.lemmas.Option.{none-some, slice_get-map}
 use Rattle.memo_core.specs.Step.{Has}
 use Rattle.binding_graph.specs.Contents.{BodyContent, RoleContent, Group, Check, Silent, role_content}
 use Rattle.binding_graph.specs.declared.resolved.ResolvedItem.{ResolvedItem}
-use Rattle.bench_items.specs.Naming.{SeenName, names_of_bodies, is_same_name, number_of, IsInHistory, AreInHistory, item_outputs}
+use Rattle.bench_items.specs.Naming.{SeenName, names_of_bodies, is_same_name, number_in_history, IsInHistory, AreInHistory, item_outputs}
 use Rattle.bench_items.proofs.Naming.{one_name}
 use Rattle.bench_nodes.specs.declared.table.ModelRow.{ModelRow}
 use Rattle.bench_slots.specs.Tables.{ModelReading}
@@ -32,13 +32,13 @@ later_at : (n : SeenName) (h : List SeenName) (k : ℕ) → slice_get (n ∷ h) 
 later_at n h k = ap (slice_get (n ∷ h)) (one_more k)
 
 -- the number of a name is the index at which the history has it
-named_at : (h : List SeenName) (a : SeenName) → IsInHistory h a → slice_get h (number_of h a) ≡ Some a
+named_at : (h : List SeenName) (a : SeenName) → IsInHistory h a → slice_get h (number_in_history h a) ≡ Some a
 named_at [] a lt = absurd (omega (arith, lt))
 named_at (n ∷ h) a lt = elim (cases_Bool (is_same_name n a)) [
   | inl e ↦ rw e (ap (λ (m : SeenName). let o : Option SeenName = Some m in o) (one_name n a e))
   | inr f ↦ (
       let here = rw f at lt in
-      let k : ℕ = number_of h a in
+      let k : ℕ = number_in_history h a in
       let rest : slice_get h k ≡ Some a = named_at h a (omega (arith, here)) in
       rw f (later_at n h k ∙ rest))
 ]
@@ -62,18 +62,18 @@ names_alike (b ∷ bs) = ap (λ (ns : List (List ℕ)). b.name ∷ ns) (names_al
 
 seen_by : (h names : List SeenName) (index number : ℕ) → Each (IsInHistory h) names
     → (o : Option SeenName) → slice_get names index ≡ o
-    → option_map (number_of h) o ≡ Some number → seen_at h number ≡ option_map (λ n. n.name) o
+    → option_map (number_in_history h) o ≡ Some number → seen_at h number ≡ option_map (λ n. n.name) o
 seen_by h names index number all None e is = absurd (none-some number is)
 seen_by h names index number all (Some n) e is =
     ap (λ (k : ℕ). seen_at h k) (sym (number_some is)) ∙ ap (option_map (λ (n : SeenName). n.name))
     (named_at h n (each_at (IsInHistory h) names index n all e))
 
 seen_names : (h names : List SeenName) (index number : ℕ) → Each (IsInHistory h) names
-    → slice_get (map (number_of h) names) index ≡ Some number
+    → slice_get (map (number_in_history h) names) index ≡ Some number
     → seen_at h number ≡ slice_get (map (λ n. n.name) names) index
 seen_names h names index number all is =
     seen_by h names index number all (slice_get names index) refl
-    (sym (slice_get-map (number_of h) names index) ∙ is)
+    (sym (slice_get-map (number_in_history h) names index) ∙ is)
     ∙ sym (slice_get-map (λ (n : SeenName). n.name) names index)
 
 only_check : (name : List ℕ) (index number : ℕ) → slice_get (0 ∷ []) index ≡ Some number

@@ -11,7 +11,8 @@ use Rattle.board.specs.declared.operation.CellIndex.{CellIndex}
 use Rattle.board.specs.Contents.{RowContent, BoardContent, cell_at, shown_cell, cell_named}
 use Rattle.board.specs.Operations.{put_cell, after_operation, no_board, board_after}
 use Rattle.board.specs.Legal.{TestsAndModels, no_tests_or_models, tests_and_models_after, texts_after}
-use Rattle.board.specs.Histories.{no_contents, IsHistory}
+use Rattle.board.specs.Histories.{IsHistory}
+use Rattle.bench_texts.specs.BenchTexts.{no_texts}
 use Rattle.board.specs.Results.{IsResultIn, IsRightCell}
 use Rattle.board.proofs.Names.{beginning_is_legal}
 use Rattle.board.proofs.Rights.{right_cell, one_result}
@@ -48,7 +49,7 @@ settled_cell (Some (Some p)) o e = cc
 beginning : (ops others : List BoardOp) → IsHistory (ops ++ others) → IsHistory ops
 beginning ops others history = (
   beginning_is_legal ops others no_tests_or_models 0 history.0,
-  made_beginning ops others no_contents history.1,
+  made_beginning ops others no_texts history.1,
 )
 
 result_shown : (h : TestsAndModels) (test model : List ℕ) (c : Cell) (o : Outcome)

@@ -43,11 +43,16 @@ given_some (Some h) g e =
     ap (λ (x : GivenContent). let o : Option GivenContent = Some x in o) ((given_exact h g).0 e)
 
 pub returns_tell_outputs : ReturnsTellOutputs
-returns_tell_outputs old new r names h =
+returns_tell_outputs old new r told h =
     let a = (h.2).0 in
     let made = h.0 in
-    let among = stamped_among (old.taken + 1) (output_names r.given) made.0 a.outputs (a.values ∙ made.2) in
-    record {
-      given_is = given_some (given_to_node (stamped_state old.texts) r.node) r.given a.of_present.given;
-      each = subst (λ (ns : List ℕ). Each (Has (output_names r.given)) ns) (sym (h.2).1) among;
-    }
+    let among = stamped_among (old.taken + 1) (output_names r.given) made.0 a.outputs (a.values ∙ made.2) in (
+      (h.2).3,
+      record {
+        given_is =
+            given_some (given_to_node (stamped_state old.texts) r.node) r.given
+            a.of_present.given;
+        each =
+            subst (λ (ns : List ℕ). Each (Has (output_names r.given)) ns) (sym (h.2).1) among;
+      },
+    )

@@ -20,7 +20,6 @@ use Rattle.bench_slots.specs.Tables.{ModelReading, Sound, Faulty, space_slots, s
 use Rattle.bench_slots.proofs.Lists.{has_contains}
 use Rattle.bench_parts.specs.Contents.{histories}
 use Rattle.bench_edits.specs.Kept.{IsReadingOfText, id_in, numbers_in, AreOther}
-use Rattle.bench_edits.specs.Owed as owed
 use Rattle.bench_edits.specs.Readings.{readings_of}
 use Rattle.bench_edits.proofs.Kept.{parts_are_kept}
 use Rattle.bench_edits.proofs.Origin.{pairs_tail, pairs_head, one_index, number_there}
@@ -269,7 +268,7 @@ in_tests ss (r ∷ rs) n h =
     ]
 
 tests_apart : (ss : List Slot) (rs : List TestRow)
-    → ((test : ℕ) → AreApart (nodes_at ss test)) → owed.AreApart (map (λ r. r.id) rs)
+    → ((test : ℕ) → AreApart (nodes_at ss test)) → AreApart (map (λ r. r.id) rs)
     → AreApart (used_in ss rs)
 tests_apart ss [] each apart = tt
 tests_apart ss (r ∷ rs) each apart =

@@ -1,8 +1,8 @@
 -- What the numbers are that a return tells. Read it after There and OutputNames.
-use Rattle.std.specs.Prelude.{◌≡◌, ℕ, List, Some, Vec, slice_get}
-use Rattle.std.specs.declared.alloc.Global.{Global}
+use Rattle.std.specs.Prelude.{◌≡◌, ℕ, List, Some, slice_get}
 use Rattle.std.specs.List.{AllByRecursion as Each}
 use Rattle.memo_core.specs.declared.claims.Finish.TheVariants.{Stored}
+use Rattle.memo_core.specs.declared.claims.StoredOutputs.{StoredOutputs}
 use Rattle.memo_core.specs.Run.{Returned, Step}
 use Rattle.memo_core.specs.Step.{Has, Return}
 use Rattle.binding_graph.specs.Contents.{RoleContent}
@@ -26,11 +26,12 @@ pub record AreOutputsOf (t : StampedTexts) (r : Return NodeContent GivenContent)
   pub given_is : given_to_node (stamped_state t) r.node ≡ Some r.given
   pub each : Each (Has (output_names r.given)) numbers
 
--- The numbers that a return tells are those of outputs of its node.
+-- A return tells its node, and the numbers of outputs of that.
 abbrev pub ReturnsTellOutputs : Type 0
 ReturnsTellOutputs =
-    (old new : LiveState) (r : Return NodeContent GivenContent) (names : Vec ℕ Global)
-    → Step live_meaning old (Returned r (Stored names)) new → AreOutputsOf old.texts r names.items
+    (old new : LiveState) (r : Return NodeContent GivenContent) (told : StoredOutputs)
+    → Step live_meaning old (Returned r (Stored told)) new
+    → (told.node ≡ r.node) × AreOutputsOf old.texts r told.names.items
 
 -- this number tells one of the outputs of the item that does this, and the name that it tells is
 -- the one that the item gives that output
@@ -55,9 +56,9 @@ pub record TellsItem (t : StampedTexts) (r : Return NodeContent GivenContent) (t
 -- texts hold, each by its name.
 abbrev pub ReturnsNameOutputs : Type 0
 ReturnsNameOutputs =
-    (old new : LiveState) (r : Return NodeContent GivenContent) (names : Vec ℕ Global)
+    (old new : LiveState) (r : Return NodeContent GivenContent) (told : StoredOutputs)
     (test item : ℕ) (does : RoleContent)
     → AreSoundTexts old.texts → IsItemOfTexts old.texts item does
     → r.node ≡ item_node does test item
-    → Step live_meaning old (Returned r (Stored names)) new
-    → TellsItem old.texts r test item does names.items
+    → Step live_meaning old (Returned r (Stored told)) new
+    → TellsItem old.texts r test item does told.names.items

@@ -19,7 +19,7 @@ use Rattle.bench_nodes.specs.declared.table.SlotKey.{SlotKey}
 use Rattle.bench_nodes.specs.declared.table.SlotKey.TheVariants as slots
 use Rattle.bench_nodes.specs.Nodes.{is_slot, has_slot, slot_keys}
 use Rattle.bench_items.specs.Items.{RoleContent, held_history, body_content, role_content}
-use Rattle.bench_items.specs.Naming.{SeenName, seen_name, item_outputs, seen_names_in, body_names, number_of}
+use Rattle.bench_items.specs.Naming.{SeenName, seen_name, item_outputs, seen_names_in, body_names, number_in_history}
 use Rattle.bench_items.specs.declared.items.SharedItem.{SharedItem}
 use Rattle.bench_slots.proofs.Lists.{each_append, has_map}
 use Rattle.bench_slots.specs.Slots.{PlainSlot, plain, number_at, item_history, no_name, name_of, input_name, function_key, name_key, space_key, item_keys, slots_of, item_slots, used_slots, flag_key, answer_key, key_by, keys_by, verdict_keys, sound_slots}
@@ -68,12 +68,12 @@ has_at (x ∷ xs) (suc p) d lt = inr (has_at xs p d (omega (arith, lt)))
 
 -- the number of each of its names is that of one of its outputs
 role_has_name : (role : Role) (p : ℕ) (history : List SeenName) → p < name_count role
-    → Has (item_outputs (role_content role) history) (number_of history
+    → Has (item_outputs (role_content role) history) (number_in_history history
     (get_or (seen_names_in (role_content role)) p no_name))
 role_has_name (roles.Group recursive bodies) p history lt =
     let names = body_names bodies.items in
     let many : length names ≡ length bodies.items = length-map (map body_content bodies.items) seen_name ∙ length-map bodies.items body_content in
-    has_map (number_of history) names (get_or names p no_name)
+    has_map (number_in_history history) names (get_or names p no_name)
     (has_at names p no_name (omega (arith, many, lt)))
 role_has_name (roles.Check check) p history lt = absurd (omega (arith, lt))
 role_has_name roles.Silent p history lt = absurd (omega (arith, lt))
@@ -159,16 +159,16 @@ module _ (s : PartsState) where
     -- the name is one of those that the group gives
     name_good : (n : Input) (r : ResolvedItem) → slice_get items n.item ≡ Some r
         → n.position < name_count r.role
-        → HasRole (number_at numbers n.item) (number_of (histories s (number_at numbers n.item))
+        → HasRole (number_at numbers n.item) (number_in_history (histories s (number_at numbers n.item))
         (input_name items n))
     name_good n r at lt =
         let own = number_at numbers n.item in
         let own_held = held n.item r at in
         let name : input_name items n ≡ name_of (Some r) n.position = ap (λ (o : Option ResolvedItem). name_of o n.position) at in
         let known : histories s own ≡ own_held.0 = held_history_is s own (role_content r.role) own_held.0 own_held.1 in
-        let number : number_of (histories s own) (input_name items n) ≡ number_of own_held.0 (name_of (Some r) n.position) =
-        ap (λ (h : List SeenName). number_of h (input_name items n)) known
-        ∙ ap (number_of own_held.0) name in (
+        let number : number_in_history (histories s own) (input_name items n) ≡ number_in_history own_held.0 (name_of (Some r) n.position) =
+        ap (λ (h : List SeenName). number_in_history h (input_name items n)) known
+        ∙ ap (number_in_history own_held.0) name in (
           role_content r.role,
           own_held.0,
           own_held.1,

@@ -23,7 +23,8 @@ use Rattle.binding_graph.specs.declared.resolved.Role.TheVariants as roles
 use Rattle.binding_graph.specs.Usages.{Usage, usage_of_function, usages_after, with_values, with_functions}
 use Rattle.binding_graph.specs.Resolved.{AreBodies, IsGroupRole, HasUses, IsResolvedIn, AreResolved}
 use Rattle.bench_slots.specs.Tables.{name_count, IsNameOf}
-use Rattle.bench_slot_laws.specs.Closed.{predefined_names, NamesItem, IsPassedOn, IsClosedItem, AreClosed}
+use Rattle.bench_slot_laws.specs.Closed.{NamesItem, IsPassedOn, IsClosedItem, AreClosed}
+use Rattle.binding_kinds.specs.Outermost.{outermost_names}
 use Rattle.bench_slots.proofs.Lists.{each_reverse, each_map, each_to, has_append, has_reverse, has_map}
 use Rattle.bench_slot_laws.proofs.Naming.{binder_at, at_below, one_more, found_at, own_same, NamesHold, names_more, own_hold, all_hold, predefined_hold}
 use Rattle.bench_slot_laws.proofs.Using.{IsBoundBy, items_in, IsCovered, AreKnown, term_known, bodies_known}
@@ -381,10 +382,10 @@ module _ (items : List ResolvedItem) where
       (next_hold ss us names at all hold q there c h.0) h.1 k r e)
 
 pub resolved_closed : (cs : List BareItem) (items : List ResolvedItem)
-    → AreResolved [] [] predefined_names 0 cs items → AreClosed items
+    → AreResolved [] [] outermost_names 0 cs items → AreClosed items
 resolved_closed cs items h index r e =
     let none : 0 + index ≡ index = omega arith in
-    subst (λ (n : ℕ). IsClosedItem items n r) none (walk items cs items [] [] predefined_names 0
+    subst (λ (n : ℕ). IsClosedItem items n r) none (walk items cs items [] [] outermost_names 0
     from_first (λ u i. absurd i) (predefined_hold (IsEarlier items 0) PREDEFINED) h index r
     e)
   where

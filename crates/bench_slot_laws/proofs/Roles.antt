@@ -20,7 +20,7 @@ use Rattle.binding_laws.specs.Reread.{ReadModel, HasNumber, IsItemOf, seen_body,
 use Rattle.binding_laws.proofs.Again.{items_again}
 use Rattle.binding_laws.proofs.Visible.{uses_seen}
 use Rattle.bench_items.specs.Items.{RoleContent, Group, Check, Silent, role_content}
-use Rattle.bench_items.specs.Naming.{SeenName, seen_names_in, body_names, number_of, IsInHistory, AreInHistory, item_outputs}
+use Rattle.bench_items.specs.Naming.{SeenName, seen_names_in, body_names, number_in_history, IsInHistory, AreInHistory, item_outputs}
 use Rattle.bench_items.proofs.Naming.{number_stays, still_named, number_tells}
 use Rattle.bench_nodes.specs.declared.table.SlotKey.{SlotKey}
 use Rattle.bench_nodes.specs.declared.table.SlotKey.TheVariants as slots
@@ -66,7 +66,7 @@ outputs_behind test numbers (f ∷ fs) rest = outputs_behind test numbers fs res
 abbrev name_part : (ℕ → List SeenName) → ReadModel → Input → ℕ × ℕ
 name_part histories m i = (
   number_at m.numbers i.item,
-  number_of (histories (number_at m.numbers i.item)) (input_name m.resolved i),
+  number_in_history (histories (number_at m.numbers i.item)) (input_name m.resolved i),
 )
 
 outputs_are : (test : ℕ) (histories : ℕ → List SeenName) (m : ReadModel) (is : List Input)
@@ -124,11 +124,11 @@ role_named h roles.Silent p s all e = absurd (none-some s e)
 -- ---- histories
 
 numbers_stay : (h more names : List SeenName) → Each (IsInHistory h) names
-    → map (number_of (h ++ more)) names ≡ map (number_of h) names
+    → map (number_in_history (h ++ more)) names ≡ map (number_in_history h) names
 numbers_stay h more [] all = refl
 numbers_stay h more (n ∷ ns) all =
-    let here : number_of (h ++ more) n ≡ number_of h n = number_stays h more n all.0 in
-    let rest : map (number_of (h ++ more)) ns ≡ map (number_of h) ns = numbers_stay h more ns all.1 in
+    let here : number_in_history (h ++ more) n ≡ number_in_history h n = number_stays h more n all.0 in
+    let rest : map (number_in_history (h ++ more)) ns ≡ map (number_in_history h) ns = numbers_stay h more ns all.1 in
     λ i. here i ∷ rest i
 
 outputs_stay : (role : RoleContent) (h more : List SeenName) → AreInHistory h role
@@ -206,8 +206,8 @@ module _ (ps : List Predefined) (m w : ReadModel) (histories later : ℕ → Lis
       let more = beside.grown n i.item j.item here there in
       let named : IsInHistory (histories n) old = input_named i a in
       let still : IsInHistory (later n) old = subst (λ (h : List SeenName). IsInHistory h old) (sym more.1) (still_named (histories n) more.0 old named) in
-      let stays : number_of (later n) old ≡ number_of (histories n) old = ap (λ (h : List SeenName). number_of h old) more.1 ∙ number_stays (histories n) more.0 old named in
-      let same : number_of (later n) old ≡ number_of (later n) new = stays ∙ ap (λ (p : ℕ × ℕ). p.1) e ∙ ap (λ (k : ℕ). number_of (later k) new) (sym own) in
+      let stays : number_in_history (later n) old ≡ number_in_history (histories n) old = ap (λ (h : List SeenName). number_in_history h old) more.1 ∙ number_stays (histories n) more.0 old named in
+      let same : number_in_history (later n) old ≡ number_in_history (later n) new = stays ∙ ap (λ (p : ℕ × ℕ). p.1) e ∙ ap (λ (k : ℕ). number_in_history (later k) new) (sym own) in
       let one : old ≡ new = number_tells (later n) old new still same in
       let old_is : old ≡ seen_of a.name = name_seen (slice_get m.resolved i.item) i.position a.name (ap (λ (p : Option ℕ × Option reread.SeenName). p.1) a.seen) in
       let new_is : new ≡ seen_of b.name = name_seen (slice_get w.resolved j.item) j.position b.name (ap (λ (p : Option ℕ × Option reread.SeenName). p.1) b.seen) in

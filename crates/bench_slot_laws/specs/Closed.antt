@@ -1,11 +1,8 @@
 -- What the items of a model owe to one another, and which of them checks reach by names. The law
 -- `resolved_items_are_closed` says that the items of a model without fault owe it.
-use Rattle.std.specs.Prelude.{◌≡◌, ℕ, ◌<◌, suc, List, [], ◌∷◌, ◌++◌, map, reverse, Some, slice_get}
+use Rattle.std.specs.Prelude.{◌≡◌, ℕ, ◌<◌, suc, List, [], ◌∷◌, ◌++◌, map, Some, slice_get}
 use Rattle.std.specs.List.{AllByRecursion as Each}
-use Rattle.text_values.specs.declared.predefined.TheConstants.{PREDEFINED}
 use Rattle.memo_core.specs.Step.{Has}
-use Rattle.binding_kinds.specs.Value.{Naming}
-use Rattle.binding_kinds.specs.Outermost.{naming_of}
 use Rattle.binding_graph.specs.declared.resolved.ResolvedItem.{ResolvedItem}
 use Rattle.binding_graph.specs.declared.resolved.Role.{Role}
 use Rattle.binding_graph.specs.declared.resolved.Role.TheVariants as roles
@@ -13,10 +10,6 @@ use Rattle.binding_graph.specs.Reach.{IsCheckAt}
 use Rattle.bench_nodes.specs.declared.table.SlotKey.{SlotKey}
 use Rattle.bench_slots.specs.Slots.{number_at}
 use Rattle.bench_slots.specs.Tables.{IsNameOf}
-
--- the names that the first item of a model sees
-abbrev pub predefined_names : List Naming
-predefined_names = reverse (map naming_of PREDEFINED)
 
 -- some name that the item uses is of the item at that index
 abbrev pub NamesItem : ResolvedItem → ℕ → Type 0

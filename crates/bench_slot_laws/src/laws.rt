@@ -8,14 +8,15 @@ ghost use Rattle.binding_graph.specs.Reach.{IsReached, AreReached};
 ghost use Rattle.binding_graph.specs.Resolved.{AreResolved};
 ghost use Rattle.bench_slots.specs.Slots.{flag_key, answer_key, keys_by};
 ghost use Rattle.bench_slots.specs.Tables.{AreOrderedItems};
-ghost use Rattle.bench_slot_laws.specs.Closed.{predefined_names, AreClosed, IsReachedByNames, all_keys};
+ghost use Rattle.bench_slot_laws.specs.Closed.{AreClosed, IsReachedByNames, all_keys};
+ghost use Rattle.binding_kinds.specs.Outermost.{outermost_names};
 ghost use Rattle.bench_slot_laws.specs.Roles.{RolesStay};
 
 /// Items that are resolved use names of earlier groups alone, and those that the functions use
 /// which they apply.
 pub fn resolved_items_are_closed()
     ensures { (clauses : List BareItem) (items : List ResolvedItem)
-        → AreResolved [] [] predefined_names 0 clauses items → AreClosed items }
+        → AreResolved [] [] outermost_names 0 clauses items → AreClosed items }
 {}
 
 /// Of the items that checks and flags reach, in their order, each uses names of those before it

@@ -10,7 +10,7 @@ use Rattle.binding_graph.specs.declared.resolved.ResolvedItem.{ResolvedItem}
 use Rattle.binding_graph.specs.declared.resolved.Role.{Role}
 use Rattle.binding_graph.specs.declared.resolved.Role.TheVariants as roles
 use Rattle.bench_items.specs.Items.{held_history, role_content}
-use Rattle.bench_items.specs.Naming.{SeenName, seen_names_in, number_of}
+use Rattle.bench_items.specs.Naming.{SeenName, seen_names_in, number_in_history}
 use Rattle.bench_items.specs.declared.items.SharedItem.{SharedItem}
 use Rattle.bench_nodes.specs.declared.table.ItemRow.{ItemRow}
 use Rattle.bench_nodes.specs.declared.table.Slot.{Slot}
@@ -62,7 +62,7 @@ input_name items i = name_of (slice_get items i.item) i.position
 -- the column of a name of another item
 abbrev pub name_key : (ℕ → List SeenName) → List ℕ → List ResolvedItem → Input → SlotKey
 name_key histories numbers items i =
-    slots.Value kinds.Group (number_at numbers i.item) (number_of
+    slots.Value kinds.Group (number_at numbers i.item) (number_in_history
     (histories (number_at numbers i.item)) (input_name items i))
 
 abbrev pub space_key : SlotKey

@@ -7,7 +7,7 @@ ghost use Rattle.bench_nodes.specs.declared.table.SlotKey.TheVariants as slots;
 ghost use Rattle.bench_slots.specs.Slots.{plain, number_at, histories_in, no_name, input_name, function_key, name_key, space_key, item_keys, slots_of, used_slots};
 
 use crate::histories::{Histories, item_history};
-use bench_items::number_of;
+use bench_items::number_in_history;
 use bench_nodes::{Slot, SlotKey};
 use binding_graph::{Input, Kind as ValueKind, ResolvedItem, Role};
 use memo_core::keys::Kind;
@@ -91,7 +91,7 @@ fn name_key(
     let own = number_at(numbers, input.item);
     let history = item_history(histories.rows, histories.roles, own);
     let (name, kind) = input_name(items, input);
-    let number = number_of(history, name, kind);
+    let number = number_in_history(history, name, kind);
     SlotKey::Value(Kind::Group, own, number as u64)
 }
 

@@ -8,7 +8,7 @@ use Rattle.cat_grammar.specs.Grammar.{limits}
 use Rattle.cat_grammar.specs.ItemMachine.{start}
 use Rattle.cat_grammar.specs.Running.{run, items_of}
 use Rattle.cat_grammar.proofs.Outcomes.{fault_found, items_only, no_fault}
-use Rattle.cat_syntax.specs.Reads.{Reads}
+use Rattle.cat_grammar.specs.Reads.{Reads}
 use Rattle.text_values.specs.ModelValue.{Clause}
 use Rattle.text_values.specs.declared.test.InitEntry.{InitEntry}
 use Rattle.text_values.specs.declared.test.Place.{Place}

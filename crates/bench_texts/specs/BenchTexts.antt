@@ -27,6 +27,10 @@ pub record BenchTexts : Type 0 where
   pub models : List PlainModel
   pub next : ℕ
 
+-- no tests and no models; the first item is given number 1
+abbrev pub no_texts : BenchTexts
+no_texts = record { tests = []; models = []; next = 1 }
+
 -- ---- indexes: of the first of that name or number, or the length where there is none
 
 abbrev pub test_index : List ℕ → List Content → ℕ

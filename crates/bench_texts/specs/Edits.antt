@@ -13,7 +13,7 @@ use Rattle.cat_tokens.specs.declared.rule.CatRule.{CatRule}
 use Rattle.cat_tokens.specs.declared.rule.CatRule.TheVariants.{TooMany}
 use Rattle.cat_grammar.specs.declared.form.Form.TheVariants as forms
 use Rattle.text_values.specs.ModelValue.{Clause}
-use Rattle.cat_syntax.specs.Reads.{Reads, FaultAt}
+use Rattle.cat_grammar.specs.Reads.{Reads, FaultAt}
 use Rattle.cat_syntax.specs.declared.fault.CatFault.{CatFault}
 use Rattle.cat_syntax.specs.declared.fault.CatFault.TheVariants as cat
 use Rattle.bench_texts.specs.declared.edit.Edit as code

@@ -1,6 +1,6 @@
 //! Prepares any edit.
 
-ghost use Rattle.std.specs.Prelude.{◌≡◌, IfOk, MatchResult};
+ghost use Rattle.std.specs.Prelude.{◌≡◌, false, IfOk, MatchResult};
 ghost use Rattle.bench_texts.specs.Held.{texts_of, AreModelsRead};
 ghost use Rattle.bench_texts.specs.Changes.{IsChangeReady};
 ghost use Rattle.bench_texts.specs.Replacements.{texts_with, IsReplaceable, IsPutBy};
@@ -15,10 +15,27 @@ use crate::texts::Texts;
 use std::alloc::Global;
 
 impl Texts {
-    /// Checks an edit, and takes all the memory that `commit` needs for it; `spent` says whether
-    /// the numbers of edits are spent. The texts are as before. Errors: the first reason to refuse
-    /// the edit, or want of memory.
-    pub fn prepare(
+    /// Checks an edit, and takes all the memory that `commit` needs for it. The texts are as
+    /// before. Errors: the first reason to refuse the edit, or want of memory.
+    pub fn prepare(&mut self, alloc: Global, edit: Edit) -> Result<Prepared, EditFault>
+        // It is accepted, and these are the texts that `commit` makes, or it is refused.
+        ensures answer { MatchResult result
+            (λ p. Applies (texts_of self.old) false (edit_of edit)
+            (texts_with p.replacement (texts_of self.old)))
+            (RefusesEdit (texts_of self.old) false (edit_of edit)) }
+        // `commit` can be called.
+        ensures ready { IfOk result (λ p. IsReplaceable self.new p.replacement) }
+        // No text is changed.
+        ensures kept { texts_of self.new ≡ texts_of self.old }
+        // Each model holds what its items are resolved to.
+        ensures read { AreModelsRead self.old → AreModelsRead self.new }
+    {
+        self.prepare_unless_spent(alloc, &edit, false)
+    }
+
+    /// As `prepare`, where `spent` says whether the numbers of edits are spent: then an edit that
+    /// nothing else refuses is.
+    pub fn prepare_unless_spent(
         &mut self,
         alloc: Global,
         edit: &Edit,

@@ -9,7 +9,7 @@ use Rattle.cat_eval.specs.Columns.{ColumnsOf}
 use Rattle.bench_values.specs.Givens.{GivenContent, ForSpace, ForItem, ForVerdict, ForFault}
 use Rattle.bench_items.specs.Items.{BodyContent, RoleContent, Group, Check, Silent, body_content, role_content}
 use Rattle.bench_values.specs.Makes.{RoleMakes, Makes, output_names}
-use Rattle.bench_items.specs.Naming.{SeenName, seen_name, names_of_bodies, number_of, item_outputs}
+use Rattle.bench_items.specs.Naming.{SeenName, seen_name, names_of_bodies, number_in_history, item_outputs}
 use Rattle.bench_values.specs.Spaces.{SpaceContent}
 use Rattle.bench_values.specs.Values.{NodeContent, OfColumn}
 
@@ -35,7 +35,7 @@ pub item_many : (role : RoleContent) (history : List SeenName) (space : SpaceCon
 item_many (Group recursive bodies) history space columns outputs h =
     ap length h.1 ∙ length-map h.0 OfColumn
     ∙ columns_many h.2.read recursive bodies h.2.inputs h.2.over h.0 h.2.reading h.2.values
-    ∙ sym (length-map (names_of_bodies bodies) (number_of history) ∙ length-map bodies seen_name)
+    ∙ sym (length-map (names_of_bodies bodies) (number_in_history history) ∙ length-map bodies seen_name)
 item_many (Check negated word code flag) history space columns outputs h = ap length h.1
 item_many Silent history space columns outputs h = ap length h
 

@@ -1,6 +1,6 @@
 -- A verdict gives one outcome.
 use Rattle.std.proofs.Common.{◌≡◌, List, [], ◌∷◌, Option, Some, None, sym, ap, ◌∙◌}
-use Rattle.candidates.specs.declared.fault.EvalRefusal.{EvalRefusal}
+use Rattle.ppc_semantics.specs.declared.fault.EvalRefusal.{EvalRefusal}
 use Rattle.verdict.specs.declared.answer.Outcome.{Outcome}
 use Rattle.verdict.proofs.Uniqueness.{one_outcome}
 use Rattle.bench_values.specs.Givens.{VerdictPartsContent}

@@ -11,10 +11,8 @@ use Rattle.thread_runs.specs.declared.instruction.Program.{Program}
 use Rattle.thread_runs.specs.declared.value.Value.{Value}
 use Rattle.ppc_semantics.specs.Lowering.{IsProgram, AreNamesOf, AreInitial, AreFiles, LowersTo, test_names}
 use Rattle.candidates.specs.declared.candidate.Space.{Space}
-use Rattle.candidates.specs.declared.fault.EvalRefusal.{EvalRefusal}
-use Rattle.candidates.specs.declared.fault.EvalRefusal.TheVariants.{TooManyEvents, TooManyValues, TooManyRuns, TooManyCandidates, AddressFault, TooManyCombinations}
-use Rattle.ppc_semantics.specs.declared.fault.DomainRefusal.{DomainRefusal}
-use Rattle.ppc_semantics.specs.declared.fault.DomainRefusal.TheVariants as domains
+use Rattle.ppc_semantics.specs.declared.fault.EvalRefusal.{EvalRefusal}
+use Rattle.ppc_semantics.specs.declared.fault.EvalRefusal.TheVariants.{TooManyEvents, TooManyValues, TooManyRuns, TooManyCandidates, AddressFault, TooManyCombinations}
 use Rattle.candidates.specs.Executions.{Execution}
 use Rattle.candidates.specs.Listed.{ListsExecutions, AreTestExecutions, HasNoDomain, IsSpaceRefusal}
 use Rattle.candidates.proofs.Outcomes.{shown_alike}
@@ -100,14 +98,14 @@ module _ (parts : SpacePartsContent) (t u : Test) (h : HasParts parts t) (k : Ha
       locations = same_names s.locations.items h.locations;
     }
 
-    no_domain : (r : DomainRefusal) → HasNoDomain t r → HasNoDomain u r
+    no_domain : (r : EvalRefusal) → HasNoDomain t r → HasNoDomain u r
     no_domain r h = (h.0, same_program h.0 h.1, h.2)
 
     pub same_refusal : (r : EvalRefusal) → IsSpaceRefusal t r → IsSpaceRefusal u r
-    same_refusal TooManyEvents h = no_domain domains.TooManyEvents h
-    same_refusal TooManyValues h = no_domain domains.TooManyValues h
-    same_refusal TooManyRuns h = no_domain domains.TooManyRuns h
-    same_refusal TooManyCombinations h = no_domain domains.TooManyCombinations h
+    same_refusal TooManyEvents h = no_domain TooManyEvents h
+    same_refusal TooManyValues h = no_domain TooManyValues h
+    same_refusal TooManyRuns h = no_domain TooManyRuns h
+    same_refusal TooManyCombinations h = no_domain TooManyCombinations h
     same_refusal TooManyCandidates h =
         record {
           initial = h.initial;

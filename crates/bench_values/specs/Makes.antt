@@ -5,7 +5,7 @@ use denote.Ref.{Bor}
 use Rattle.text_values.specs.declared.test.Quantifier.{Quantifier}
 use Rattle.text_values.specs.TestValue.{Formula}
 use Rattle.litmus_printing.specs.Printing.{condition_text}
-use Rattle.candidates.specs.declared.fault.EvalRefusal.{EvalRefusal}
+use Rattle.ppc_semantics.specs.declared.fault.EvalRefusal.{EvalRefusal}
 use Rattle.candidates.specs.declared.candidate.Space.{Space}
 use Rattle.binding_graph.specs.declared.resolved.Role.{Role}
 use Rattle.cat_eval.specs.declared.column.Column.{Column}

@@ -1,7 +1,7 @@
 -- What a node holds, as plain data: contracts see a `NodeValue` so.
 use Rattle.std.specs.Prelude.{Bool, List, [], ◌∷◌, Option, Some, None, unwrap_or}
 use Rattle.std.specs.List.{filter_map}
-use Rattle.candidates.specs.declared.fault.EvalRefusal.{EvalRefusal}
+use Rattle.ppc_semantics.specs.declared.fault.EvalRefusal.{EvalRefusal}
 use Rattle.cat_eval.specs.declared.column.Column.{Column}
 use Rattle.verdict.specs.declared.answer.Outcome.{Outcome}
 use Rattle.bench_values.specs.Spaces.{SpaceContent, no_executions}

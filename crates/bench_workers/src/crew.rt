@@ -7,8 +7,8 @@ use crate::gate::Gate;
 use crate::tally::Tally;
 use crate::worker::work;
 use crate::workers::{MOST_WORKERS, WorkersFault};
-use desk::{BoardTexts, Desk};
-use desk_history::{Entry, Naming, Plate};
+use desk::{BoardTexts, Desk, Naming};
+use desk_history::{Entry, Plate};
 use left_right::Absorb;
 use std::alloc::Global;
 use std::marker::Model;
@@ -18,7 +18,8 @@ use std::thread::{JoinHandle, Threads};
 use value_store::StoreName;
 
 /// Workers at a desk, each in a thread of its own. They work until the desk is closed; `dismiss`
-/// closes it and joins them. Contracts see it as the number of its workers.
+/// closes it and joins them, `leave` closes it and lets them end by themselves. Contracts see it as
+/// the number of its workers.
 pub struct Crew<J: Naming + StoreName, X: BoardTexts, R: Wait + Drop>
 where
     Plate<J, X>: Absorb<Entry<J, X>, State = [X::Op; 0]>,
@@ -175,5 +176,12 @@ impl<J: Naming + StoreName, X: BoardTexts, R: Wait + Drop> Crew<J, X, R> {
     {
         let Crew { desk, handles } = self;
         send_home(rt, &*desk, handles)
+    }
+
+    /// Closes the desk, and waits for no worker: each ends with the job that it is at, or is cut
+    /// off where the program ends first.
+    pub fn leave<W: Wait>(self, rt: &W) {
+        let Crew { desk, handles: _ } = self;
+        let _again = desk.close(rt).is_err();
     }
 }

@@ -1,5 +1,6 @@
 //! Threads that work at a desk: each takes a job, runs it with no lock held, and returns it.
-//! `with_workers` runs a body beside them and joins them all; a crew stays until it is dismissed.
+//! `with_workers` runs a body beside them and joins them all; a crew stays until it is dismissed or
+//! left.
 #![tactic(auto)]
 
 mod crew;
@@ -12,4 +13,4 @@ pub use crew::{Crew, hire_crew};
 pub use gate::{Gate, NoGate};
 pub use tally::Tally;
 pub use worker::work;
-pub use workers::{MOST_WORKERS, Worked, WorkersFault, with_workers};
+pub use workers::{MOST_WORKERS, WorkersFault, with_workers};

@@ -3,8 +3,8 @@
 use crate::gate::Gate;
 use crate::tally::Tally;
 use cells::job::{Done, Job, RunFault};
-use desk::{BoardTexts, Desk, DeskFault, Refusals};
-use desk_history::{Entry, Naming, Plate};
+use desk::{BoardTexts, Desk, DeskFault, Naming, Refusals};
+use desk_history::{Entry, Plate};
 use left_right::Absorb;
 use std::alloc::Global;
 use std::sync::Wait;
@@ -42,8 +42,8 @@ fn hand_in<J: Naming + StoreName, X: BoardTexts, R: Wait + Drop, W: Wait>(
     worker: &mut Worker,
 ) -> bool {
     match desk.finish(rt, done) {
-        Ok(taken) => {
-            worker.tally.note(&taken.finish);
+        Ok((finish, _posted)) => {
+            worker.tally.note(&finish);
             let _many = worker.refusals.note(false);
             true
         }
@@ -68,7 +68,7 @@ fn lose<J: Naming + StoreName, X: BoardTexts, R: Wait + Drop, W: Wait>(
             }
             give_up(rt, desk)
         }
-        RunFault::Full => give_up(rt, desk),
+        RunFault::StoreFull => give_up(rt, desk),
     }
 }
 

@@ -5,8 +5,8 @@ ghost use Rattle.std.specs.Prelude.{IfOk, IfSome};
 use crate::gate::Gate;
 use crate::tally::Tally;
 use crate::worker::work;
-use desk::{BoardTexts, Desk};
-use desk_history::{Entry, Naming, Plate};
+use desk::{BoardTexts, Desk, Naming};
+use desk_history::{Entry, Plate};
 use left_right::Absorb;
 use std::alloc::Global;
 use std::sync::{Mutex, Wait};
@@ -21,18 +21,9 @@ pub const MOST_WORKERS: u32 = 32;
 /// Why a body is not run.
 #[derive(Debug, Drop, Error)]
 pub enum WorkersFault {
-    /// The start of a worker was refused. The desk is closed.
-    #[error("out of memory")]
+    /// The start of a worker was refused. The desk is closed, and the body did not run.
+    #[error("out of memory: the desk is closed, and nothing ran beside its workers")]
     OutOfMemory,
-}
-
-/// What a body answered, and what became of the jobs beside it.
-#[derive(Drop)]
-pub struct Worked<T> {
-    /// The body's answer.
-    pub answer: T,
-    /// The jobs of all workers.
-    pub tally: Tally,
 }
 
 // Those who work beside a body.
@@ -101,8 +92,9 @@ where
 }
 
 /// Runs a body beside so many workers, at most `MOST_WORKERS`, closes the desk and joins them all.
-/// Errors: the start of a worker was refused; then the body does not run, the desk is closed, and
-/// the workers that were started are joined.
+/// The body's answer, and what became of the jobs of all workers. Errors: the start of a worker was
+/// refused; then the body does not run, the desk is closed, and the workers that were started are
+/// joined.
 pub fn with_workers<J, X, R, G, W, T, F>(
     rt: &W,
     alloc: Global,
@@ -110,7 +102,7 @@ pub fn with_workers<J, X, R, G, W, T, F>(
     gate: &G,
     count: u32,
     body: F,
-) -> Result<Worked<T>, WorkersFault>
+) -> Result<(T, Tally), WorkersFault>
 where
     J: Naming + StoreName + Send + Sync,
     X: BoardTexts + Send + Sync,
@@ -128,7 +120,7 @@ where
     F: FnOnce() -> T + Drop,
     T: Drop,
     requires { F.pre body }
-    ensures { IfOk result (λ w. F.post body w.answer) }
+    ensures { IfOk result (λ w. F.post body w.0) }
 {
     let shift = Shift {
         alloc,
@@ -144,10 +136,7 @@ where
         total,
     } = shift;
     match answer {
-        Some(answer) => Ok(Worked {
-            answer,
-            tally: total.into_inner(),
-        }),
+        Some(answer) => Ok((answer, total.into_inner())),
         None => Err(WorkersFault::OutOfMemory),
     }
 }

@@ -4,7 +4,7 @@ use Rattle.std.specs.Prelude.{fold, remove}
 use Rattle.text_values.specs.TestValue.{content_of}
 use Rattle.bench_texts.specs.declared.replacement.Replacement.{Replacement}
 use Rattle.bench_texts.specs.declared.replacement.Replacement.TheVariants as made
-use Rattle.bench_texts.specs.BenchTexts.{BenchTexts, put_at}
+use Rattle.bench_texts.specs.BenchTexts.{BenchTexts, put_at, no_texts}
 use Rattle.bench_texts.specs.Held.{plain_model}
 use Rattle.bench_texts.specs.Replacements.{texts_with}
 use Rattle.bench_texts.proofs.Lists.{map-remove}
@@ -12,7 +12,7 @@ use Rattle.board.specs.declared.operation.BoardOp.{BoardOp}
 use Rattle.board.specs.declared.operation.BoardOp.TheVariants.{Edit, Settle}
 use Rattle.board.specs.Legal.{TestsAndModels, no_tests_or_models, tests_and_models_with, tests_and_models_after}
 use Rattle.board.proofs.Changed.{map-placed}
-use Rattle.board.specs.Histories.{IsContentOf, HasContents, no_contents, contents_with}
+use Rattle.board.specs.Histories.{IsContentOf, HasContents, contents_with}
 
 put_same : {A B : Type 0} (f : A → B) (at : ℕ) (y : A) (xs : List A) (ys : List B) → ys ≡ map f xs
     → put_at at (f y) ys ≡ map f (put_at at y xs)
@@ -46,4 +46,4 @@ content_from (op ∷ ops) t h p =
 
 pub contents_are_those : (ops : List BoardOp) → HasContents ops
 contents_are_those ops =
-    content_from ops no_contents no_tests_or_models (record { tests = refl; models = refl })
+    content_from ops no_texts no_tests_or_models (record { tests = refl; models = refl })

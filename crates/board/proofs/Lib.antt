@@ -1,3 +1,4 @@
+pub mod ListedRows
 pub mod Changed
 pub mod Lookups
 pub mod Legal

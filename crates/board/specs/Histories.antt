@@ -3,7 +3,7 @@
 use Rattle.std.specs.Prelude.{◌≡◌, false, ℕ, List, [], ◌∷◌, fold, map}
 use Rattle.text_values.specs.TestValue.{content_of}
 use Rattle.bench_texts.specs.declared.edit.Edit as code
-use Rattle.bench_texts.specs.BenchTexts.{BenchTexts}
+use Rattle.bench_texts.specs.BenchTexts.{BenchTexts, no_texts}
 use Rattle.bench_texts.specs.Edits.{Edit, edit_of, is_whole, Applies}
 use Rattle.bench_texts.specs.Held.{plain_model}
 use Rattle.bench_texts.specs.Replacements.{texts_with, IsPutBy}
@@ -15,10 +15,6 @@ use Rattle.board.specs.Legal.{TestsAndModels, texts_after, MayFollow, IsLegal}
 
 -- ---- texts after operations
 
--- no tests and no models; the first item is given number 1
-abbrev pub no_contents : BenchTexts
-no_contents = record { tests = []; models = []; next = 1 }
-
 -- the texts after one operation more
 abbrev pub contents_with : BenchTexts → BoardOp → BenchTexts
 contents_with t (ops.Edit edit) = texts_with edit.prepared.value.replacement t
@@ -26,7 +22,7 @@ contents_with t (ops.Settle at outcome) = t
 
 -- the texts after the edits among these operations, with the numbers of their items
 abbrev pub contents_after : List BoardOp → BenchTexts
-contents_after all = fold contents_with no_contents all
+contents_after all = fold contents_with no_texts all
 
 -- these are what the tests and the models say
 pub record IsContentOf (t : BenchTexts) (h : TestsAndModels) : Type 0 where
@@ -59,7 +55,7 @@ AreMadeFrom t (op ∷ all) = IsMadeOn t op × AreMadeFrom (contents_with t op) a
 
 -- and so from no texts
 abbrev pub AreEditsMade : List BoardOp → Type 0
-AreEditsMade all = AreMadeFrom no_contents all
+AreEditsMade all = AreMadeFrom no_texts all
 
 -- the operations of a running bench
 abbrev pub IsHistory : List BoardOp → Type 0

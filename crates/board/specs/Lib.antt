@@ -1,4 +1,5 @@
 pub mod Contents
+pub mod Listing
 pub mod Operations
 pub mod Legal
 pub mod Histories

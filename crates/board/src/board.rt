@@ -1,16 +1,19 @@
 //! The board, and what operations make of it.
 
-ghost use Rattle.std.specs.Prelude.{◌≡◌, MatchResult, option_map, length, slice_get};
+ghost use Rattle.std.specs.Prelude.{◌≡◌, IfOk, MatchResult, map, option_map, length, slice_get};
 ghost use Rattle.outcome_texts.specs.Cells.{cell_of};
+ghost use Rattle.outcome_texts.specs.Columns.{row_of};
+ghost use Rattle.outcome_texts.specs.Differences.{pair_of};
 
 use crate::changes::{
     column_index, drop_cells, drop_model, drop_test, open_cells, put_cell, put_column, put_test,
     row_index, widened,
 };
 use crate::column::Column;
+use crate::listing::{NamedCell, all_listed, pairs_under, rows_under};
 use crate::operation::{BoardOp, CellIndex, NameChange};
 use crate::row::Row;
-use outcome_texts::Shown;
+use outcome_texts::{Shown, TestPair, TestRow};
 use std::alloc::{AllocError, Global};
 use std::marker::Model;
 use std::mem::drop;
@@ -46,6 +49,7 @@ impl Model for Board {
 
 impl Board {
     ghost use Rattle.board.specs.Contents.{cell_named, shown_cell, cell_at, shown_items};
+    ghost use Rattle.board.specs.Listing.{listed_cell, cells_in_order, rows_under, pairs_under};
     ghost use Rattle.board.specs.Operations.{no_board, after_operation, with_name_change};
 
     /// A board that shows nothing.
@@ -131,6 +135,33 @@ impl Board {
             Some(column) => Some(column.items()),
             None => None,
         }
+    }
+
+    /// All cells, test by test, in the order of the models. Errors: want of memory.
+    pub fn cells_in_order(&self, alloc: Global) -> Result<Vec<NamedCell<'_>>, AllocError>
+        ensures { IfOk result (λ v. map listed_cell v.items ≡ cells_in_order self.now) }
+    {
+        all_listed(alloc, &self.rows, &self.columns)
+    }
+
+    /// All tests, each with its cells under the models of these names. Errors: want of memory.
+    pub fn rows_under(&self, alloc: Global, models: &[Name]) -> Result<Vec<TestRow<'_>>, AllocError>
+        ensures { IfOk result (λ v. map row_of v.items ≡ rows_under self.now models.now) }
+    {
+        rows_under(alloc, &self.rows, &self.columns, models)
+    }
+
+    /// All tests, each with its cells under the models of two names. Errors: want of memory.
+    pub fn pairs_under(
+        &self,
+        alloc: Global,
+        first: &[u8],
+        second: &[u8],
+    ) -> Result<Vec<TestPair<'_>>, AllocError>
+        ensures { IfOk result (λ v. map pair_of v.items
+            ≡ pairs_under self.now first.now second.now) }
+    {
+        pairs_under(alloc, &self.rows, &self.columns, first, second)
     }
 
     /// Makes one change. Errors: want of memory, and then the board is as it was.

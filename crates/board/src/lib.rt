@@ -10,9 +10,11 @@ mod changes;
 mod column;
 mod edit;
 pub mod laws;
+mod listing;
 mod operation;
 mod row;
 pub mod view_laws;
 
 pub use board::Board;
+pub use listing::NamedCell;
 pub use operation::{BoardEdit, BoardOp, CellIndex, NameChange};

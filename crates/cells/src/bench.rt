@@ -14,6 +14,7 @@ use memo_core::claims::{ClaimFault, Finish};
 use memo_core::table::output_token;
 use memo_engine::graph::{Graph, LAST};
 use memo_engine::witness::Witness;
+use memo_marks::Marks;
 use std::alloc::{AllocError, Global};
 use std::marker::Model;
 use std::sync::Arc;
@@ -80,6 +81,15 @@ impl<K: StoreName, T: CellTexts> Bench<K, T> {
         ensures { result.now ≡ self.now.texts }
     {
         &self.graph.texts
+    }
+
+    /// The marks of its nodes, by which `memo_marks` says which are settled and which stand on
+    /// another. The users of each node are listed for it. Errors: want of memory.
+    pub fn marks(&self, alloc: Global) -> Result<Marks<'_, K, T>, AllocError>
+        ensures texts { IfOk result (λ marks. marks.texts ≡ self.now.texts) }
+        ensures memos { IfOk result (λ marks. marks.memos ≡ self.now.memos) }
+    {
+        Marks::of(alloc, &self.graph.texts, &self.graph.memos)
     }
 
     /// How many numbers are taken, by edits, claims and accepted returns. What holds of a bench at

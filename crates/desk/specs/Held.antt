@@ -208,3 +208,11 @@ IsClaimRefusedBy is_spent (faults.Edit fault) = ⊥
 IsClaimRefusedBy is_spent faults.NoSeat = ⊥
 IsClaimRefusedBy is_spent faults.OutOfMemory = Unit {0}
 IsClaimRefusedBy is_spent faults.Closed = Unit {0}
+
+-- why no seed is made: want of memory, or a viewer that the kit does not make
+abbrev pub IsSeedRefusedBy : {F : Type 0} → DeskFault F → Type 0
+IsSeedRefusedBy faults.OutOfMemory = Unit {0}
+IsSeedRefusedBy faults.NoSeat = Unit {0}
+IsSeedRefusedBy faults.Closed = ⊥
+IsSeedRefusedBy (faults.Edit fault) = ⊥
+IsSeedRefusedBy (faults.Claim fault) = ⊥

@@ -1,7 +1,5 @@
 //! What the desk answers.
 
-use memo_core::claims::Finish;
-
 /// What becomes of an edit that is accepted, with its number.
 #[derive(Clone, Copy)]
 pub enum Accepted {
@@ -29,13 +27,4 @@ pub enum Settling {
     Waits(u64),
     /// Memory was refused.
     Refused,
-}
-
-/// What a return came to, and what becomes of the cells that are settled.
-#[derive(Drop)]
-pub struct Taken {
-    /// What the bench answers.
-    pub finish: Finish,
-    /// What becomes of the cells that are settled.
-    pub posted: Posted,
 }

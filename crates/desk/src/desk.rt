@@ -6,14 +6,16 @@ ghost use Rattle.desk.specs.Boards.{AreSettled};
 ghost use Rattle.desk.specs.Held.{IsClaimRefusedBy, IsRefusedAfter, IsRefusedBy, TellsEdit, TellsSettled};
 ghost use Rattle.desk.specs.Numbers.{desk_fault_number};
 
-use crate::answer::{Accepted, Settling, Taken};
+use crate::answer::{Accepted, Posted, Settling};
 use crate::fault::DeskFault;
 use crate::refusals::Refusals;
+use crate::seed::DeskSeed;
 use crate::state::DeskState;
 use crate::texts::BoardTexts;
 use cells::job::{Done, Job};
 use desk_history::{Entry, Naming, Plate, Viewer};
 use left_right::Absorb;
+use memo_core::claims::Finish;
 use memo_engine::graph::LAST;
 use std::hint::spin_loop;
 use std::mem::drop;
@@ -32,7 +34,10 @@ fn pause() {
     }
 }
 
-/// A bench that threads share. Each call takes its lock once. Its drop waits for the viewers.
+/// A bench that threads share. Each call takes its lock once. A view that is held makes publishing
+/// wait until it is left, under the lock, and so each call beside it. Whoever holds a view must
+/// leave it before a call of the desk, also one that waits: such a call would not return. So it is
+/// with the drop, which waits for each view that is held.
 pub struct Desk<J: Naming + StoreName, X: BoardTexts, R: Wait + Drop>
 where
     Plate<J, X>: Absorb<Entry<J, X>, State = [X::Op; 0]>,
@@ -45,10 +50,10 @@ where
 }
 
 impl<J: Naming + StoreName, X: BoardTexts, R: Wait + Drop> Desk<J, X, R> {
-    /// A desk that threads share.
-    pub fn new(state: DeskState<J, X, R>) -> Desk<J, X, R> {
+    /// A desk without texts that threads share, from its seed.
+    pub fn new(seed: DeskSeed<J, X, R>) -> Desk<J, X, R> {
         Desk {
-            state: Mutex::new(state),
+            state: Mutex::new(seed.into_state()),
             work: Condvar::new(),
             change: Condvar::new(),
         }
@@ -131,9 +136,13 @@ impl<J: Naming + StoreName, X: BoardTexts, R: Wait + Drop> Desk<J, X, R> {
         unreachable!()
     }
 
-    /// Takes a return. Errors: K1.
+    /// Takes a return. What it came to, and what becomes of the cells that are settled. Errors: K1.
     #[tactic(auto, using(crate::proofs::Refusing::closed_only))]
-    pub fn finish<W: Wait>(&self, rt: &W, done: Done<J, X>) -> Result<Taken, DeskFault<X::Fault>>
+    pub fn finish<W: Wait>(
+        &self,
+        rt: &W,
+        done: Done<J, X>,
+    ) -> Result<(Finish, Posted), DeskFault<X::Fault>>
         ensures { IfErr result (λ fault. fault ≡ DeskFault.Closed) }
     {
         let mut state = self.lock(rt);

@@ -21,7 +21,8 @@ pub enum DeskFault<F> {
     /// K1: the desk is closed.
     #[error("the desk is closed")]
     Closed,
-    /// K2: no viewer is left to give, or the viewer has seen more than the desk has.
+    /// K2: no viewer is left to give, or none could be made, or this one has seen more than the
+    /// desk has.
     #[error("no viewer is left, or this one has seen more than the desk has")]
     NoSeat,
 }

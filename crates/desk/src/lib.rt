@@ -1,5 +1,5 @@
-//! A bench of cells under a lock, with a board that viewers read without it. Read `specs/Boards`
-//! first, then `specs/Held`.
+//! A bench of cells under a lock, with a board that viewers read without it. Who opens a desk names
+//! it, makes a seed of it, and of that a desk. Read `specs/Boards` first, then `specs/Held`.
 #![tactic(auto)]
 
 mod answer;
@@ -8,13 +8,16 @@ mod fault;
 mod ledger;
 mod posting;
 mod refusals;
+mod seed;
 mod state;
 mod taking;
 mod texts;
 
-pub use answer::{Accepted, Posted, Settling, Taken};
+pub use answer::{Accepted, Posted, Settling};
 pub use desk::Desk;
+pub use desk_history::{Naming, SEATS, View, Viewer};
 pub use fault::DeskFault;
 pub use refusals::{MOST_REFUSALS, Refusals};
+pub use seed::{DeskSeed, OpenedDesk};
 pub use state::DeskState;
 pub use texts::{BoardTexts, CellNames, CellRange};

@@ -9,7 +9,7 @@ ghost use Rattle.cells.specs.Views.{IsRightBench};
 ghost use Rattle.desk.specs.Boards.{ArePosted, ArePostedBut, AreSettled};
 ghost use Rattle.desk.specs.Held.{IsEditAppended, IsRefusedBy, IsClaimRefusedBy, IsClosing, ShowsAllOrAsBefore};
 
-use crate::answer::{Accepted, Posted, Settling, Taken};
+use crate::answer::{Accepted, Posted, Settling};
 use crate::fault::DeskFault;
 use crate::ledger::Ledger;
 use crate::taking::take;
@@ -18,7 +18,7 @@ use cells::bench::Bench;
 use cells::job::{Done, Job};
 use desk_history::{Entry, Naming, Opening, Plate, Seats, Viewer};
 use left_right::Absorb;
-use memo_core::claims::ClaimFault;
+use memo_core::claims::{ClaimFault, Finish};
 use memo_core::keys::Node;
 use memo_engine::graph::LAST;
 use std::alloc::Global;
@@ -108,7 +108,7 @@ impl<J: Naming + StoreName, X: BoardTexts, R: Wait + Drop> DeskState<J, X, R> {
     ghost use Rattle.desk.specs.Held.{held, accepted_number, AppendsSettles, IsEditTurn, IsRefusedTurn, IsShownOrOwed, Publishes, PublishesOr, IsSettlingTurn, TellsEdit};
 
     /// A bench without texts, and a board that shows nothing.
-    pub fn new(
+    pub(crate) fn new(
         alloc: Global,
         bench: Bench<J, X>,
         opening: Opening<J, X>,
@@ -265,7 +265,7 @@ impl<J: Naming + StoreName, X: BoardTexts, R: Wait + Drop> DeskState<J, X, R> {
     }
 
     /// Gives out a job, if there is any work. Where nothing was owed, nothing but the bench
-    /// changes. Errors: K1, B1, want of memory; nothing is appended then.
+    /// changes. Errors: K1, B1, want of memory; nothing is appended then, and nothing more is owed.
     pub fn claim<W: Wait>(&mut self, rt: &W) -> Result<Option<Job<J, X>>, DeskFault<X::Fault>>
         ensures closed { (result ≡ Err DeskFault.Closed) ↔ (self.old.closed ≡ true) }
         ensures fault { IfErr result (IsClaimRefusedBy (LAST ≤ self.old.bench.taken)) }
@@ -274,6 +274,7 @@ impl<J: Naming + StoreName, X: BoardTexts, R: Wait + Drop> DeskState<J, X, R> {
         ensures err { OnErr result (IsRefusedTurn
             (meaning X.net X.is_valid X.since X.makes X.keeps X.edited X.last) self.old
             self.new) }
+        ensures debt { OnErr result (self.new.owes ≡ self.old.owes) }
         ensures given { IfOk result (λ r. IfSome r (λ j. Step
             (meaning X.net X.is_valid X.since X.makes X.keeps X.edited X.last)
             self.old.bench (Claimed j.claim j.node j.given j.keys j.values)
@@ -296,36 +297,34 @@ impl<J: Naming + StoreName, X: BoardTexts, R: Wait + Drop> DeskState<J, X, R> {
         if self.closed {
             return Err(DeskFault::Closed);
         }
-        let owed = self.owes;
-        self.owes = true;
         let job = match self.bench.claim(self.alloc) {
             Ok(job) => job,
             Err(ClaimFault::OutOfMemory) => return Err(DeskFault::OutOfMemory),
             Err(ClaimFault::Spent) => return Err(DeskFault::Claim(ClaimFault::Spent)),
         };
-        self.owes = owed;
         self.try_again(rt);
         Ok(job)
     }
 
-    /// Takes a return, and publishes the cells that are settled. Errors: K1.
+    /// Takes a return, and publishes the cells that are settled. What the return came to, and what
+    /// becomes of these cells. Errors: K1.
     pub fn finish<W: Wait>(
         &mut self,
         rt: &W,
         done: Done<J, X>,
-    ) -> Result<Taken, DeskFault<X::Fault>>
+    ) -> Result<(Finish, Posted), DeskFault<X::Fault>>
         ensures closed { (result ≡ Err DeskFault.Closed) ↔ (self.old.closed ≡ true) }
         ensures only { OnErr result (self.old.closed ≡ true) }
         ensures err { OnErr result (self.new ≡ self.old) }
         ensures step { IfOk result (λ r. Step
             (meaning X.net X.is_valid X.since X.makes X.keeps X.edited X.last) self.old.bench
-            (Returned done r.finish) self.new.bench) }
+            (Returned done r.0) self.new.bench) }
         ensures appends { OnOk result (AppendsSettles X.is_settle self.old.all self.old self.new) }
         ensures grows { OnOk result (IsPrefix self.old.published self.new.published) }
         ensures posted { IfOk result (λ r. PublishesOr
             (λ bench ops. ArePosted X.net
             (cells_of X.verdict_of X.outcome_in X.from_scratch X.reaches) bench
-            (X.cells (fold X.after X.none ops))) self.old self.new r.posted) }
+            (X.cells (fold X.after X.none ops))) self.old self.new r.1) }
     {
         if self.closed {
             return Err(DeskFault::Closed);
@@ -334,7 +333,7 @@ impl<J: Naming + StoreName, X: BoardTexts, R: Wait + Drop> DeskState<J, X, R> {
         self.owes = true;
         let (finish, above) = take(&mut self.bench, &self.ledger, owed, done);
         let posted = self.catch_up(rt, above);
-        Ok(Taken { finish, posted })
+        Ok((finish, posted))
     }
 
     /// Closes a claim, and says whether it was out. Errors: K1.

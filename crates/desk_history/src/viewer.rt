@@ -26,7 +26,9 @@ impl<J: Naming, L: Operations> Model for Viewer<J, L> {
 }
 
 /// A viewer that holds the board which was published last. Contracts see it as the operations that
-/// made that board. It is not `Drop`: it ends by `leave`. While it is held, publishing may wait.
+/// made that board. It is not `Drop`: it ends by `leave`. A view that is held makes publishing wait
+/// until it is left. So whoever holds one must not publish, as each call of a desk may: such a call
+/// would not return.
 pub struct View<J: Naming, L: Operations> {
     reading: Reading<Plate<J, L>, (), Unruled>,
     front: Front<J, L>,

@@ -12,7 +12,8 @@ use Rattle.verdict.specs.declared.answer.Evaluation.{Evaluation}
 use Rattle.bench_texts.specs.declared.model.NamedModel.{NamedModel}
 use Rattle.bench_texts.specs.declared.reading.Reading.{Reading}
 use Rattle.bench_texts.specs.declared.reading.Reading.TheVariants as readings
-use Rattle.bench_texts.specs.Readings.{predefined_names, AreSoundItems, IsModelReading}
+use Rattle.bench_texts.specs.Readings.{AreSoundItems, IsModelReading}
+use Rattle.binding_kinds.specs.Outermost.{outermost_names}
 use Rattle.bench_slices.specs.Slices.{slice_by}
 use Rattle.from_scratch.specs.Answers.{IsRisingRole}
 use Rattle.from_scratch.specs.FromScratch.{AreItemsOf, IsFaultless, IsEvaluationOf}
@@ -37,7 +38,7 @@ map_reverse f (x ∷ xs) =
 rising_back : (m : NamedModel) (rs : List ResolvedItem) → AreSoundItems m.text.items.items rs
     → Each (λ r. IsRisingRole r.role) (reverse rs)
 rising_back m rs a =
-    all_reverse (λ r. IsRisingRole r.role) rs (resolved_rising predefined_names 0
+    all_reverse (λ r. IsRisingRole r.role) rs (resolved_rising outermost_names 0
     (map bare_item m.text.items.items) rs a.no_fault a.as_resolved)
 
 same_evaluation : (test : Test) (m n : NamedModel) (e : Evaluation) (r q : Reading)

@@ -10,12 +10,12 @@ use Rattle.memo_core.specs.Step.{Has}
 use Rattle.binding_kinds.specs.declared.scope.Binder.{Binder}
 use Rattle.binding_kinds.specs.declared.scope.Binder.TheVariants as binders
 use Rattle.binding_kinds.specs.declared.scope.Input.{Input}
-use Rattle.binding_kinds.specs.Outermost.{naming_of}
+use Rattle.binding_kinds.specs.Outermost.{naming_of, outermost_names}
 use Rattle.binding_kinds.specs.Value.{Naming, bare_item}
 use Rattle.binding_graph.specs.declared.resolved.ResolvedItem.{ResolvedItem}
 use Rattle.binding_graph.specs.Reach.{ItemUses, AreReached}
 use Rattle.binding_graph.proofs.Reaching.{leads_more}
-use Rattle.bench_texts.specs.Readings.{predefined_names, AreSoundItems}
+use Rattle.bench_texts.specs.Readings.{AreSoundItems}
 use Rattle.bench_slices.specs.Slices.{clause_at}
 use Rattle.binding_laws.specs.ItemLaws.{Scope, first_scope}
 use Rattle.bench_slots.proofs.Lists.{each_has, each_reverse, has_contains, contains_has}
@@ -99,7 +99,7 @@ each_outer : (ps : List Predefined) → Each IsOuter (map naming_of ps)
 each_outer [] = tt
 each_outer (p ∷ ps) = ((p, refl), each_outer ps)
 
-pub all_outer : Each IsOuter predefined_names
+pub all_outer : Each IsOuter outermost_names
 all_outer = each_reverse IsOuter (map naming_of PREDEFINED) (each_outer PREDEFINED)
 
 -- ---- a model
@@ -185,7 +185,7 @@ module _ (xs : List Item) (rs : List ResolvedItem) (us : List ℕ) (sound : AreS
           omega (arith, low, lt, is)
 
   abbrev outermost : Scope
-  outermost = first_scope predefined_names
+  outermost = first_scope outermost_names
 
   seen_first : IsSeen (whole_of xs rs us) outermost 0 xs rs
   seen_first = record {
@@ -219,21 +219,21 @@ module _ (xs ys : List Item) (rs qs : List ResolvedItem) (us vs : List ℕ) (sou
       (is_whole xs rs us sound reached) (is_whole ys qs vs others more) rs qs us vs [] []
   models_walked =
       walk (whole_of xs rs us) (whole_of ys qs vs) (is_whole xs rs us sound reached)
-      (is_whole ys qs vs others more) xs rs us (first_scope predefined_names) 0
-      ys qs vs (first_scope predefined_names) 0 (outer_of predefined_names) [] [] [] (record {
+      (is_whole ys qs vs others more) xs rs us (first_scope outermost_names) 0
+      ys qs vs (first_scope outermost_names) 0 (outer_of outermost_names) [] [] [] (record {
         left = seen_first xs rs us sound reached;
         right = seen_first ys qs vs others more;
         left_used = left_first xs rs us sound reached;
         right_used = left_first ys qs vs others more;
         shared = record {
-          left = outer_left (reach (whole_of xs rs us)) predefined_names;
-          right = outer_right (reach (whole_of ys qs vs)) predefined_names;
-          falling = outer_falling predefined_names;
-          common = outer_common (first_scope predefined_names) predefined_names all_outer;
+          left = outer_left (reach (whole_of xs rs us)) outermost_names;
+          right = outer_right (reach (whole_of ys qs vs)) outermost_names;
+          falling = outer_falling outermost_names;
+          common = outer_common (first_scope outermost_names) outermost_names all_outer;
         };
         origin =
             λ i j h. absurd (no_element (subst (λ (l : List (Input × Input)). Contains l (i, j))
-            (no_input predefined_names all_outer) h));
+            (no_input outermost_names all_outer) h));
         left_count = refl;
         right_count = refl;
         aligned = tt;

@@ -29,7 +29,8 @@ use Rattle.binding_graph.specs.Usages.{Usage, with_values, usages_after}
 use Rattle.cat_eval_laws.specs.Items as content
 use Rattle.cat_eval_laws.specs.Items.{code_content, body_content, role_content, item_content}
 use Rattle.from_scratch.specs.Answers.{AreRisingBodies, IsRisingRole}
-use Rattle.from_scratch.specs.FromScratch.{outermost, bare_items}
+use Rattle.from_scratch.specs.FromScratch.{bare_items}
+use Rattle.binding_kinds.specs.Outermost.{outermost_names}
 use Rattle.from_scratch.proofs.Rising.{resolved_rising}
 use Rattle.evaluation_laws.specs.Laws.{HasTree, AreCoded, IsCoded, HasOneResolution, HasCodedItems}
 
@@ -137,7 +138,7 @@ all_one ss us names at (x ∷ xs) (r ∷ rs) (q ∷ qs) h g l m =
     λ i. first i ∷ rest i
 
 pub one_resolution : (model : ModelText) → HasOneResolution model
-one_resolution model rs qs h g = all_one [] [] outermost 0 model.items.items rs qs h.0 g.0 h.1 g.1
+one_resolution model rs qs h g = all_one [] [] outermost_names 0 model.items.items rs qs h.0 g.0 h.1 g.1
 
 -- ---- steps of expressions
 
@@ -235,5 +236,5 @@ all_coded ss us names at (c ∷ cs) (r ∷ rs) none rises h = (
 
 pub coded_items : (model : ModelText) → HasCodedItems model
 coded_items model rs none h =
-    all_coded [] [] outermost 0 (bare_items model) rs none
-    (resolved_rising outermost 0 (bare_items model) rs none h.0) h.0
+    all_coded [] [] outermost_names 0 (bare_items model) rs none
+    (resolved_rising outermost_names 0 (bare_items model) rs none h.0) h.0

@@ -15,8 +15,8 @@ use Rattle.thread_runs.specs.declared.instruction.Program.{Program}
 use Rattle.thread_runs.specs.declared.value.Value.{Value}
 use Rattle.ppc_semantics.specs.Lowering.{AreNamesOf, AreInitial, AreFiles, LowersTo, AreThreadLines, IsProgram, entry_names, place_names, formula_names}
 use Rattle.candidates.specs.declared.candidate.Space.{Space}
-use Rattle.candidates.specs.declared.fault.EvalRefusal.{EvalRefusal}
-use Rattle.candidates.specs.declared.fault.EvalRefusal.TheVariants.{TooManyEvents, TooManyValues, TooManyRuns, TooManyCandidates, AddressFault, TooManyCombinations}
+use Rattle.ppc_semantics.specs.declared.fault.EvalRefusal.{EvalRefusal}
+use Rattle.ppc_semantics.specs.declared.fault.EvalRefusal.TheVariants.{TooManyEvents, TooManyValues, TooManyRuns, TooManyCandidates, AddressFault, TooManyCombinations}
 use Rattle.candidates.specs.Executions.{Execution}
 use Rattle.candidates.specs.Listed.{AreTestExecutions, ListsExecutions, IsSpaceRefusal}
 use Rattle.binding_graph.specs.declared.resolved.ResolvedItem.{ResolvedItem}

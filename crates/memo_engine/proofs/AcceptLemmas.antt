@@ -145,10 +145,11 @@ module _ {V G : Type 0} (same : V → V → Bool) (exact : (a b : V) → (same a
       some_out c d h = cc
 
 pub finishes : {V G : Type 0} (old new : MemoState V G) (r : Return V G) (names : List ℕ) (f : Finish)
-    → TellsChangedNames names f → (a : Accepts old r new) → names ≡ names_stamped (old.taken + 1) a.outputs
+    → TellsChangedNames r.node names f → (a : Accepts old r new)
+    → names ≡ names_stamped (old.taken + 1) a.outputs
     → FinishesReturn old r f new
 finishes old new r names Same t a e = (a, sym e ∙ t)
-finishes old new r names (Stored told) t a e = (a, t.0 ∙ e, λ h. t.1 (sym t.0 ∙ h))
+finishes old new r names (Stored told) t a e = (a, t.0 ∙ e, λ h. t.1 (sym t.0 ∙ h), t.2)
 finishes old new r names Unknown t a e = absurd t
 finishes old new r names (Stale stamp) t a e = absurd t
 

@@ -112,9 +112,10 @@ module _ {K T V G E P F : Type 0} {k : NameGhosts K} {t : Ghosts T V G E P F} wh
     pub marks : IsMarked new
     pub step : FinishesReturn (state_of old) (return_from d) finish (state_of new)
 
--- these are the names that the answer to an accepted return tells
-abbrev pub TellsChangedNames : List ℕ → Finish → Type 0
-TellsChangedNames names Same = names ≡ []
-TellsChangedNames names (Stored told) = (told.items ≡ names) × (names ≢ [])
-TellsChangedNames names Unknown = ⊥
-TellsChangedNames names (Stale stamp) = ⊥
+-- these are the names, of outputs of this node, that the answer to an accepted return tells
+abbrev pub TellsChangedNames : Node → List ℕ → Finish → Type 0
+TellsChangedNames n names Same = names ≡ []
+TellsChangedNames n names (Stored told) =
+    (told.names.items ≡ names) × (names ≢ []) × (told.node ≡ n)
+TellsChangedNames n names Unknown = ⊥
+TellsChangedNames n names (Stale stamp) = ⊥

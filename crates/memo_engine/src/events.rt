@@ -26,7 +26,7 @@ use std::sync::Arc;
 use value_store::{Store, StoreName, Token};
 
 /// Puts a prepared edit in place, drops what is kept of nodes that the texts don't keep, and marks
-/// what is settled.
+/// what is settled. It takes no memory.
 fn put_in_place<K: StoreName, T: Texts>(
     texts: &mut T,
     memos: &mut Memos<Token<K, T::Value>>,
@@ -46,7 +46,6 @@ fn put_in_place<K: StoreName, T: Texts>(
     texts.commit(prepared, number);
     drop_gone(texts, memos);
     waiting.clear();
-    let _ = waiting.reserve(texts.used_count());
     settle_all(texts, memos, waiting);
 }
 
@@ -107,6 +106,7 @@ impl<K: StoreName, T: Texts> Graph<K, T> {
 
     /// Makes an edit as `edit` does, where the witness, who is told of it before it is put in
     /// place, does not hold it back. None where the witness does: then all is as after a refusal.
+    /// It takes no memory after the witness is told.
     pub fn edit_told<W: Witness<T>>(
         &mut self,
         alloc: Global,
@@ -143,6 +143,9 @@ impl<K: StoreName, T: Texts> Graph<K, T> {
             Ok(prepared) => prepared,
             Err(fault) => return Err(fault),
         };
+        if let Err(error) = self.waiting.reserve(T::used_after(&prepared)) {
+            return Err(T::refused_memory(&prepared, error));
+        }
         let number = self.taken + 1;
         if !witness.tell(alloc, &self.texts, &prepared, number) {
             return Ok(None);

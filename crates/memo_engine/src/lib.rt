@@ -6,7 +6,7 @@ mod events;
 mod finds;
 pub mod graph;
 pub mod job;
-mod marks;
+pub mod marks;
 mod returns;
 mod stores;
 pub mod witness;

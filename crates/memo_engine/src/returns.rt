@@ -9,20 +9,20 @@ use crate::graph::Graph;
 use crate::job::Done;
 use crate::marks::settle;
 use crate::stores::{restamp_all, store_memo};
-use memo_core::claims::{Claim, Finish, Judgement};
-use memo_core::keys::is_same_node;
+use memo_core::claims::{Claim, Finish, Judgement, StoredOutputs};
+use memo_core::keys::{Node, is_same_node};
 use memo_core::table::{Kept, are_present};
 use memo_core::texts::Texts;
 use value_store::StoreName;
 
-/// What an accepted return comes to, by the names of its outputs that are new or changed.
-fn finish_of(names: Vec<u64>) -> Finish
-    ensures { TellsChangedNames names.items result }
+/// What an accepted return of a node comes to, by the names of its outputs that are new or changed.
+fn finish_of(node: Node, names: Vec<u64>) -> Finish
+    ensures { TellsChangedNames node names.items result }
 {
     if names.is_empty() {
         Finish::Same
     } else {
-        Finish::Stored(names)
+        Finish::Stored(StoredOutputs { node, names })
     }
 }
 
@@ -96,7 +96,7 @@ impl<K: StoreName, T: Texts> Graph<K, T> {
         };
         store_memo(&mut self.memos, node, kept);
         settle(&self.texts, &mut self.memos, &mut self.waiting, node);
-        finish_of(names)
+        finish_of(node, names)
     }
 
     /// Takes a return, by the first case that holds. It takes no memory.

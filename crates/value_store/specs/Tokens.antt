@@ -2,7 +2,7 @@
 -- of refusals.
 use Rattle.std.specs.Prelude.{ℕ, Option, Some, None}
 use Rattle.value_store.specs.declared.fault.StoreFault.{StoreFault}
-use Rattle.value_store.specs.declared.fault.StoreFault.TheVariants.{Full, OutOfMemory}
+use Rattle.value_store.specs.declared.fault.StoreFault.TheVariants.{StoreFull, OutOfMemory}
 
 -- the index of a value in its store, and the value
 pub record Shown (V : Type 0) : Type 0 where
@@ -11,5 +11,5 @@ pub record Shown (V : Type 0) : Type 0 where
 
 -- the number that a refusal is printed with, if it has one
 abbrev pub store_fault_number : StoreFault → Option ℕ
-store_fault_number Full = Some 1
+store_fault_number StoreFull = Some 1
 store_fault_number OutOfMemory = None

@@ -10,7 +10,7 @@ use thiserror::Error;
 pub enum StoreFault {
     /// S1: as many values as its limit were put into it.
     #[error("the store is full")]
-    Full,
+    StoreFull,
     /// A growth was refused.
     #[error("out of memory")]
     OutOfMemory,
@@ -22,7 +22,7 @@ impl StoreFault {
         ensures { result ≡ store_fault_number self }
     {
         match self {
-            StoreFault::Full => Some(1),
+            StoreFault::StoreFull => Some(1),
             StoreFault::OutOfMemory => None,
         }
     }

@@ -75,7 +75,7 @@ impl<K: StoreName, V: Drop> Store<K, V> {
         ensures refused { IfErr result (λ e. e.0 ≡ value) }
     {
         if self.count.load(Ordering::SeqCst) >= self.limit {
-            return Err((value, StoreFault::Full));
+            return Err((value, StoreFault::StoreFull));
         }
         self.count.fetch_add(1, Ordering::SeqCst);
         match self.values.push_shown(rt, value) {

@@ -72,10 +72,6 @@ none_is e = cc
 some_is : {A : Type 0} {a b : A} → Some a ≡ Some b → a ≡ b
 some_is e = cc
 
-apart_of : {A : Type 0} (xs : List A) → AreApart xs → owed.AreApart xs
-apart_of [] h = tt
-apart_of (x ∷ xs) h = (h.0, apart_of xs h.1)
-
 test_names : (ts : List Test) → map (λ c. c.name) (map content_of ts) ≡ map (λ t. t.name) ts
 test_names [] = refl
 test_names (t ∷ ts) = ap (λ (l : List (List ℕ)). t.name ∷ l) (test_names ts)
@@ -241,10 +237,10 @@ module _ (t : StampedTexts) (s : AreSoundTexts t) where
   abbrev here : List ModelReading
   here = readings_of t.parts.table.models.items t.texts.models.items
 
-  items_apart : owed.AreApart (owed.item_numbers t.texts.models.items)
+  items_apart : AreApart (owed.item_numbers t.texts.models.items)
   items_apart =
-      apart_of _ (subst (λ (l : List ℕ). AreApart l) (all_are t.texts.models.items)
-      (s.orderly).items)
+      subst (λ (l : List ℕ). AreApart l) (all_are t.texts.models.items)
+      (s.orderly).items
 
   kept : IsKeptState (stamped_state t) here
   kept =
@@ -265,8 +261,8 @@ module _ (t : StampedTexts) (s : AreSoundTexts t) where
     kinds = s.kinds;
     read = s.read;
     items_apart = items_apart;
-    tests_apart = apart_of _ tests_apart;
-    models_apart = apart_of _ models_apart;
+    tests_apart = tests_apart;
+    models_apart = models_apart;
   }
 
   -- ---- verdicts are used

@@ -26,7 +26,6 @@ use Rattle.bench_edits.specs.Edited.{AreTestsSame, AreModelsSame, Changes}
 use Rattle.bench_edits.specs.Laws.{IsEdit, EditsKeepParts, AreModelsWritten, ItemsFollow, EditsAreStamped}
 use Rattle.bench_edits.specs.Readings.{written_state}
 use Rattle.bench_edits.specs.Owed.{ArePartsOf, item_numbers}
-use Rattle.bench_edits.specs.Owed as owed
 use Rattle.bench_edits.specs.Left.{AreKindsOf}
 use Rattle.bench_edits.proofs.ItemKinds.{kinds_after}
 use Rattle.bench_edits.proofs.Lists.{has_map}
@@ -107,16 +106,12 @@ all_are (m ∷ ms) =
     ap (λ (ns : List ℕ). ns ++ all_numbers (map plain_model ms)) (numbers_in m) ∙ ap
     (λ (ns : List ℕ). m.numbers.items ++ ns) (all_are ms)
 
-apart_of : (ns : List ℕ) → AreApart ns → owed.AreApart ns
-apart_of [] h = tt
-apart_of (n ∷ ns) h = (h.0, apart_of ns h.1)
-
 -- ---- models as they are written
 
 pub are_written : (t : StampedTexts) → AreSoundTexts t → AreModelsWritten t.texts.models.items t.texts.next
 are_written t s = record {
   read = s.read;
-  apart = apart_of _ (subst AreApart (all_are t.texts.models.items) (s.orderly).items);
+  apart = subst AreApart (all_are t.texts.models.items) (s.orderly).items;
   low =
       λ number there. (s.orderly).next number (subst (λ (ns : List ℕ). Has ns number)
       (sym (all_are t.texts.models.items)) there);
@@ -249,11 +244,11 @@ module _ (keep : EditsKeepParts) (stamp : EditsAreStamped) (t u w : StampedTexts
   read s = c.read ((h.same).read s.read)
 
   apart : AreSoundTexts t
-      → owed.AreApart (item_numbers (models_with p.texts.replacement t.texts.models.items))
+      → AreApart (item_numbers (models_with p.texts.replacement t.texts.models.items))
   apart s =
-      apart_of _ (subst AreApart (all_are (models_with p.texts.replacement t.texts.models.items))
+      subst AreApart (all_are (models_with p.texts.replacement t.texts.models.items))
       (subst (λ (ms : List NamedModel). AreApart (all_numbers (map plain_model ms))) models_are
-      (orderly s).items))
+      (orderly s).items)
 
   all_read : AreSoundTexts t → All IsModelRead (models_with p.texts.replacement t.texts.models.items)
   all_read s = subst (λ (ms : List NamedModel). All IsModelRead ms) models_are (read s)

@@ -17,7 +17,7 @@ use Rattle.bench_texts.specs.declared.fault.EditFault.TheVariants as faults
 use Rattle.bench_texts.specs.declared.model.NamedModel.{NamedModel}
 use Rattle.bench_texts.specs.declared.prepared.Prepared.{Prepared}
 use Rattle.bench_texts.specs.declared.replacement.Replacement.{Replacement}
-use Rattle.bench_texts.specs.BenchTexts.{BenchTexts, PlainModel, test_index, model_index}
+use Rattle.bench_texts.specs.BenchTexts.{BenchTexts, PlainModel, test_index, model_index, no_texts}
 use Rattle.bench_texts.specs.Edits.{edit_of, Applies, Edit as PlainEdit}
 use Rattle.bench_texts.specs.Held.{texts_of}
 use Rattle.bench_texts.specs.Held as plain
@@ -42,7 +42,7 @@ use Rattle.bench_instance.specs.Edited.{IsPrepared, IsCommitted}
 use Rattle.bench_instance.specs.StampedCells.{from_scratch, scratch_by, test_of, model_of}
 use Rattle.bench_instance.specs.Lemmas.CellProofs.{cell_in, is_named, stands_there, tests_apart, models_apart}
 use Rattle.bench_instance.specs.Cells.{cell_with, all_cells, IsCountable, board_cells}
-use Rattle.board.specs.Histories.{no_contents, contents_with, contents_after, IsMadeOn, AreMadeFrom, IsHistory, MayComeNext, IsEditAfter, IsSettle}
+use Rattle.board.specs.Histories.{contents_with, contents_after, IsMadeOn, AreMadeFrom, IsHistory, MayComeNext, IsEditAfter, IsSettle}
 use Rattle.bench_instance.specs.Texts.{AreAfter}
 use Rattle.bench_instance.specs.Texts.{IsAnnounced, SettlesCell}
 use Rattle.bench_instance.specs.Lemmas.Listing.{are_all, all_get, all_put, cell_of_row, row_cell, outcome_at}
@@ -73,7 +73,7 @@ pub goes_on : (all : List BoardOp) (op : BoardOp) → IsHistory all → MayComeN
     → IsHistory (all ++ op ∷ [])
 goes_on all op history may = (
   one_more_is_legal all op no_tests_or_models 0 history.0 may.0,
-  one_more_is_made all op no_contents history.1 may.1,
+  one_more_is_made all op no_texts history.1 may.1,
 )
 
 texts_push : (all : List BoardOp) (op : BoardOp)
@@ -82,7 +82,7 @@ texts_push all op = fold_push tests_and_models_after no_tests_or_models all op
 
 contents_push : (all : List BoardOp) (op : BoardOp)
     → contents_after (all ++ op ∷ []) ≡ contents_with (contents_after all) op
-contents_push all op = fold_push contents_with no_contents all op
+contents_push all op = fold_push contents_with no_texts all op
 
 board_push : (all : List BoardOp) (op : BoardOp)
     → board_after (all ++ op ∷ []) ≡ after_operation (board_after all) op

@@ -5,8 +5,8 @@ use Rattle.memo_core.specs.Run.{Bench, Claim, NoClaim, Step}
 use Rattle.cells.specs.Cells.{cells as cells_of}
 use Rattle.desk.specs.Held.{Held}
 use Rattle.desk.proofs.Growing.{grown_from, whole_from}
-use Rattle.desk.proofs.Refusing.{never, not_claim, not_memory, not_ok, other_closed}
-use Rattle.desk.proofs.Returning.{appends_since, still_since, refused_since, given_or_none, posted_claimed, posted_idle, later_claimed, later_idle}
+use Rattle.desk.proofs.Refusing.{not_claim, not_memory, not_ok, other_closed}
+use Rattle.desk.proofs.Returning.{appends_since, still_since, refused_since, given_or_none, posted_claimed, posted_idle, posted_same, later_claimed, later_idle}
 use Rattle.desk.proofs.state.DeskState.claim.Goals as goal
 
 pub invariant_of-self-2 : goal.invariant_of-self-2
@@ -51,8 +51,20 @@ pub invariant_of-self : goal.invariant_of-self
 invariant_of-self g c =
     let inv = c.self.invariant in
     let same = c.claim.ensures.texts in
-    let taken = c.in-Err-OutOfMemory.ensures.refused.taken in
-    (rw same inv.0, rw same inv.1, omega (arith, inv.2, taken), λ owes. absurd (never owes))
+    let refused = c.in-Err-OutOfMemory.ensures.refused in
+    let taken = refused.taken in
+    let means = meaning g.X.Texts.net g.X.Texts.is_valid g.X.Texts.since g.X.Texts.makes g.X.Texts.keeps g.X.Texts.edited g.X.Texts.last in
+    let of = cells_of g.X.CellTexts.verdict_of g.X.CellTexts.outcome_in g.X.CellTexts.from_scratch g.X.CellTexts.reaches in
+    let cells = (g.X.BoardTexts.cells (fold g.X.Operations.after g.X.Operations.none c.self.inside.ledger.all)) in (
+      rw same inv.0,
+      rw same inv.1,
+      omega (arith, inv.2, taken),
+      λ owes. (
+        (inv.3 owes).0,
+        posted_same means.net of c.self.inside.bench c.claim.new.self cells same refused.memos
+            (inv.3 owes).1,
+      ),
+    )
 
 pub returns-in-Err-OutOfMemory-clause-err : goal.returns-in-Err-OutOfMemory-clause-err
 returns-in-Err-OutOfMemory-clause-err g c =
@@ -70,8 +82,20 @@ pub invariant_of-self-in-Err-Spent : goal.invariant_of-self-in-Err-Spent
 invariant_of-self-in-Err-Spent g c =
     let inv = c.self.invariant in
     let same = c.claim.ensures.texts in
-    let taken = c.in-Err-Spent.ensures.refused.taken in
-    (rw same inv.0, rw same inv.1, omega (arith, inv.2, taken), λ owes. absurd (never owes))
+    let refused = c.in-Err-Spent.ensures.refused in
+    let taken = refused.taken in
+    let means = meaning g.X.Texts.net g.X.Texts.is_valid g.X.Texts.since g.X.Texts.makes g.X.Texts.keeps g.X.Texts.edited g.X.Texts.last in
+    let of = cells_of g.X.CellTexts.verdict_of g.X.CellTexts.outcome_in g.X.CellTexts.from_scratch g.X.CellTexts.reaches in
+    let cells = (g.X.BoardTexts.cells (fold g.X.Operations.after g.X.Operations.none c.self.inside.ledger.all)) in (
+      rw same inv.0,
+      rw same inv.1,
+      omega (arith, inv.2, taken),
+      λ owes. (
+        (inv.3 owes).0,
+        posted_same means.net of c.self.inside.bench c.claim.new.self cells same refused.memos
+            (inv.3 owes).1,
+      ),
+    )
 
 pub returns-in-Err-Spent-clause-err : goal.returns-in-Err-Spent-clause-err
 returns-in-Err-Spent-clause-err g c =
