@@ -17,7 +17,8 @@ use Rattle.text_values.specs.TestValue.{Content}
 use Rattle.text_values.specs.ModelValue.{Clause}
 use Rattle.cat_grammar.specs.declared.form.Form.TheVariants.{Model}
 use Rattle.cat_syntax.specs.Faults as models
-use Rattle.cat_syntax.specs.Reads.{Reads, IsCatFaultOf}
+use Rattle.cat_syntax.specs.Faults.{IsCatFaultOf}
+use Rattle.cat_grammar.specs.Reads.{Reads}
 use Rattle.cat_syntax.specs.declared.fault.CatFault.{CatFault}
 use Rattle.cat_syntax.specs.declared.fault.CatFault.TheVariants as model_faults
 use Rattle.command_answers.specs.declared.fault.EvalFault.{EvalFault}
@@ -65,7 +66,7 @@ test_refused bytes e rule offset is only fault =
 
 -- the line of a refused text is what is said of the report
 pub model_line : (r : Result Answer AllocError) (fault : EvalFault) (rule : CatRule)
-    (number offset : ℕ) → fault ≡ eval_faults.Model rule offset
+    (number offset : ℕ) → fault ≡ eval_faults.Model (model_faults.Refused rule offset)
     → number ≡ model_rule_number rule
     → IfOk r (λ a. (a.text.items ≡ refused_line 67 number offset) × (a.is_refused ≡ true))
     → IfOk r (λ a. IsSaidOf (Err fault) a.text.items a.is_refused)
@@ -75,7 +76,8 @@ model_line (Ok a) fault rule number offset is same h =
 model_line (Err e) fault rule number offset is same h = tt
 
 pub test_line : (r : Result Answer AllocError) (fault : EvalFault) (rule : LitmusRule)
-    (number offset : ℕ) → fault ≡ eval_faults.Test rule offset → number ≡ test_rule_number rule
+    (number offset : ℕ) → fault ≡ eval_faults.Test (test_faults.Refused rule offset)
+    → number ≡ test_rule_number rule
     → IfOk r (λ a. (a.text.items ≡ refused_line 76 number offset) × (a.is_refused ≡ true))
     → IfOk r (λ a. IsSaidOf (Err fault) a.text.items a.is_refused)
 test_line (Ok a) fault rule number offset is same h =
@@ -96,10 +98,14 @@ fault_said r report fault is h =
 pub refused_so : (text : List ℕ) (refused : Bool) (model test : List ℕ) (e : EvalFault)
     → IsEvalRefusal model test e → IsSaidOf (Err e) text refused
     → (refused ≡ true) × IsEvalAnswer model test text true
-refused_so text refused model test (eval_faults.Model rule offset) h said =
+refused_so text refused model test (eval_faults.Model (model_faults.Refused rule offset)) h said =
     (said.1, RefusesModel refl rule offset h said.0)
-refused_so text refused model test (eval_faults.Test rule offset) h said =
+refused_so text refused model test (eval_faults.Test (test_faults.Refused rule offset)) h said =
     (said.1, RefusesTest refl rule offset h.0 h.1 said.0)
+refused_so text refused model test (eval_faults.Model (model_faults.OutOfMemory e)) h said =
+    absurd h
+refused_so text refused model test (eval_faults.Test (test_faults.OutOfMemory e)) h said =
+    absurd h.1
 refused_so text refused model test (eval_faults.Memory e) h said = absurd said
 
 -- so what is said of a log, of reasons and of drawings is what is answered
@@ -144,8 +150,8 @@ pub written_so : (is_said : List ℕ → Bool → Type 0) (made : Result Answer 
     → IsAnswerWritten (IsAnswerMade made) old new r → IsAnswerWritten is_said old new r
 written_so is_said made old new (Ok refused) h (text, is, appends) =
     (text, made_so is_said made text refused h is, appends)
-written_so is_said made old new (Err faults.Write) h (text, refused, is, front) =
-    (text, refused, made_so is_said made text refused h is, front)
+written_so is_said made old new (Err faults.Write) h (text, refused, is, prefix) =
+    (text, refused, made_so is_said made text refused h is, prefix)
 written_so is_said made old new (Err faults.Read) h k = k
 written_so is_said made old new (Err faults.Memory) h k = k
 written_so is_said made old new (Err faults.Shared) h k = k

@@ -7,8 +7,8 @@ use Rattle.litmus_grammar.specs.Texts.{IsTestFault}
 use Rattle.litmus_tokens.specs.declared.rule.LitmusRule.{LitmusRule}
 use Rattle.cat_grammar.specs.declared.form.Form.TheVariants.{Model}
 use Rattle.cat_tokens.specs.declared.rule.CatRule.{CatRule}
-use Rattle.cat_syntax.specs.Reads as models
-use Rattle.cat_syntax.specs.Reads.{FaultAt}
+use Rattle.cat_grammar.specs.Reads as models
+use Rattle.cat_grammar.specs.Reads.{FaultAt}
 use Rattle.command_line.specs.declared.fault.SessionFault.{SessionFault}
 use Rattle.command_line.specs.declared.fault.SessionFault.TheVariants as faults
 use Rattle.command_answers.specs.Answer.{IsModelRefused, IsTestRefused, IsEvalAnswer, IsEvaluated, RefusesModel, RefusesTest, AreAnsweredAlike, IsEvalWritten, IsStreamed}
@@ -58,10 +58,10 @@ long_tests model test t long more text refused (RefusesModel e rule offset fault
 long_tests model test t long more text refused (RefusesTest e rule offset is_model fault line) =
     RefusesTest e rule offset is_model (test_refused test t rule offset long more fault) line
 
--- a front of a text is all of it, or both are too long
-front_of : (n : ℕ) (whole : List ℕ) → 65536 < n
+-- a prefix of a text is all of it, or both are too long
+prefix_of : (n : ℕ) (whole : List ℕ) → 65536 < n
     → (take n whole ≡ whole) ⊎ ((65536 < length (take n whole)) × (65536 < length whole))
-front_of n whole most = by_length (cases_order n (length whole))
+prefix_of n whole most = by_length (cases_order n (length whole))
   where
     by_length : (n ≡ length whole) ⊎ ((n < length whole) ⊎ (length whole < n))
         → (take n whole ≡ whole) ⊎ ((65536 < length (take n whole)) × (65536 < length whole))
@@ -70,26 +70,26 @@ front_of n whole most = by_length (cases_order n (length whole))
     by_length (inr (inl more)) =
         let l = length-take-le n whole (omega arith) in inr (omega arith, omega arith)
 
-test_front : (n : ℕ) (model test : List ℕ) → 65536 < n
+test_prefix : (n : ℕ) (model test : List ℕ) → 65536 < n
     → AreAnsweredAlike model (take n test) model test
-test_front n model test most = by_front (front_of n test most)
+test_prefix n model test most = by_prefix (prefix_of n test most)
   where
-    by_front : (take n test ≡ test) ⊎ ((65536 < length (take n test)) × (65536 < length test))
+    by_prefix : (take n test ≡ test) ⊎ ((65536 < length (take n test)) × (65536 < length test))
         → AreAnsweredAlike model (take n test) model test
-    by_front (inl same) =
+    by_prefix (inl same) =
         λ text refused h. subst (λ (t : List ℕ). IsEvalAnswer model t text refused) same h
-    by_front (inr (long, more)) = long_tests model (take n test) test long more
+    by_prefix (inr (long, more)) = long_tests model (take n test) test long more
 
-pub fronts_decide : (n : ℕ) (model test : List ℕ) → 65536 < n
+pub prefixes_decide : (n : ℕ) (model test : List ℕ) → 65536 < n
     → AreAnsweredAlike (take n model) (take n test) model test
-fronts_decide n model test most = by_front (front_of n model most)
+prefixes_decide n model test most = by_prefix (prefix_of n model most)
   where
-    by_front : (take n model ≡ model) ⊎ ((65536 < length (take n model)) × (65536 < length model))
+    by_prefix : (take n model ≡ model) ⊎ ((65536 < length (take n model)) × (65536 < length model))
         → AreAnsweredAlike (take n model) (take n test) model test
-    by_front (inl same) =
-        λ text refused h. test_front n model test most text refused (subst
+    by_prefix (inl same) =
+        λ text refused h. test_prefix n model test most text refused (subst
         (λ (m : List ℕ). IsEvalAnswer m (take n test) text refused) same h)
-    by_front (inr (long, more)) = long_models (take n model) (take n test) model test long more
+    by_prefix (inr (long, more)) = long_models (take n model) (take n test) model test long more
 
 -- ---- every input has a cut
 
@@ -209,7 +209,7 @@ long_cut bytes many none = by_first (first_before bytes (length bytes))
         by_order (inr (inl less)) = absurd (none i less here)
         by_order (inr (inr more)) = omega arith
 
--- a line of a full stop in a front that ends behind it, and in the whole
+-- a line of a full stop in a prefix that ends behind it, and in the whole
 dot_in_whole : (n : ℕ) (all : List ℕ) (i : ℕ) → n < length all → i + 1 < n
     → IsDotLine (take n all) i → IsDotLine all i
 dot_in_whole n all i more inside d =
@@ -251,8 +251,8 @@ decided all model test h = by_length (cases_order 131075 (length all))
           alike = λ text refused a. a;
         }
 
-    front : 131075 < length all → Decided all model test
-    front many = by_cut h
+    prefix : 131075 < length all → Decided all model test
+    prefix many = by_cut h
       where
         full : length (take 131075 all) ≡ 131075
         full = length-take-le 131075 all (omega arith)
@@ -297,7 +297,7 @@ decided all model test h = by_length (cases_order 131075 (length all))
     by_length : (131075 ≡ length all) ⊎ ((131075 < length all) ⊎ (length all < 131075))
         → Decided all model test
     by_length (inl same) = whole (omega arith)
-    by_length (inr (inl many)) = front many
+    by_length (inr (inl many)) = prefix many
     by_length (inr (inr few)) = whole (omega arith)
 
 -- ---- what is written
@@ -306,18 +306,18 @@ written_alike : (model test m t : List ℕ) (old new : Option (List ℕ)) (r : R
     → AreAnsweredAlike model test m t → IsEvalWritten model test old new r → IsEvalWritten m t old new r
 written_alike model test m t old new (Ok refused) alike (text, answer, appended) =
     (text, alike text refused answer, appended)
-written_alike model test m t old new (Err faults.Write) alike (text, refused, answer, front) =
-    (text, refused, alike text refused answer, front)
+written_alike model test m t old new (Err faults.Write) alike (text, refused, answer, prefix) =
+    (text, refused, alike text refused answer, prefix)
 written_alike model test m t old new (Err faults.Read) alike h = h
 written_alike model test m t old new (Err faults.Memory) alike h = h
 written_alike model test m t old new (Err faults.Shared) alike h = h
 
 -- the answer to the cut of the first bytes that were left is that to the cut of all
-pub streamed_front : (left old new : Option (List ℕ)) (r : Result Bool SessionFault)
+pub streamed_prefix : (left old new : Option (List ℕ)) (r : Result Bool SessionFault)
     (kept model test : List ℕ) → IfSome left (λ all. kept ≡ take 131075 all)
     → IsInputCut kept model test → IsEvalWritten model test old new r → IsStreamed left old new r
-streamed_front None old new r kept model test front cut h = streamed None old new r model test tt h
-streamed_front (Some all) old new r kept model test front cut h =
-    let d = decided all model test (subst (λ (l : List ℕ). IsInputCut l model test) front cut) in
+streamed_prefix None old new r kept model test prefix cut h = streamed None old new r model test tt h
+streamed_prefix (Some all) old new r kept model test prefix cut h =
+    let d = decided all model test (subst (λ (l : List ℕ). IsInputCut l model test) prefix cut) in
     streamed (Some all) old new r d.m d.t d.cut
     (written_alike model test d.m d.t old new r d.alike h)

@@ -8,13 +8,17 @@ use Rattle.litmus_tokens.specs.Numbers.{number_of as test_rule_number}
 use Rattle.text_values.specs.declared.test.Test.{Test}
 use Rattle.text_values.specs.TestValue.{Content, content_of}
 use Rattle.litmus_grammar.specs.Texts.{ReadsTest, IsTestFault}
+use Rattle.litmus_ppc.specs.declared.fault.LitmusFault.{LitmusFault}
+use Rattle.litmus_ppc.specs.declared.fault.LitmusFault.TheVariants as test_faults
+use Rattle.cat_syntax.specs.declared.fault.CatFault.{CatFault}
+use Rattle.cat_syntax.specs.declared.fault.CatFault.TheVariants as model_faults
 use Rattle.cat_tokens.specs.declared.rule.CatRule.{CatRule}
 use Rattle.cat_tokens.specs.Tokens.{number_of as model_rule_number}
 use Rattle.text_values.specs.declared.model.ModelText.{ModelText}
 use Rattle.text_values.specs.ModelValue as cat_value
 use Rattle.text_values.specs.ModelValues.{clauses_of}
 use Rattle.cat_grammar.specs.declared.form.Form.TheVariants.{Model}
-use Rattle.cat_syntax.specs.Reads.{Reads, FaultAt}
+use Rattle.cat_grammar.specs.Reads.{Reads, FaultAt}
 use Rattle.verdict.specs.declared.answer.Outcome.{Outcome}
 use Rattle.from_scratch.specs.FromScratch.{IsFromScratch}
 use Rattle.command_answers.specs.declared.fault.EvalFault.{EvalFault}
@@ -56,23 +60,31 @@ pub record IsTestRefused (test : List ℕ) (rule : LitmusRule) (offset : ℕ) : 
 abbrev pub IsModel : List ℕ → Type 0
 IsModel model = (v : List cat_value.Clause) × Reads Model model v
 
+-- the fault of a text that means nothing; want of memory is none
+abbrev pub IsModelTextFault : List ℕ → CatFault → Type 0
+IsModelTextFault model (model_faults.Refused rule offset) = IsModelRefused model rule offset
+IsModelTextFault model (model_faults.OutOfMemory e) = ⊥
+
+abbrev pub IsTestTextFault : List ℕ → LitmusFault → Type 0
+IsTestTextFault test (test_faults.Refused rule offset) = IsTestRefused test rule offset
+IsTestTextFault test (test_faults.OutOfMemory e) = ⊥
+
 -- what stands in the way of a log: the fault of the model's text,
 abbrev pub IsModelEvalFault : List ℕ → EvalFault → Type 0
-IsModelEvalFault model (eval_faults.Model rule offset) = IsModelRefused model rule offset
-IsModelEvalFault model (eval_faults.Test rule offset) = ⊥
+IsModelEvalFault model (eval_faults.Model fault) = IsModelTextFault model fault
+IsModelEvalFault model (eval_faults.Test fault) = ⊥
 IsModelEvalFault model (eval_faults.Memory e) = Unit {0}
 
 -- that of the test's text,
 abbrev pub IsTestEvalFault : List ℕ → EvalFault → Type 0
-IsTestEvalFault test (eval_faults.Model rule offset) = ⊥
-IsTestEvalFault test (eval_faults.Test rule offset) = IsTestRefused test rule offset
+IsTestEvalFault test (eval_faults.Model fault) = ⊥
+IsTestEvalFault test (eval_faults.Test fault) = IsTestTextFault test fault
 IsTestEvalFault test (eval_faults.Memory e) = Unit {0}
 
 -- the first of the two, or want of memory
 abbrev pub IsEvalRefusal : List ℕ → List ℕ → EvalFault → Type 0
-IsEvalRefusal model test (eval_faults.Model rule offset) = IsModelRefused model rule offset
-IsEvalRefusal model test (eval_faults.Test rule offset) =
-    IsModel model × IsTestRefused test rule offset
+IsEvalRefusal model test (eval_faults.Model fault) = IsModelTextFault model fault
+IsEvalRefusal model test (eval_faults.Test fault) = IsModel model × IsTestTextFault test fault
 IsEvalRefusal model test (eval_faults.Memory e) = Unit {0}
 
 -- ---- answers
@@ -88,14 +100,23 @@ pub data IsEvalAnswer (model test text : List ℕ) (refused : Bool) : Type 0 whe
       → IsTestRefused test rule offset → text ≡ refused_line 76 (test_rule_number rule) offset
       → IsEvalAnswer model test text refused
 
+-- the line of a refusal
+abbrev pub IsModelLine : CatFault → List ℕ → Type 0
+IsModelLine (model_faults.Refused rule offset) text =
+    text ≡ refused_line 67 (model_rule_number rule) offset
+IsModelLine (model_faults.OutOfMemory e) text = ⊥
+
+abbrev pub IsTestLine : LitmusFault → List ℕ → Type 0
+IsTestLine (test_faults.Refused rule offset) text =
+    text ≡ refused_line 76 (test_rule_number rule) offset
+IsTestLine (test_faults.OutOfMemory e) text = ⊥
+
 -- what is printed of a report, where `refused` is whether it was refused: the report, or the line
 -- of the refusal
 abbrev pub IsSaidOf : Result (Vec ℕ Global) EvalFault → List ℕ → Bool → Type 0
 IsSaidOf (Ok report) text refused = (text ≡ report.items) × (refused ≡ false)
-IsSaidOf (Err (eval_faults.Model rule offset)) text refused =
-    (text ≡ refused_line 67 (model_rule_number rule) offset) × (refused ≡ true)
-IsSaidOf (Err (eval_faults.Test rule offset)) text refused =
-    (text ≡ refused_line 76 (test_rule_number rule) offset) × (refused ≡ true)
+IsSaidOf (Err (eval_faults.Model fault)) text refused = IsModelLine fault text × (refused ≡ true)
+IsSaidOf (Err (eval_faults.Test fault)) text refused = IsTestLine fault text × (refused ≡ true)
 IsSaidOf (Err (eval_faults.Memory e)) text refused = ⊥
 
 -- whatever is said of the first two texts is said of the other two
@@ -104,7 +125,7 @@ AreAnsweredAlike model test other_model other_test =
     (text : List ℕ) (refused : Bool) → IsEvalAnswer model test text refused
     → IsEvalAnswer other_model other_test text refused
 
--- the bytes of a sink, before and after an answer was written: all of it, or a front of it where a
+-- the bytes of a sink, before and after an answer was written: all of it, or a prefix of it where a
 -- write failed, and else nothing
 abbrev pub IsEvalWritten : List ℕ → List ℕ → Option (List ℕ) → Option (List ℕ)
     → Result Bool SessionFault → Type 0

@@ -19,8 +19,8 @@ without_suffix suffix text =
     cut_suffix (pointwise nat_eq (drop (length text - length suffix) text) suffix) suffix text
 
 -- a model is called as its file, without `.cat`
-abbrev pub model_name : List ℕ → List ℕ
-model_name path = without_suffix (codes ".cat") (file_name path)
+abbrev pub model_stem : List ℕ → List ℕ
+model_stem path = without_suffix (codes ".cat") (file_name path)
 
 -- behind these bytes stand the lines of a text that is refused
 abbrev pub AddsFault : (old new path text : List ℕ) (letter number offset : ℕ) → Type 0

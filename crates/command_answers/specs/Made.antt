@@ -12,7 +12,7 @@ abbrev pub IsAnswerMade : Result Answer AllocError → List ℕ → Bool → Typ
 IsAnswerMade made text refused =
     (a : Answer) × (made ≡ Ok a) × (text ≡ a.text.items) × (refused ≡ a.is_refused)
 
--- the bytes of a sink, before and after a text that is said was written: all of it, or a front of
+-- the bytes of a sink, before and after a text that is said was written: all of it, or a prefix of
 -- it where a write failed, and else nothing
 abbrev pub IsAnswerWritten : (List ℕ → Bool → Type 0) → Option (List ℕ) → Option (List ℕ)
     → Result Bool SessionFault → Type 0

@@ -4,7 +4,7 @@ use Rattle.std.specs.Prelude.{◌≡◌, ℕ, ◌+◌, ◌⊎◌, List, [], ◌�
 use Rattle.std.specs.Io.KnownBytes.{Keeps}
 use Rattle.std.specs.List.{AllZip}
 use Rattle.cat_grammar.specs.declared.form.Form.TheVariants.{Model}
-use Rattle.cat_syntax.specs.Reads.{Reads}
+use Rattle.cat_grammar.specs.Reads.{Reads}
 use Rattle.cat_tokens.specs.declared.rule.CatRule.{CatRule}
 use Rattle.cat_tokens.specs.Tokens.{number_of as model_rule_number}
 use Rattle.text_values.specs.ModelValues.{clauses_of}
@@ -21,14 +21,14 @@ use Rattle.command_answers.specs.declared.file.TextFile.{TextFile}
 use Rattle.command_answers.specs.declared.reading.NamedModel.{NamedModel}
 use Rattle.command_answers.specs.Answer.{IsModelRefused, IsTestRefused}
 use Rattle.from_scratch.specs.FromScratch.{IsFromScratch}
-use Rattle.command_answers.specs.Files.{model_name, AddsFault}
+use Rattle.command_answers.specs.Files.{model_stem, AddsFault}
 
 -- ---- files that are read in turn
 
 -- behind these models and these lines, a file adds a model or a line
 pub data AddsModel (file : TextFile) (models : List NamedModel) (faults : List ℕ)
     (more : List NamedModel) (lines : List ℕ) : Type 0 where
-  IsModelAdded : (m : NamedModel) → m.name ≡ model_name file.path.now
+  IsModelAdded : (m : NamedModel) → m.name ≡ model_stem file.path.now
       → Reads Model file.text.items (clauses_of m.model.items.items) → more ≡ models ++ m ∷ []
       → lines ≡ faults → AddsModel file models faults more lines
   IsModelFault : (rule : CatRule) → (offset : ℕ) → IsModelRefused file.text.items rule offset

@@ -1,7 +1,7 @@
 -- What is told of a model's file whose text reads and that has a fault.
 use Rattle.std.specs.Prelude.{◌≡◌, ℕ, List, []}
 use Rattle.cat_grammar.specs.declared.form.Form.TheVariants.{Model}
-use Rattle.cat_syntax.specs.Reads.{Reads}
+use Rattle.cat_grammar.specs.Reads.{Reads}
 use Rattle.cat_tokens.specs.declared.rule.CatRule.{CatRule}
 use Rattle.text_values.specs.ModelValues.{clauses_of}
 use Rattle.text_values.specs.declared.model.ModelText.{ModelText}

@@ -6,7 +6,7 @@ use Rattle.litmus_grammar.specs.Texts.{ReadsTest}
 use Rattle.text_values.specs.declared.model.ModelText.{ModelText}
 use Rattle.text_values.specs.ModelValues.{clauses_of}
 use Rattle.cat_grammar.specs.declared.form.Form.TheVariants.{Model}
-use Rattle.cat_syntax.specs.Reads.{Reads}
+use Rattle.cat_grammar.specs.Reads.{Reads}
 use Rattle.why_forbidden.specs.declared.answer.Asked.{Asked}
 use Rattle.why_forbidden.specs.Whys.{IsWhy}
 use Rattle.command_line.specs.declared.fault.SessionFault.{SessionFault}
@@ -26,7 +26,7 @@ abbrev pub IsWhyAnswer : Asked → List ℕ → List ℕ → List ℕ → Bool �
 IsWhyAnswer asked model test text false = IsWhyOf asked model test text
 IsWhyAnswer asked model test text true = IsEvalAnswer model test text true
 
--- the bytes of a sink, before and after: the answer, or a front of it where a write failed, and
+-- the bytes of a sink, before and after: the answer, or a prefix of it where a write failed, and
 -- else nothing
 abbrev pub IsWhyWritten : Asked → List ℕ → List ℕ → Option (List ℕ) → Option (List ℕ)
     → Result Bool SessionFault → Type 0

@@ -1,22 +1,20 @@
 //! Why no log was made, or none was written.
 
-use cat_syntax::CatRule;
-use litmus_ppc::LitmusRule;
+use cat_syntax::CatFault;
+use litmus_ppc::LitmusFault;
 use std::alloc::AllocError;
 use thiserror::Error;
 
 /// Why no log was made of a model and a test.
 #[derive(Debug, Drop, Error)]
 pub enum EvalFault {
-    /// The model's text is refused: the rule that it breaks, and the offset of the first token that
-    /// no model could have there.
-    #[error("the cat text: the text is refused at byte {offset}")]
-    Model { rule: CatRule, offset: usize },
-    /// The test's text is refused: the rule that it breaks, and the offset of the first token that
-    /// no test could have there.
-    #[error("the litmus text: the text is refused at byte {offset}")]
-    Test { rule: LitmusRule, offset: usize },
-    /// A growth was refused.
+    /// The model's text is refused.
+    #[error("the cat text: {0}")]
+    Model(CatFault),
+    /// The test's text is refused.
+    #[error("the litmus text: {0}")]
+    Test(LitmusFault),
+    /// A growth was refused: want of memory is never a fault of a text.
     #[error("out of memory")]
     Memory(#[from(alloc)] AllocError),
 }

@@ -1,7 +1,7 @@
 //! Files of models and of tests.
 
 ghost use Rattle.std.specs.Prelude.{◌≡◌, OnOk};
-ghost use Rattle.command_answers.specs.Files.{file_name, model_name, AddsFault};
+ghost use Rattle.command_answers.specs.Files.{file_name, model_stem, AddsFault};
 
 use fault_lines::{count_behind, put_fault_lines, rule_words};
 use std::alloc::AllocError;
@@ -23,8 +23,8 @@ fn file_name(path: &[u8]) -> &[u8]
 }
 
 /// The name by which a model of this path is called: the last part of the path, without `.cat`.
-pub fn model_name(path: &[u8]) -> &[u8]
-    ensures { result.now ≡ model_name path.now }
+pub fn model_stem(path: &[u8]) -> &[u8]
+    ensures { result.now ≡ model_stem path.now }
 {
     let name = file_name(path);
     match name.strip_suffix(b".cat") {

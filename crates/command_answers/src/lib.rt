@@ -15,19 +15,25 @@ mod stream;
 mod texts;
 mod told;
 
-pub use command_line::{Drawn, Form, RunEnd, SessionFault, exit_status, form_of};
+pub use command_line::{
+    Drawn, Form, Pictures, ResultFormat, RunEnd, SessionFault, UsageFault, exit_status, form_of,
+};
 pub use fault::EvalFault;
-pub use file::TextFile;
-pub use listening::{AnswerListener, NoListener, RefusalTeller};
+pub use file::{TextFile, model_stem, put_fault};
+pub use listening::{AnswerListener, HeardCommand, NoListener, RefusalTeller};
 pub use progress::ProgressTeller;
-pub use reading::{NamedModel, model_refusal_lines, refusal_lines, test_refusal_lines};
+pub use reading::{
+    NamedModel, ReadModels, model_refusal_lines, read_models, refusal_lines, test_refusal_lines,
+};
 pub use report::{Report, difference_report, table_report, write_report};
 pub use session_answers::{NoProgress, Progress, ProgressListener};
 pub use session_script::{
     ByteSink, ByteSource, CallFailed, MemorySink, MemorySource, OfRead, OfWrite, ReadFault,
-    read_front, write_whole,
+    read_prefix, write_whole,
 };
-pub use stream::{eval_stream, read_text, write_answer, write_drawings, write_why};
-pub use texts::{draw_report, eval, why_report};
+pub use stream::{
+    eval_stream, eval_stream_heard, read_text, write_answer, write_drawings, write_why,
+};
+pub use texts::{draw_report, draw_request, eval, why_report};
 pub use told::model_fault;
-pub use why_forbidden::Asked;
+pub use why_forbidden::{Asked, DrawRequest, Format};

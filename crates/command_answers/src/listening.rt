@@ -4,7 +4,7 @@ use crate::file::TextFile;
 use crate::reading::refusal_lines;
 use crate::told::model_fault;
 use cat_syntax::Item;
-use fault_lines::{put_fault_lines, put_rule, rule_words};
+use fault_lines::{MOST_SHOWN, put_fault_lines, put_rule, put_shown, rule_words};
 use fault_models::model_fault_lines;
 use session_answers::{Progress, ProgressListener};
 use session_script::number_of;
@@ -12,11 +12,22 @@ use std::alloc::{AllocError, Global};
 use std::io::Write;
 use text_values::{put_bytes, put_decimal};
 
+/// What is said of a command of a session.
+#[derive(Clone, Copy)]
+pub struct HeardCommand<'h> {
+    /// The number of its line in the script, from 1.
+    pub line: u64,
+    /// What of the line is at fault, if the command is refused for that: the name of a test or of
+    /// a model, the number of a thread or of an item, or all its words.
+    pub blamed: &'h [u8],
+    /// Its text, where it has one.
+    pub text: &'h [u8],
+}
+
 /// Who hears of answers, and in between how far a table is.
 pub trait AnswerListener: ProgressListener {
-    /// Hears of the text of a command of a session, where it has one, and of the answer that was
-    /// written.
-    fn hear(&mut self, text: &[u8], answer: &[u8]);
+    /// Hears of a command of a session, and of the answer that was written.
+    fn hear(&mut self, command: HeardCommand<'_>, answer: &[u8]);
 
     /// Hears of the model that the command put or changed of which it heard last: its name, and its
     /// items with their numbers.
@@ -31,7 +42,7 @@ pub trait AnswerListener: ProgressListener {
 pub struct NoListener;
 
 impl AnswerListener for NoListener {
-    fn hear(&mut self, _text: &[u8], _answer: &[u8]) {}
+    fn hear(&mut self, _command: HeardCommand<'_>, _answer: &[u8]) {}
 
     fn hear_model(&mut self, _name: &[u8], _numbers: &[u64], _items: &[Item]) {}
 
@@ -103,11 +114,43 @@ fn refusal_in(answer: &[u8]) -> Option<Refusal> {
     Some(refusal_with(words[0], &words[1..words.len() - 1]))
 }
 
+// Whether a word of the line is at fault: not where the bench is full or its numbers are spent.
+fn blames_word(refusal: Refusal) -> bool {
+    refusal.letter == b'Q' || refusal.number < 5
+}
+
+// What of a line is at fault, behind the rule: a word, of which at most so much is shown.
+fn put_blamed(lines: &mut Vec<u8>, blamed: &[u8], refusal: Refusal) -> Result<(), AllocError> {
+    if blamed.is_empty() || !blames_word(refusal) {
+        return Ok(());
+    }
+    put_bytes(lines, b": `")?;
+    put_shown(lines, &blamed[..blamed.len().min(MOST_SHOWN)])?;
+    put_bytes(lines, b"`")
+}
+
+// What is told of a command that is refused for its line.
+fn put_refused_line(
+    lines: &mut Vec<u8>,
+    name: &[u8],
+    command: HeardCommand<'_>,
+    refusal: Refusal,
+) -> Result<(), AllocError> {
+    let words = rule_words(refusal.letter, refusal.number).as_bytes();
+    put_bytes(lines, name)?;
+    put_bytes(lines, b", line ")?;
+    put_decimal(lines, command.line)?;
+    put_bytes(lines, b": ")?;
+    put_rule(lines, refusal.letter, refusal.number, words)?;
+    put_blamed(lines, command.blamed, refusal)?;
+    put_bytes(lines, b"\n")
+}
+
 // What is told of a refusal of the command of that name.
 fn put_refused_command(
     lines: &mut Vec<u8>,
     name: &[u8],
-    text: &[u8],
+    command: HeardCommand<'_>,
     refusal: Refusal,
 ) -> Result<(), AllocError> {
     let words = rule_words(refusal.letter, refusal.number).as_bytes();
@@ -115,18 +158,13 @@ fn put_refused_command(
         Some(offset) => put_fault_lines(
             lines,
             name,
-            text,
+            command.text,
             refusal.letter,
             refusal.number,
             words,
             offset,
         ),
-        None => {
-            put_bytes(lines, name)?;
-            put_bytes(lines, b": ")?;
-            put_rule(lines, refusal.letter, refusal.number, words)?;
-            put_bytes(lines, b"\n")
-        }
+        None => put_refused_line(lines, name, command, refusal),
     }
 }
 
@@ -140,13 +178,13 @@ fn put_command(lines: &mut Vec<u8>, number: u64) -> Result<(), AllocError> {
 fn told_lines(
     alloc: Global,
     number: u64,
-    text: &[u8],
+    command: HeardCommand<'_>,
     refusal: Refusal,
 ) -> Result<Vec<u8>, AllocError> {
     let mut name = Vec::new(alloc);
     put_command(&mut name, number)?;
     let mut lines = Vec::new(alloc);
-    put_refused_command(&mut lines, &name, text, refusal)?;
+    put_refused_command(&mut lines, &name, command, refusal)?;
     Ok(lines)
 }
 
@@ -181,7 +219,8 @@ fn text_lines(
 }
 
 /// Tells a writer of refused texts and commands, a command by its number from 1: the rule in words,
-/// and where a text is refused its line. It tells of the fault of a model too, in a session once
+/// and where a text is refused its line, or else the line of the script and what is at fault. It
+/// tells of the fault of a model too, in a session once
 /// when a command makes it. How far a table is, it hands on. What cannot be told is left out.
 #[derive(Drop)]
 pub struct RefusalTeller<W, P> {
@@ -213,10 +252,10 @@ impl<W: Write, P: ProgressListener> RefusalTeller<W, P> {
 }
 
 impl<W: Write, P: ProgressListener> AnswerListener for RefusalTeller<W, P> {
-    fn hear(&mut self, text: &[u8], answer: &[u8]) {
+    fn hear(&mut self, command: HeardCommand<'_>, answer: &[u8]) {
         self.commands = self.commands.saturating_add(1);
         if let Some(refusal) = refusal_in(answer) {
-            let lines = told_lines(self.alloc, self.commands, text, refusal);
+            let lines = told_lines(self.alloc, self.commands, command, refusal);
             self.tell(lines);
         }
     }

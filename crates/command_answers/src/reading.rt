@@ -1,10 +1,10 @@
 //! Models and tests from files.
 
 ghost use Rattle.std.specs.Prelude.{◌≡◌, ◌++◌, ◌∷◌, [], IfOk, OnOk};
-ghost use Rattle.command_answers.specs.Files.{model_name};
+ghost use Rattle.command_answers.specs.Files.{model_stem};
 ghost use Rattle.command_answers.specs.Reports.{AddsModel, AreModels, AddsTest, AreTests, IsModelTold, IsTestTold, IsToldOf};
 
-use crate::file::{TextFile, model_name, put_fault};
+use crate::file::{TextFile, model_stem, put_fault};
 use cat_syntax::{CatFault, ModelText, read_model};
 use litmus_ppc::{LitmusFault, Name, Test, read_test};
 use std::alloc::{AllocError, Global};
@@ -43,9 +43,9 @@ fn push_model(
     model: ModelText,
 ) -> Result<(), AllocError>
     ensures { OnOk result (models.new.items
-        ≡ models.old.items ++ record { name = model_name path.now; model = model } ∷ []) }
+        ≡ models.old.items ++ record { name = model_stem path.now; model = model } ∷ []) }
 {
-    let name = Name::new(alloc, model_name(path.as_bytes()))?;
+    let name = Name::new(alloc, model_stem(path.as_bytes()))?;
     models.push(NamedModel { name, model })?;
     Ok(())
 }

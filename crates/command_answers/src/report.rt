@@ -151,7 +151,7 @@ pub fn difference_report<L: ProgressListener>(
 }
 
 /// Writes what is told of the refused files to one sink, then the text to another. Whether a file
-/// was refused. Errors: `Write` where a call failed; then what was written is a front.
+/// was refused. Errors: `Write` where a call failed; then what was written is a prefix.
 pub fn write_report<W: ByteSink, E: ByteSink>(
     report: &Report,
     output: &mut W,
@@ -161,14 +161,14 @@ pub fn write_report<W: ByteSink, E: ByteSink>(
     requires errors { E.failed_calls errors.old < 2 ^ 64 - 1 }
     // A file was refused just where one is told.
     ensures refused { IfOk result (λ r. r ≡ not (length report.now.faults.items == 0)) }
-    // All is written, or a front where a write failed.
+    // All is written, or a prefix where a write failed.
     ensures text { OnOk result (Appends (W.contents output.old) (W.contents output.new)
         report.now.text.items) }
     ensures faults { OnOk result (Appends (E.contents errors.old) (E.contents errors.new)
         report.now.faults.items) }
-    ensures text_front { WritesPrefix (W.contents output.old) (W.contents output.new)
+    ensures text_prefix { WritesPrefix (W.contents output.old) (W.contents output.new)
         report.now.text.items }
-    ensures faults_front { WritesPrefix (E.contents errors.old) (E.contents errors.new)
+    ensures faults_prefix { WritesPrefix (E.contents errors.old) (E.contents errors.new)
         report.now.faults.items }
     // `Write` comes after one failed call, which is the last, and there is no other error.
     ensures failed { OnErr result (IsStopped (W.failed_calls output.old) (W.failed_calls output.new)

@@ -4,19 +4,22 @@ ghost use Rattle.std.specs.Prelude.{◌≡◌, ◌≢◌, ◌-◌, ◌<◌, ◌^
 ghost use Rattle.std.specs.Io.KnownBytes.{IsAtEnd};
 ghost use Rattle.command_answers.specs.Answer.{AreReadsCounted, AreWritesCounted, IsEvalAnswer, IsSaidOf, IsEvalWritten, IsStreamed};
 ghost use Rattle.command_answers.specs.Made.{IsAnswerWritten, IsAnswerMade};
+ghost use Rattle.command_answers.specs.declared.fault.EvalFault.TheVariants as eval_faults;
 ghost use Rattle.command_answers.specs.Pictures.{IsPictureAnswer, IsPictureWritten};
 ghost use Rattle.command_answers.specs.Whys.{IsWhyAnswer, IsWhyWritten};
 ghost use Rattle.session_edits.specs.Answer.{refused_line};
 
 use crate::cut::cut_at_dot;
 use crate::fault::EvalFault;
-use crate::listening::AnswerListener;
+use crate::listening::{AnswerListener, NoListener};
 use crate::texts::{draw_report, eval, why_report};
-use command_line::{Drawn, SessionFault};
+use cat_syntax::CatFault;
+use command_line::SessionFault;
+use litmus_ppc::LitmusFault;
 use session_edits::put_refusal;
-use session_script::{ByteSink, ByteSource, ReadFault, read_front, write_whole};
+use session_script::{ByteSink, ByteSource, ReadFault, read_prefix, write_whole};
 use std::alloc::{AllocError, Global};
-use why_forbidden::Asked;
+use why_forbidden::{Asked, DrawRequest};
 
 // What is printed, and whether a text was refused.
 #[derive(Drop)]
@@ -37,13 +40,35 @@ fn refusal(alloc: Global, letter: u8, number: u8, offset: usize) -> Result<Answe
     })
 }
 
+// What is printed of a refused model.
+fn model_refusal(alloc: Global, fault: CatFault) -> Result<Answer, AllocError>
+    ensures { IfOk result
+        (λ a. IsSaidOf (Err (eval_faults.Model fault)) a.text.items a.is_refused) }
+{
+    match fault {
+        CatFault::Refused { rule, offset } => refusal(alloc, b'C', rule.number(), offset),
+        CatFault::OutOfMemory(e) => Err(e),
+    }
+}
+
+// What is printed of a refused test.
+fn test_refusal(alloc: Global, fault: LitmusFault) -> Result<Answer, AllocError>
+    ensures { IfOk result
+        (λ a. IsSaidOf (Err (eval_faults.Test fault)) a.text.items a.is_refused) }
+{
+    match fault {
+        LitmusFault::Refused { rule, offset } => refusal(alloc, b'L', rule.number(), offset),
+        LitmusFault::OutOfMemory(e) => Err(e),
+    }
+}
+
 // What is printed of why there is no report.
 fn refusal_of(alloc: Global, fault: EvalFault) -> Result<Answer, AllocError>
     ensures { IfOk result (λ a. IsSaidOf (Err fault) a.text.items a.is_refused) }
 {
     match fault {
-        EvalFault::Model { rule, offset } => refusal(alloc, b'C', rule.number(), offset),
-        EvalFault::Test { rule, offset } => refusal(alloc, b'L', rule.number(), offset),
+        EvalFault::Model(model) => model_refusal(alloc, model),
+        EvalFault::Test(test) => test_refusal(alloc, test),
         EvalFault::Memory(e) => Err(e),
     }
 }
@@ -89,8 +114,8 @@ fn answer_to(alloc: Global, model: &[u8], test: &[u8]) -> Result<Answer, AllocEr
 }
 
 /// Writes the log of the test under the model, or a line `refused`, number and offset. Whether a
-/// text was refused. After a fault, what was written is a front of that text. Errors: `Write` where
-/// a call failed, or, before the first call, `Memory`.
+/// text was refused. After a fault, what was written is a prefix of that text. Errors: `Write`
+/// where a call failed, or, before the first call, `Memory`.
 pub fn write_answer<W: ByteSink>(
     alloc: Global,
     model: &[u8],
@@ -98,7 +123,7 @@ pub fn write_answer<W: ByteSink>(
     sink: &mut W,
 ) -> Result<bool, SessionFault>
     requires { W.failed_calls sink.old < 2 ^ 64 - 1 }
-    // The answer is written, or a front of it where a write failed, and else nothing.
+    // The answer is written, or a prefix of it where a write failed, and else nothing.
     ensures written { IsEvalWritten model.now test.now (W.contents sink.old) (W.contents sink.new)
         result }
     // `Write` comes after one failed call, and all else after none.
@@ -125,7 +150,7 @@ pub fn write_why<W: ByteSink>(
     sink: &mut W,
 ) -> Result<bool, SessionFault>
     requires { W.failed_calls sink.old < 2 ^ 64 - 1 }
-    // The answer is written, or a front of it where a write failed, and else nothing.
+    // The answer is written, or a prefix of it where a write failed, and else nothing.
     ensures written { IsWhyWritten asked model.now test.now (W.contents sink.old)
         (W.contents sink.new) result }
     // `Write` comes after one failed call, and all else after none.
@@ -140,13 +165,12 @@ fn draw_answer(
     alloc: Global,
     model: &[u8],
     test: &[u8],
-    drawn: Drawn,
-    most: u64,
+    request: DrawRequest,
 ) -> Result<Answer, AllocError>
     ensures { IfOk result (λ a.
-        IsPictureAnswer drawn most model.now test.now a.text.items a.is_refused) }
+        IsPictureAnswer request model.now test.now a.text.items a.is_refused) }
 {
-    answer_of(alloc, draw_report(alloc, model, test, drawn, most))
+    answer_of(alloc, draw_report(alloc, model, test, request))
 }
 
 /// Writes what `draw_report` says of the texts, or a line `refused`, number and offset. Whether a
@@ -155,20 +179,19 @@ pub fn write_drawings<W: ByteSink>(
     alloc: Global,
     model: &[u8],
     test: &[u8],
-    drawn: Drawn,
-    most: u64,
+    request: DrawRequest,
     sink: &mut W,
 ) -> Result<bool, SessionFault>
     requires { W.failed_calls sink.old < 2 ^ 64 - 1 }
-    // The answer is written, or a front of it where a write failed, and else nothing.
-    ensures written { IsPictureWritten drawn most model.now test.now (W.contents sink.old)
+    // The answer is written, or a prefix of it where a write failed, and else nothing.
+    ensures written { IsPictureWritten request model.now test.now (W.contents sink.old)
         (W.contents sink.new) result }
     // `Write` comes after one failed call, and all else after none.
     ensures calls { AreWritesCounted (W.failed_calls sink.old) (W.failed_calls sink.new) result }
     // Nothing is read.
     ensures fault { result ≢ Err SessionFault.Read }
 {
-    write_made(draw_answer(alloc, model, test, drawn, most), sink)
+    write_made(draw_answer(alloc, model, test, request), sink)
 }
 
 // A text of so many bytes is too long, whatever stands behind them.
@@ -191,7 +214,7 @@ fn read_first<S: ByteSource>(
     ensures fault { result ≢ Err SessionFault.Write }
     ensures own { result ≢ Err SessionFault.Shared }
 {
-    match read_front(alloc, source, most) {
+    match read_prefix(alloc, source, most) {
         Ok(bytes) => Ok(bytes),
         Err(ReadFault::Memory) => Err(SessionFault::Memory),
         Err(ReadFault::Read) => Err(SessionFault::Read),
@@ -200,8 +223,8 @@ fn read_first<S: ByteSource>(
 }
 
 /// The first 65,537 bytes of a source, which is read to its end. They decide what is said of the
-/// whole text (`laws::fronts_decide`). Errors: `Read` where a call failed or the bytes did not end
-/// within 16,777,216 calls, or `Memory`.
+/// whole text (`laws::prefixes_decide`). Errors: `Read` where a call failed or the bytes did not
+/// end within 16,777,216 calls, or `Memory`.
 pub fn read_text<S: ByteSource>(alloc: Global, source: &mut S) -> Result<Vec<u8>, SessionFault>
     requires { S.failed_calls source.old < 2 ^ 64 - 1 }
     ensures bytes { IfOk result (λ v.
@@ -229,11 +252,8 @@ fn tell<L: AnswerListener>(
     }
 }
 
-/// Reads all input, which holds a model, a line that is exactly `.` and a test, and writes what
-/// `write_answer` does. With no such line the test's text is empty. Bytes that cannot change the
-/// answer are not kept. A listener hears of the texts behind the answer. Errors: those of
-/// `read_text`, before the first write, and those of `write_answer`.
-pub fn eval_stream<R: AllocGlobal, S: ByteSource, W: ByteSink, L: AnswerListener>(
+/// What `eval_stream` does, and a listener hears of the texts behind the answer.
+pub fn eval_stream_heard<R: AllocGlobal, S: ByteSource, W: ByteSink, L: AnswerListener>(
     rt: &R,
     source: &mut S,
     sink: &mut W,
@@ -241,7 +261,7 @@ pub fn eval_stream<R: AllocGlobal, S: ByteSource, W: ByteSink, L: AnswerListener
 ) -> Result<bool, SessionFault>
     requires source { S.failed_calls source.old < 2 ^ 64 - 1 }
     requires sink { W.failed_calls sink.old < 2 ^ 64 - 1 }
-    // The answer to the texts into which the input is cut is written, or a front of it, or nothing.
+    // The answer to the texts into which the input is cut is written, or a prefix, or nothing.
     ensures written { IsStreamed (S.remaining source.old) (W.contents sink.old)
         (W.contents sink.new) result }
     // Nothing is written unless all of the input was read.
@@ -261,4 +281,30 @@ pub fn eval_stream<R: AllocGlobal, S: ByteSource, W: ByteSink, L: AnswerListener
     let answered = write_answer(rt.alloc(), model, test, sink);
     tell(listener, model, test, &answered);
     answered
+}
+
+/// Reads all input, which holds a model, a line that is exactly `.` and a test, and writes what
+/// `write_answer` does. With no such line the test's text is empty. Bytes that cannot change the
+/// answer are not kept. Errors: those of `read_text`, before the first write, and those of
+/// `write_answer`.
+pub fn eval_stream<R: AllocGlobal, S: ByteSource, W: ByteSink>(
+    rt: &R,
+    source: &mut S,
+    sink: &mut W,
+) -> Result<bool, SessionFault>
+    requires source { S.failed_calls source.old < 2 ^ 64 - 1 }
+    requires sink { W.failed_calls sink.old < 2 ^ 64 - 1 }
+    // The answer to the texts into which the input is cut is written, or a prefix, or nothing.
+    ensures written { IsStreamed (S.remaining source.old) (W.contents sink.old)
+        (W.contents sink.new) result }
+    // Nothing is written unless all of the input was read.
+    ensures end { OnOk result (IsAtEnd (S.remaining source.new)) }
+    ensures write_end { result ≡ Err SessionFault.Write → IsAtEnd (S.remaining source.new) }
+    // `Read` comes after one failed read or at the bound, `Write` after one failed write, and all
+    // else after none.
+    ensures reads { AreReadsCounted (S.failed_calls source.old) (S.failed_calls source.new)
+        (S.remaining source.old) result }
+    ensures writes { AreWritesCounted (W.failed_calls sink.old) (W.failed_calls sink.new) result }
+{
+    eval_stream_heard(rt, source, sink, &mut NoListener)
 }

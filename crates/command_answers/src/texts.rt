@@ -2,23 +2,23 @@
 
 ghost use Rattle.std.specs.Prelude.{◌≡◌, IfOk, IfErr};
 ghost use Rattle.cat_grammar.specs.declared.form.Form.{Form};
-ghost use Rattle.cat_syntax.specs.Reads.{Reads};
+ghost use Rattle.cat_grammar.specs.Reads.{Reads};
 ghost use Rattle.text_values.specs.ModelValues.{clauses_of};
 ghost use Rattle.litmus_grammar.specs.Texts.{ReadsTest};
 ghost use Rattle.text_values.specs.TestValue.{content_of};
-ghost use Rattle.command_answers.specs.Pictures as pictures;
+ghost use Rattle.command_answers.specs.Pictures as requests;
 ghost use Rattle.command_answers.specs.Pictures.{IsPictureOf};
 ghost use Rattle.command_answers.specs.Answer.{IsLogOf, IsEvalLog, IsEvalRefusal, IsModelEvalFault, IsTestEvalFault};
 ghost use Rattle.command_answers.specs.Whys.{IsWhyOf};
 
 use crate::fault::EvalFault;
 use cat_syntax::{CatFault, ModelText, read_model};
-use command_line::Drawn;
+use command_line::{Drawn, Pictures};
 use from_scratch::eval_cell;
 use litmus_ppc::{LitmusFault, Test, read_test};
 use outcome_texts::outcome_log;
 use std::alloc::{AllocError, Global};
-use why_forbidden::{Asked, Wanted, draw, why};
+use why_forbidden::{Asked, DrawRequest, Format, Wanted, draw, why};
 
 // The model and the test that two texts mean.
 #[derive(Drop)]
@@ -34,7 +34,9 @@ fn model_of(alloc: Global, text: &[u8]) -> Result<ModelText, EvalFault>
     match read_model(alloc, text) {
         Ok(model) => Ok(model),
         Err(CatFault::OutOfMemory(e)) => Err(EvalFault::Memory(e)),
-        Err(CatFault::Refused { rule, offset }) => Err(EvalFault::Model { rule, offset }),
+        Err(CatFault::Refused { rule, offset }) => {
+            Err(EvalFault::Model(CatFault::Refused { rule, offset }))
+        }
     }
 }
 
@@ -45,7 +47,9 @@ fn test_of(alloc: Global, text: &[u8]) -> Result<Test, EvalFault>
     match read_test(alloc, text) {
         Ok(test) => Ok(test),
         Err(LitmusFault::OutOfMemory(e)) => Err(EvalFault::Memory(e)),
-        Err(LitmusFault::Refused { rule, offset }) => Err(EvalFault::Test { rule, offset }),
+        Err(LitmusFault::Refused { rule, offset }) => {
+            Err(EvalFault::Test(LitmusFault::Refused { rule, offset }))
+        }
     }
 }
 
@@ -118,7 +122,7 @@ pub fn why_report(
 }
 
 fn wanted(drawn: Drawn) -> Wanted
-    ensures { result ≡ pictures.wanted_executions drawn }
+    ensures { result ≡ requests.wanted_executions drawn }
 {
     match drawn {
         Drawn::Shown => Wanted::Shown,
@@ -127,17 +131,52 @@ fn wanted(drawn: Drawn) -> Wanted
     }
 }
 
-/// Drawings of executions of the test under the model, at most so many, for `dot`. The model is
-/// read first. Errors: those of `eval`.
+// The one of this number, from 1, of the executions that are drawn.
+fn one_of(drawn: Drawn, nth: u64, format: Format) -> DrawRequest
+    ensures { result ≡ requests.one_of drawn nth format }
+{
+    DrawRequest {
+        wanted: wanted(drawn),
+        skipped: nth.saturating_sub(1),
+        most: nth,
+        format,
+    }
+}
+
+// So many at most of the executions that are drawn.
+fn some_of(drawn: Drawn, most: u64, format: Format) -> DrawRequest
+    ensures { result ≡ requests.some_of drawn most format }
+{
+    DrawRequest {
+        wanted: wanted(drawn),
+        skipped: 0,
+        most,
+        format,
+    }
+}
+
+/// What the words of `draw` ask for.
+pub fn draw_request(drawn: Drawn, pictures: Pictures) -> DrawRequest
+    ensures { result ≡ requests.draw_request drawn pictures }
+{
+    match pictures {
+        Pictures::Graphs { most } => some_of(drawn, most, Format::Dot),
+        Pictures::Svgs { most } => some_of(drawn, most, Format::Svg),
+        Pictures::Graph { nth } => one_of(drawn, nth, Format::Dot),
+        Pictures::Svg { nth } => one_of(drawn, nth, Format::Svg),
+    }
+}
+
+/// Drawings of executions of the test under the model. The model is read first. Errors: those of
+/// `eval`.
 pub fn draw_report(
     alloc: Global,
     model: &[u8],
     test: &[u8],
-    drawn: Drawn,
-    most: u64,
+    request: DrawRequest,
 ) -> Result<Vec<u8>, EvalFault>
     // A report is what is drawn of the test and the model that the texts mean.
-    ensures report { IfOk result (λ text. IsPictureOf drawn most model.now test.now text.items) }
+    ensures report { IfOk result (λ text. IsPictureOf request model.now test.now text.items) }
     // A refusal is that of the first text that means nothing.
     ensures refusal { IfErr result (IsEvalRefusal model.now test.now) }
 {
@@ -145,7 +184,7 @@ pub fn draw_report(
         Ok(known) => known,
         Err(fault) => return Err(fault),
     };
-    match draw(alloc, &known.test, &known.model, wanted(drawn), most) {
+    match draw(alloc, &known.test, &known.model, request) {
         Ok(text) => Ok(text),
         Err(e) => Err(EvalFault::Memory(e)),
     }

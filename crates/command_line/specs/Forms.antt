@@ -1,255 +1,240 @@
--- What the words of a command line ask for. The first word is the program's own name. A word that
--- begins with `-` and goes on is no path, but behind `--`.
-use Rattle.std.specs.Prelude.{ℕ, ◌+◌, ◌-◌, ◌==◌, ◌&&◌, ◌||◌, List, [], Bool, true, false, not, Option, Some, None, if◌then◌else◌, nat_eq, nat_lt, nat_le, length, map, take, drop, slice_index, codes, option_map}
-use Rattle.std.specs.Cmp.Lexicographic.{pointwise}
-use Rattle.std.specs.List.{list_all, position_or_len}
+-- What the words of a command line ask for. The first word is the program's own name. Read Options
+-- and Words first.
+use Rattle.std.specs.Prelude.{◌≡◌, ℕ, ◌==◌, ◌&&◌, ◌||◌, List, Bool, true, false, not, Option, Some, None, if◌then◌else◌, nat_lt, length, take, drop, codes, option_map}
 use denote.Ref.{Bor}
-use Rattle.session_script.specs.Words.{number_of}
 use Rattle.session_script.specs.Requests.{is_word, word_at}
+use Rattle.command_usage.specs.declared.fault.UsageFault.{UsageFault}
+use Rattle.command_usage.specs.declared.fault.UsageFault.TheVariants as usage_faults
 use Rattle.command_line.specs.declared.form.Form.{Form}
 use Rattle.command_line.specs.declared.form.Form.TheVariants as forms
 use Rattle.command_line.specs.declared.form.Drawn.{Drawn}
 use Rattle.command_line.specs.declared.form.Drawn.TheVariants as drawns
+use Rattle.command_line.specs.declared.form.Pictures.{Pictures}
+use Rattle.command_line.specs.declared.form.Pictures.TheVariants.{Graphs, Graph, Svg, Svgs}
+use Rattle.command_line.specs.declared.form.ResultFormat.{ResultFormat}
+use Rattle.command_line.specs.declared.form.ResultFormat.TheVariants.{Plain, Tab, Json}
+use Rattle.command_line.specs.declared.option.Command.{Command}
+use Rattle.command_line.specs.declared.option.Command.TheVariants as commands
+use Rattle.command_line.specs.declared.option.GivenOption.{GivenOption}
+use Rattle.command_line.specs.declared.option.OptionName.{OptionName}
+use Rattle.command_line.specs.declared.option.OptionName.TheVariants as names
+use Rattle.command_line.specs.Options.{number_given, has_option, takes_all}
+use Rattle.command_line.specs.Words.{Words, borrowed_words, words_given}
 
--- a model and a test on standard input; a model and a test in files; a table of tests under models;
--- where two models tell tests apart; a session of a file's script, or of standard input's, with so
--- many workers; why a model forbids what a test asks for, by a forbidden execution and in depth
--- where these are asked for; the tests of files under a model as the files change, with so many
--- workers; pictures of these executions, so many at most
+-- a model and a test on standard input; a model and a test in files, and whether their outcome is
+-- told as JSON; a table of tests under models; where two models tell tests apart; a page of tests
+-- under models, with so many drawings at most; a session of a file's script, or of standard
+-- input's, with so many workers; why a model forbids what a test asks for, by a forbidden execution
+-- and in depth where these are asked for; the tests of files under models as the files change, with
+-- so many workers, and looks so far apart; pictures of these executions
 pub data CommandAsked : Type 0 where
   Stream : CommandAsked
-  Eval : List ℕ → List ℕ → CommandAsked
-  Table : List (List ℕ) → List (List ℕ) → CommandAsked
-  Diff : List (List ℕ) → List (List ℕ) → CommandAsked
+  Eval : List ℕ → List ℕ → Bool → CommandAsked
+  Table : List (List ℕ) → List (List ℕ) → ResultFormat → CommandAsked
+  Diff : List ℕ → List ℕ → List (List ℕ) → ResultFormat → CommandAsked
   Session : Option (List ℕ) → ℕ → CommandAsked
   Why : List ℕ → List ℕ → Bool → Bool → CommandAsked
-  Watch : List ℕ → List (List ℕ) → ℕ → CommandAsked
-  Draw : List ℕ → List ℕ → Drawn → ℕ → CommandAsked
-
-abbrev pub borrowed_words : List (Bor (List ℕ)) → List (List ℕ)
-borrowed_words words = map (λ w. w.now) words
+  Watch : List (List ℕ) → List (List ℕ) → ℕ → ℕ → CommandAsked
+  Draw : List ℕ → List ℕ → Drawn → Pictures → CommandAsked
 
 abbrev pub borrowed_word : Option (Bor (List ℕ)) → Option (List ℕ)
 borrowed_word word = option_map (λ w. w.now) word
 
 abbrev pub asked_by_form : Form → CommandAsked
 asked_by_form forms.Stream = Stream
-asked_by_form (forms.Eval model test) = Eval model.now test.now
-asked_by_form (forms.Table models tests) =
-    Table (borrowed_words models.now) (borrowed_words tests.now)
-asked_by_form (forms.Diff models tests) =
-    Diff (borrowed_words models.now) (borrowed_words tests.now)
+asked_by_form (forms.Eval model test is_json) = Eval model.now test.now is_json
+asked_by_form (forms.Table models tests format) =
+    Table (borrowed_words models.items) (borrowed_words tests.items) format
+asked_by_form (forms.Diff first second tests format) =
+    Diff first.now second.now (borrowed_words tests.items) format
 asked_by_form (forms.Session script workers) = Session (borrowed_word script) workers
 asked_by_form (forms.Why model test is_forbidden is_deep) =
     Why model.now test.now is_forbidden is_deep
-asked_by_form (forms.Watch model tests workers) = Watch model.now (borrowed_words tests.now) workers
-asked_by_form (forms.Draw model test drawn most) = Draw model.now test.now drawn most
-
-abbrev pub is_path : List ℕ → Bool
-is_path word = not (nat_lt 1 (length word) && (slice_index word 0 == 45))
-
-abbrev pub are_paths : List (List ℕ) → Bool
-are_paths words = list_all is_path words
-
--- where the first `--` is, or the number of words
-abbrev pub dashes : List (List ℕ) → ℕ
-dashes words = position_or_len (λ w. is_word w (codes "--")) words
+asked_by_form (forms.Watch models tests workers poll) =
+    Watch (borrowed_words models.items) (borrowed_words tests.items) workers poll
+asked_by_form (forms.Draw model test drawn pictures) = Draw model.now test.now drawn pictures
 
 abbrev pub asked_if : Bool → CommandAsked → Option CommandAsked
 asked_if true asked = Some asked
 asked_if false asked = None
 
+-- ---- what options say
+
+-- a number from one to another, or the usual one where none is given
+abbrev pub within : ℕ → ℕ → ℕ → Option ℕ → Option ℕ
+within usual least most None = Some usual
+within usual least most (Some n) = if nat_lt n least || nat_lt most n then None else Some n
+
+abbrev pub number_within : OptionName → ℕ → ℕ → ℕ → List GivenOption → Option ℕ
+number_within name usual least most options = within usual least most (number_given name options)
+
+-- --tab, --json or neither
+abbrev pub format_by : Bool → Bool → Option ResultFormat
+format_by false false = Some Plain
+format_by true false = Some Tab
+format_by false true = Some Json
+format_by true true = None
+
+abbrev pub format_in : List GivenOption → Option ResultFormat
+format_in options = format_by (has_option names.Tab options) (has_option names.Json options)
+
+-- --shown, --forbidden, --all or none of them
+abbrev pub drawn_by : Bool → Bool → Bool → Option Drawn
+drawn_by is_shown false false = Some drawns.Shown
+drawn_by false true false = Some drawns.Forbidden
+drawn_by false false true = Some drawns.All
+drawn_by is_shown is_forbidden is_all = None
+
+abbrev pub drawn_in : List GivenOption → Option Drawn
+drawn_in options =
+    drawn_by (has_option names.Shown options) (has_option names.Forbidden options)
+    (has_option names.All options)
+
+abbrev pub one_picture : Bool → Option ℕ → Option Pictures
+one_picture true (Some n) = Some (Svg n)
+one_picture false (Some n) = Some (Graph n)
+one_picture is_svg None = None
+
+abbrev pub more_pictures : Bool → Option ℕ → Option Pictures
+more_pictures true (Some n) = Some (Svgs n)
+more_pictures false (Some n) = Some (Graphs n)
+more_pictures is_svg None = None
+
+abbrev pub pictures_by : (is_svg has_most : Bool) → List GivenOption → Option Pictures
+pictures_by is_svg has_most options =
+    if has_most && has_option names.Nth options then None
+    else (if has_option names.Nth options || (is_svg && not has_most)
+    then one_picture is_svg (number_within names.Nth 1 1 16384 options)
+    else more_pictures is_svg (number_within names.Most 16 1 64 options))
+
+-- one picture by --nth, and by --svg without --most; else as many as --most says
+abbrev pub pictures_in : List GivenOption → Option Pictures
+pictures_in options =
+    pictures_by (has_option names.Svg options) (has_option names.Most options) options
+
+abbrev pub workers_in : List GivenOption → Option ℕ
+workers_in options = number_within names.Workers 0 0 32 options
+
+-- ---- commands
+
 -- MODEL TEST
-abbrev pub eval_of : List (List ℕ) → Option CommandAsked
-eval_of words =
-    asked_if ((length words == 2) && are_paths words) (Eval (word_at words 0) (word_at words 1))
+abbrev pub eval_of : Words → Option CommandAsked
+eval_of g =
+    asked_if (length g.paths == 2)
+    (Eval (word_at g.paths 0) (word_at g.paths 1) (has_option names.Json g.options))
+
+abbrev pub has_both : Words → Bool
+has_both g = nat_lt 0 (length g.paths) && nat_lt 0 (length g.last_paths)
 
 -- MODEL .. -- TEST ..
-abbrev pub table_of : List (List ℕ) → ℕ → Option CommandAsked
-table_of words split =
-    asked_if (nat_lt 0 split && nat_lt (split + 1) (length words) && are_paths (take split words))
-    (Table (take split words) (drop (split + 1) words))
+abbrev pub table_with : Words → Option ResultFormat → Option CommandAsked
+table_with g None = None
+table_with g (Some format) = asked_if (has_both g) (Table g.paths g.last_paths format)
+
+abbrev pub table_of : Words → Option CommandAsked
+table_of g = table_with g (format_in g.options)
 
 -- MODEL MODEL TEST ..
-abbrev pub diff_of : List (List ℕ) → Option CommandAsked
-diff_of words =
-    asked_if (nat_lt 2 (length words) && are_paths words) (Diff (take 2 words) (drop 2 words))
+abbrev pub diff_with : Words → Option ResultFormat → Option CommandAsked
+diff_with g None = None
+diff_with g (Some format) =
+    asked_if (nat_lt 2 (length g.paths))
+    (Diff (word_at g.paths 0) (word_at g.paths 1) (drop 2 g.paths) format)
 
--- the number below 2^64 that the digits of a word make; the empty word makes none
-abbrev pub number_in : List ℕ → Option ℕ
-number_in word = if length word == 0 then None else number_of word
+abbrev pub diff_of : Words → Option CommandAsked
+diff_of g = diff_with g (format_in g.options)
 
--- whether a word begins so
-abbrev pub begins : List ℕ → List ℕ → Bool
-begins word front = pointwise nat_eq (take (length front) word) front
+abbrev pub script_in : List (List ℕ) → Option (List ℕ)
+script_in paths = if length paths == 0 then None else Some (word_at paths 0)
 
--- the number that stands behind this front of a word, as that behind `--workers=`
-abbrev pub number_behind : List ℕ → List ℕ → Option ℕ
-number_behind word front = if begins word front then number_in (drop (length front) word) else None
+-- SCRIPT, or nothing
+abbrev pub session_with : Words → Option ℕ → Option CommandAsked
+session_with g None = None
+session_with g (Some workers) =
+    asked_if (nat_lt (length g.paths) 2) (Session (script_in g.paths) workers)
 
--- a number of workers is a decimal number up to 32
-abbrev pub session_with : Option (List ℕ) → Option ℕ → Option CommandAsked
-session_with script None = None
-session_with script (Some n) = asked_if (nat_le n 32) (Session script n)
+abbrev pub session_of : Words → Option CommandAsked
+session_of g = session_with g (workers_in g.options)
 
--- SCRIPT
-abbrev pub session_in : List ℕ → Option ℕ → Option CommandAsked
-session_in script workers = if is_path script then session_with (Some script) workers else None
+-- MODEL TEST
+abbrev pub why_of : Words → Option CommandAsked
+why_of g =
+    asked_if (length g.paths == 2)
+    (Why (word_at g.paths 0) (word_at g.paths 1) (has_option names.Forbidden g.options)
+    (has_option names.Deep g.options))
 
-abbrev pub is_workers : List ℕ → Bool
-is_workers word = is_word word (codes "--workers")
+-- the paths before `--`, or else the first
+abbrev pub watched_models : Words → List (List ℕ)
+watched_models g = if has_option names.Dashes g.options then g.paths else take 1 g.paths
 
--- a word --workers=N
-abbrev pub sets_workers : List ℕ → Bool
-sets_workers word = begins word (codes "--workers=")
+-- the paths behind `--`, or else all but the first
+abbrev pub watched_tests : Words → List (List ℕ)
+watched_tests g = if has_option names.Dashes g.options then g.last_paths else drop 1 g.paths
 
-abbrev pub workers_in : List ℕ → Option ℕ
-workers_in word = number_behind word (codes "--workers=")
+-- MODEL .. -- TEST .., or MODEL TEST ..
+abbrev pub watch_with : Words → Option ℕ → Option ℕ → Option CommandAsked
+watch_with g (Some workers) (Some poll) =
+    asked_if (nat_lt 0 (length (watched_models g)) && nat_lt 0 (length (watched_tests g)))
+    (Watch (watched_models g) (watched_tests g) workers poll)
+watch_with g workers poll = None
 
--- --workers=N, or SCRIPT
-abbrev pub session_of_one : List ℕ → Option CommandAsked
-session_of_one word =
-    if sets_workers word then session_with None (workers_in word) else session_in word (Some 0)
+abbrev pub watch_of : Words → Option CommandAsked
+watch_of g =
+    watch_with g (workers_in g.options) (number_within names.Poll 500 0 60000 g.options)
 
--- --workers N, or --workers=N before a script or behind it
-abbrev pub session_of_two : List ℕ → List ℕ → Option CommandAsked
-session_of_two first second =
-    if is_workers first then session_with None (number_in second)
-    else (if sets_workers first then session_in second (workers_in first)
-    else (if sets_workers second then session_in first (workers_in second) else None))
+-- MODEL TEST
+abbrev pub draw_with : Words → Option Drawn → Option Pictures → Option CommandAsked
+draw_with g (Some drawn) (Some pictures) =
+    asked_if (length g.paths == 2) (Draw (word_at g.paths 0) (word_at g.paths 1) drawn pictures)
+draw_with g drawn pictures = None
 
--- --workers N, before a script or behind it
-abbrev pub session_of_three : List (List ℕ) → Option CommandAsked
-session_of_three words =
-    if is_workers (word_at words 0) then session_in (word_at words 2) (number_in (word_at words 1))
-    else (if is_workers (word_at words 1) then session_in (word_at words 0)
-    (number_in (word_at words 2))
-    else None)
+abbrev pub draw_of : Words → Option CommandAsked
+draw_of g = draw_with g (drawn_in g.options) (pictures_in g.options)
 
--- nothing, SCRIPT, a number of workers, or both
-abbrev pub session_of : List (List ℕ) → Option CommandAsked
-session_of words =
-    if length words == 0 then Some (Session None 0)
-    else (if length words == 1 then session_of_one (word_at words 0)
-    else (if length words == 2 then session_of_two (word_at words 0) (word_at words 1)
-    else (if length words == 3 then session_of_three words else None)))
+abbrev pub command_of : List ℕ → Option Command
+command_of word =
+    if is_word word (codes "eval") then Some commands.Eval
+    else (if is_word word (codes "table") then Some commands.Table
+    else (if is_word word (codes "diff") then Some commands.Diff
+    else (if is_word word (codes "session") then Some commands.Session
+    else (if is_word word (codes "why") then Some commands.Why
+    else (if is_word word (codes "watch") then Some commands.Watch
+    else (if is_word word (codes "draw") then Some commands.Draw else None))))))
 
--- two paths: the first two words, or the last two where the first word is an option
-abbrev pub paths_of : List (List ℕ) → List (List ℕ)
-paths_of words = if is_path (word_at words 0) then take 2 words else drop (length words - 2) words
+-- what a command asks for, each of whose options it has
+abbrev pub taken : Command → Words → Option CommandAsked
+taken commands.Eval g = eval_of g
+taken commands.Table g = table_of g
+taken commands.Diff g = diff_of g
+taken commands.Session g = session_of g
+taken commands.Why g = why_of g
+taken commands.Watch g = watch_of g
+taken commands.Draw g = draw_of g
 
--- the words behind the two paths, or those before them
-abbrev pub options_of : List (List ℕ) → List (List ℕ)
-options_of words = if is_path (word_at words 0) then drop 2 words else take (length words - 2) words
+-- no option lacks its number
+abbrev pub is_complete : Option OptionName → Bool
+is_complete None = true
+is_complete (Some name) = false
 
--- whether one of two options is this one
-abbrev pub has_option : List (List ℕ) → List ℕ → Bool
-has_option options option = is_word (word_at options 0) option || is_word (word_at options 1) option
+abbrev pub by_words : Command → Words → Option CommandAsked
+by_words command g =
+    if is_complete g.awaiting && takes_all command g.options then taken command g else None
 
-abbrev pub count_of : Bool → Bool → ℕ
-count_of a b = if a then (if b then 2 else 1) else (if b then 1 else 0)
-
--- MODEL TEST, with these options of which there are so many in all
-abbrev pub why_with : List (List ℕ) → ℕ → Bool → Bool → Option CommandAsked
-why_with paths count is_forbidden is_deep =
-    asked_if (are_paths paths && (count == count_of is_forbidden is_deep))
-    (Why (word_at paths 0) (word_at paths 1) is_forbidden is_deep)
-
--- MODEL TEST, with --forbidden and --deep, each once at most, before or behind them
-abbrev pub why_of : List (List ℕ) → Option CommandAsked
-why_of words =
-    if nat_lt (length words) 2 then None
-    else why_with (paths_of words) (length (options_of words))
-    (has_option (options_of words) (codes "--forbidden"))
-    (has_option (options_of words) (codes "--deep"))
-
--- MODEL TEST .., with so many workers
-abbrev pub watch_with : List (List ℕ) → Option ℕ → Option CommandAsked
-watch_with words None = None
-watch_with words (Some n) =
-    asked_if (nat_lt 1 (length words) && are_paths words && nat_le n 32)
-    (Watch (word_at words 0) (drop 1 words) n)
-
--- MODEL TEST .., or --workers N or --workers=N before them
-abbrev pub watch_of : List (List ℕ) → Option CommandAsked
-watch_of words =
-    if is_workers (word_at words 0) then (if nat_lt (length words) 2 then None
-    else watch_with (drop 2 words) (number_in (word_at words 1)))
-    else (if sets_workers (word_at words 0) then watch_with (drop 1 words)
-    (workers_in (word_at words 0))
-    else watch_with words (Some 0))
-
--- --shown, --forbidden or --all
-abbrev pub drawn_of : List ℕ → Option Drawn
-drawn_of word =
-    if is_word word (codes "--shown") then Some drawns.Shown
-    else (if is_word word (codes "--forbidden") then Some drawns.Forbidden
-    else (if is_word word (codes "--all") then Some drawns.All else None))
-
--- a number of pictures is a decimal number from 1 to 64
-abbrev pub draw_with : List (List ℕ) → Option Drawn → Option ℕ → Option CommandAsked
-draw_with paths (Some drawn) (Some n) =
-    asked_if (are_paths paths && nat_le 1 n && nat_le n 64)
-    (Draw (word_at paths 0) (word_at paths 1) drawn n)
-draw_with paths (Some drawn) None = None
-draw_with paths None most = None
-
-abbrev pub is_most : List ℕ → Bool
-is_most word = is_word word (codes "--most")
-
--- a word --most=N
-abbrev pub sets_most : List ℕ → Bool
-sets_most word = begins word (codes "--most=")
-
-abbrev pub most_in : List ℕ → Option ℕ
-most_in word = number_behind word (codes "--most=")
-
--- --most=N, or one of the three
-abbrev pub draw_of_one : List (List ℕ) → List ℕ → Option CommandAsked
-draw_of_one paths option =
-    if sets_most option then draw_with paths (Some drawns.Shown) (most_in option)
-    else draw_with paths (drawn_of option) (Some 16)
-
--- --most N, or --most=N before one of the three or behind it
-abbrev pub draw_of_two : List (List ℕ) → List ℕ → List ℕ → Option CommandAsked
-draw_of_two paths first second =
-    if is_most first then draw_with paths (Some drawns.Shown) (number_in second)
-    else (if sets_most first then draw_with paths (drawn_of second) (most_in first)
-    else (if sets_most second then draw_with paths (drawn_of first) (most_in second) else None))
-
--- --most N, before one of the three or behind it
-abbrev pub draw_of_three : List (List ℕ) → List (List ℕ) → Option CommandAsked
-draw_of_three paths options =
-    if is_most (word_at options 0) then draw_with paths (drawn_of (word_at options 2))
-    (number_in (word_at options 1))
-    else (if is_most (word_at options 1) then draw_with paths (drawn_of (word_at options 0))
-    (number_in (word_at options 2))
-    else None)
-
--- nothing, one of the three, a number of pictures, or both
-abbrev pub draw_by : List (List ℕ) → List (List ℕ) → Option CommandAsked
-draw_by paths options =
-    if length options == 0 then draw_with paths (Some drawns.Shown) (Some 16)
-    else (if length options == 1 then draw_of_one paths (word_at options 0)
-    else (if length options == 2 then draw_of_two paths (word_at options 0) (word_at options 1)
-    else (if length options == 3 then draw_of_three paths options else None)))
-
--- MODEL TEST, with options before or behind them
-abbrev pub draw_of : List (List ℕ) → Option CommandAsked
-draw_of words =
-    if nat_lt (length words) 2 then None else draw_by (paths_of words) (options_of words)
-
-abbrev pub by_command : List ℕ → List (List ℕ) → Option CommandAsked
-by_command command words =
-    if is_word command (codes "eval") then eval_of words
-    else (if is_word command (codes "table") then table_of words (dashes words)
-    else (if is_word command (codes "diff") then diff_of words
-    else (if is_word command (codes "session") then session_of words
-    else (if is_word command (codes "why") then why_of words
-    else (if is_word command (codes "watch") then watch_of words
-    else (if is_word command (codes "draw") then draw_of words else None))))))
+abbrev pub by_command : Option Command → List (List ℕ) → Option CommandAsked
+by_command None words = None
+by_command (Some command) words = by_words command (words_given words)
 
 -- what these words ask for, if they have a form
 abbrev pub asked_by_words : List (List ℕ) → Option CommandAsked
 asked_by_words words =
-    if nat_lt (length words) 2 then Some Stream else by_command (word_at words 1) (drop 2 words)
+    if nat_lt (length words) 2 then Some Stream
+    else by_command (command_of (word_at words 1)) (drop 2 words)
+
+-- a form of words that have one
+abbrev pub IsFormOf : List (List ℕ) → Form → Type 0
+IsFormOf words f = asked_by_words words ≡ Some (asked_by_form f)
+
+-- words that have none, or want of memory
+abbrev pub IsNoForm : List (List ℕ) → UsageFault → Type 0
+IsNoForm words (usage_faults.Words text) = asked_by_words words ≡ None
+IsNoForm words (usage_faults.Memory e) = Unit {0}

@@ -1,2 +1,4 @@
+pub mod Options
+pub mod Words
 pub mod Forms
 pub mod Statuses

@@ -1,26 +1,31 @@
 //! What the words of a command line ask for.
 
-ghost use Rattle.std.specs.Prelude.{◌≡◌, ◌≤◌, ◌+◌, Some, None, IfOk, OnErr, length, option_map};
+ghost use Rattle.std.specs.Prelude.{◌≡◌, IfOk, IfErr, option_map, drop};
 ghost use Rattle.session_script.specs.Requests.{word_at};
-ghost use Rattle.command_line.specs.Forms.{borrowed_words, asked_by_form, is_path, are_paths, dashes, eval_of, table_of, diff_of, why_of, number_in, begins, number_behind, session_with, session_in, session_of_one, session_of_two, session_of_three, session_of, paths_of, options_of, has_option, count_of, why_with, watch_with, watch_of, drawn_of, draw_with, draw_of_one, draw_of_two, draw_of_three, draw_by, draw_of, borrowed_word, by_command, asked_by_words};
+ghost use Rattle.command_line.specs.declared.option.OptionName.TheVariants as names;
+ghost use Rattle.command_line.specs.Words.{words_of, borrowed_words, words_given};
+ghost use Rattle.command_line.specs.Forms.{borrowed_word, asked_by_form, IsFormOf, IsNoForm, command_of, format_by, format_in, number_within, drawn_by, drawn_in, one_picture, more_pictures, pictures_by, pictures_in, workers_in, eval_of, table_of, diff_of, script_in, session_of, why_of, watched_models, watched_tests, watch_of, draw_of, taken, by_words, asked_by_words};
 
-use clap::Error;
-use command_usage::usage;
-use session_script::number_of;
-use std::alloc::Global;
+use crate::option::{Command, GivenOption, OptionName, has_option, number_given, takes_all};
+use crate::words::{GivenWords, words_given};
+use command_usage::{UsageFault, usage};
+use std::alloc::{AllocError, Global};
 
 /// The most workers.
 const MOST_WORKERS: u64 = 32;
 
-/// What stands before a number of workers, or of pictures, in a word with it.
-const WORKERS_FRONT: &str = "--workers=";
+/// The most graphs of one text, and how many there are at most where no number is asked for.
+const MOST_GRAPHS: u64 = 64;
 
-const MOST_FRONT: &str = "--most=";
+const USUAL_GRAPHS: u64 = 16;
 
-/// The most pictures, and how many there are at most where no number is asked for.
-const MOST_PICTURES: u64 = 64;
+/// The most executions of a test.
+const MOST_EXECUTIONS: u64 = 16_384;
 
-const USUAL_PICTURES: u64 = 16;
+/// The longest time between two looks at the files, in milliseconds, and the usual one.
+const LONGEST_POLL: u64 = 60_000;
+
+const USUAL_POLL: u64 = 500;
 
 /// Which executions are drawn.
 #[derive(Clone, Copy, Debug, PartialEq, Eq)]
@@ -33,8 +38,32 @@ pub enum Drawn {
     All,
 }
 
-/// What the program is asked to do.
+/// As what executions are drawn.
 #[derive(Clone, Copy, Debug, PartialEq, Eq)]
+pub enum Pictures {
+    /// As graphs in one text for `dot`, so many at most: 1 to 64.
+    Graphs { most: u64 },
+    /// As the graph of one execution, of this number among those that are drawn: 1 to 16,384.
+    Graph { nth: u64 },
+    /// As an SVG of one execution, of this number among those that are drawn: 1 to 16,384.
+    Svg { nth: u64 },
+    /// As SVGs one behind the other, so many at most: 1 to 64.
+    Svgs { most: u64 },
+}
+
+/// How results are written.
+#[derive(Clone, Copy, Debug, PartialEq, Eq)]
+pub enum ResultFormat {
+    /// As text for people.
+    Plain,
+    /// As lines whose fields are parted by tabs.
+    Tab,
+    /// As lines that are objects of JSON.
+    Json,
+}
+
+/// What the program is asked to do.
+#[derive(Debug, Drop)]
 pub enum Form<'a> {
     /// A model and a test stand on standard input, with a line `.` between them.
     Stream,
@@ -42,16 +71,20 @@ pub enum Form<'a> {
     Eval {
         model: &'a str,
         test: &'a str,
+        is_json: bool,
     },
     /// The tests of some files in a table, under the models of others.
     Table {
-        models: &'a [&'a str],
-        tests: &'a [&'a str],
+        models: Vec<&'a str>,
+        tests: Vec<&'a str>,
+        format: ResultFormat,
     },
     /// Where the models of two files tell the tests of others apart.
     Diff {
-        models: &'a [&'a str],
-        tests: &'a [&'a str],
+        first: &'a str,
+        second: &'a str,
+        tests: Vec<&'a str>,
+        format: ResultFormat,
     },
     /// A script stands in a file, or on standard input: its commands are answered one after
     /// another, with so many workers.
@@ -67,51 +100,21 @@ pub enum Form<'a> {
         is_forbidden: bool,
         is_deep: bool,
     },
-    /// The tests of some files under the model of another, again whenever a file changes, with so
-    /// many workers.
+    /// The tests of some files under the models of others, again whenever a file changes, with so
+    /// many workers. The files are looked at so often, in milliseconds, and not at all by 0.
     Watch {
-        model: &'a str,
-        tests: &'a [&'a str],
+        models: Vec<&'a str>,
+        tests: Vec<&'a str>,
         workers: u64,
+        poll: u64,
     },
-    /// Pictures of executions of the test of a file under the model of another, so many at most.
+    /// Pictures of executions of the test of a file under the model of another.
     Draw {
         model: &'a str,
         test: &'a str,
         drawn: Drawn,
-        most: u64,
+        pictures: Pictures,
     },
-}
-
-fn is_path(word: &str) -> bool
-    ensures { result ≡ is_path word.now }
-{
-    let bytes = word.as_bytes();
-    !(bytes.len() > 1 && bytes[0] == b'-')
-}
-
-fn are_paths(words: &[&str]) -> bool
-    ensures { result ≡ are_paths (borrowed_words words.now) }
-{
-    for i in 0..words.len() {
-        if !is_path(word_at(words, i)) {
-            return false;
-        }
-    }
-    true
-}
-
-// Where the first `--` is, or the number of words.
-fn dashes(words: &[&str]) -> usize
-    ensures value { result ≡ dashes (borrowed_words words.now) }
-    ensures within { result ≤ length words.now }
-{
-    for i in 0..words.len() {
-        if word_at(words, i) == "--" {
-            return i;
-        }
-    }
-    words.len()
 }
 
 // The word of this index, or the empty word.
@@ -124,402 +127,355 @@ fn word_at<'w, 'a>(words: &'w [&'a str], index: usize) -> &'a str
     }
 }
 
-fn eval_form<'a>(words: &'a [&'a str]) -> Option<Form<'a>>
-    ensures { option_map asked_by_form result ≡ eval_of (borrowed_words words.now) }
+// The words from this index on. Errors: want of memory.
+fn words_from<'a>(
+    alloc: Global,
+    words: &[&'a str],
+    index: usize,
+) -> Result<Vec<&'a str>, AllocError>
+    ensures { IfOk result (λ v. borrowed_words v.items ≡ drop index (borrowed_words words.now)) }
 {
-    if words.len() == 2 && are_paths(words) {
-        return Some(Form::Eval {
-            model: word_at(words, 0),
-            test: word_at(words, 1),
-        });
+    let mut found = Vec::new(alloc);
+    for i in index..words.len() {
+        found.push(word_at(words, i))?;
     }
-    None
+    Ok(found)
 }
 
-fn table_form<'a>(words: &'a [&'a str]) -> Option<Form<'a>>
-    ensures { option_map asked_by_form result
-        ≡ table_of (borrowed_words words.now) (dashes (borrowed_words words.now)) }
+// A number from one to another, or the usual one where none is given.
+fn number_within(
+    options: &[GivenOption],
+    name: OptionName,
+    usual: u64,
+    least: u64,
+    most: u64,
+) -> Option<u64>
+    ensures { result ≡ number_within name usual least most options.now }
 {
-    let split = dashes(words);
-    if split == 0 || words.len() - split < 2 {
-        return None;
-    }
-    let models = &words[..split];
-    if are_paths(models) {
-        return Some(Form::Table {
-            models,
-            tests: &words[split + 1..],
-        });
-    }
-    None
-}
-
-fn diff_form<'a>(words: &'a [&'a str]) -> Option<Form<'a>>
-    ensures { option_map asked_by_form result ≡ diff_of (borrowed_words words.now) }
-{
-    if words.len() > 2 && are_paths(words) {
-        return Some(Form::Diff {
-            models: &words[..2],
-            tests: &words[2..],
-        });
-    }
-    None
-}
-
-// The number that the digits of a word make. The empty word makes none.
-fn number_in(word: &[u8]) -> Option<u64>
-    ensures { result ≡ number_in word.now }
-{
-    if word.len() == 0 {
-        return None;
-    }
-    number_of(word)
-}
-
-fn begins(word: &str, front: &str) -> bool
-    ensures { result ≡ begins word.now front.now }
-{
-    word.as_bytes().strip_prefix(front.as_bytes()).is_some()
-}
-
-// The number that stands behind this front of a word.
-fn number_behind(word: &str, front: &str) -> Option<u64>
-    ensures { result ≡ number_behind word.now front.now }
-{
-    match word.as_bytes().strip_prefix(front.as_bytes()) {
-        Some(digits) => number_in(digits),
-        None => None,
+    match number_given(options, name) {
+        Some(number) if number < least || most < number => None,
+        Some(number) => Some(number),
+        None => Some(usual),
     }
 }
 
-fn session_with<'a>(script: Option<&'a str>, workers: Option<u64>) -> Option<Form<'a>>
-    ensures { option_map asked_by_form result ≡ session_with (borrowed_word script.entry) workers }
+fn format_by(is_tab: bool, is_json: bool) -> Option<ResultFormat>
+    ensures { result ≡ format_by is_tab is_json }
 {
-    match workers {
-        Some(workers) if workers <= MOST_WORKERS => Some(Form::Session { script, workers }),
+    match (is_tab, is_json) {
+        (false, false) => Some(ResultFormat::Plain),
+        (true, false) => Some(ResultFormat::Tab),
+        (false, true) => Some(ResultFormat::Json),
+        (true, true) => None,
+    }
+}
+
+fn format_in(options: &[GivenOption]) -> Option<ResultFormat>
+    ensures { result ≡ format_in options.now }
+{
+    format_by(
+        has_option(options, OptionName::Tab),
+        has_option(options, OptionName::Json),
+    )
+}
+
+fn drawn_by(is_shown: bool, is_forbidden: bool, is_all: bool) -> Option<Drawn>
+    ensures { result ≡ drawn_by is_shown is_forbidden is_all }
+{
+    match (is_shown, is_forbidden, is_all) {
+        (_, false, false) => Some(Drawn::Shown),
+        (false, true, false) => Some(Drawn::Forbidden),
+        (false, false, true) => Some(Drawn::All),
         _ => None,
     }
 }
 
-fn session_in<'a>(script: &'a str, workers: Option<u64>) -> Option<Form<'a>>
-    ensures { option_map asked_by_form result ≡ session_in script.now workers }
+fn drawn_in(options: &[GivenOption]) -> Option<Drawn>
+    ensures { result ≡ drawn_in options.now }
 {
-    if is_path(script) {
-        return session_with(Some(script), workers);
-    }
-    None
+    drawn_by(
+        has_option(options, OptionName::Shown),
+        has_option(options, OptionName::Forbidden),
+        has_option(options, OptionName::All),
+    )
 }
 
-fn session_of_one<'a>(word: &'a str) -> Option<Form<'a>>
-    ensures { option_map asked_by_form result ≡ session_of_one word.now }
+fn one_picture(is_svg: bool, nth: Option<u64>) -> Option<Pictures>
+    ensures { result ≡ one_picture is_svg nth }
 {
-    if begins(word, WORKERS_FRONT) {
-        session_with(None, number_behind(word, WORKERS_FRONT))
-    } else {
-        session_in(word, Some(0))
+    match nth {
+        Some(nth) if is_svg => Some(Pictures::Svg { nth }),
+        Some(nth) => Some(Pictures::Graph { nth }),
+        None => None,
     }
 }
 
-fn session_of_two<'a>(first: &'a str, second: &'a str) -> Option<Form<'a>>
-    ensures { option_map asked_by_form result ≡ session_of_two first.now second.now }
+fn more_pictures(is_svg: bool, most: Option<u64>) -> Option<Pictures>
+    ensures { result ≡ more_pictures is_svg most }
 {
-    if first == "--workers" {
-        session_with(None, number_in(second.as_bytes()))
-    } else if begins(first, WORKERS_FRONT) {
-        session_in(second, number_behind(first, WORKERS_FRONT))
-    } else if begins(second, WORKERS_FRONT) {
-        session_in(first, number_behind(second, WORKERS_FRONT))
-    } else {
+    match most {
+        Some(most) if is_svg => Some(Pictures::Svgs { most }),
+        Some(most) => Some(Pictures::Graphs { most }),
+        None => None,
+    }
+}
+
+fn pictures_by(is_svg: bool, has_most: bool, options: &[GivenOption]) -> Option<Pictures>
+    ensures { result ≡ pictures_by is_svg has_most options.now }
+{
+    let has_nth = has_option(options, OptionName::Nth);
+    if has_most && has_nth {
         None
-    }
-}
-
-fn session_of_three<'a>(words: &'a [&'a str]) -> Option<Form<'a>>
-    ensures { option_map asked_by_form result ≡ session_of_three (borrowed_words words.now) }
-{
-    let first = word_at(words, 0);
-    let second = word_at(words, 1);
-    let third = word_at(words, 2);
-    if first == "--workers" {
-        session_in(third, number_in(second.as_bytes()))
-    } else if second == "--workers" {
-        session_in(first, number_in(third.as_bytes()))
+    } else if has_nth || is_svg && !has_most {
+        let nth = number_within(options, OptionName::Nth, 1, 1, MOST_EXECUTIONS);
+        one_picture(is_svg, nth)
     } else {
-        None
+        let most = number_within(options, OptionName::Most, USUAL_GRAPHS, 1, MOST_GRAPHS);
+        more_pictures(is_svg, most)
     }
 }
 
-fn session_form<'a>(words: &'a [&'a str]) -> Option<Form<'a>>
-    ensures { option_map asked_by_form result ≡ session_of (borrowed_words words.now) }
+// One picture by `--nth`, and by `--svg` without `--most`; else as many as `--most` says.
+fn pictures_in(options: &[GivenOption]) -> Option<Pictures>
+    ensures { result ≡ pictures_in options.now }
 {
-    if words.len() == 0 {
-        let script = None;
-        return Some(Form::Session { script, workers: 0 });
-    }
-    let first = word_at(words, 0);
-    if words.len() == 1 {
-        return session_of_one(first);
-    }
-    if words.len() == 2 {
-        return session_of_two(first, word_at(words, 1));
-    }
-    if words.len() == 3 {
-        return session_of_three(words);
-    }
-    None
+    let is_svg = has_option(options, OptionName::Svg);
+    pictures_by(is_svg, has_option(options, OptionName::Most), options)
 }
 
-// The first two words, or the last two where the first word is an option.
-fn paths_of<'w, 'a>(words: &'w [&'a str]) -> &'w [&'a str]
-    requires { 2 ≤ length words.now }
-    ensures { borrowed_words result.now ≡ paths_of (borrowed_words words.now) }
+fn eval_form<'a>(words: &GivenWords<'a>) -> Option<Form<'a>>
+    ensures { option_map asked_by_form result ≡ eval_of (words_of words.now) }
 {
-    if is_path(word_at(words, 0)) {
-        &words[..2]
-    } else {
-        &words[words.len() - 2..]
-    }
-}
-
-// The words behind these, or before them.
-fn options_of<'w, 'a>(words: &'w [&'a str]) -> &'w [&'a str]
-    requires { 2 ≤ length words.now }
-    ensures { borrowed_words result.now ≡ options_of (borrowed_words words.now) }
-{
-    if is_path(word_at(words, 0)) {
-        &words[2..]
-    } else {
-        &words[..words.len() - 2]
-    }
-}
-
-// Whether one of two options is this one.
-fn has_option(options: &[&str], option: &str) -> bool
-    ensures { result ≡ has_option (borrowed_words options.now) option.now }
-{
-    word_at(options, 0) == option || word_at(options, 1) == option
-}
-
-fn count_of(first: bool, second: bool) -> usize
-    ensures { result ≡ count_of first second }
-{
-    match (first, second) {
-        (true, true) => 2,
-        (false, false) => 0,
-        _ => 1,
-    }
-}
-
-fn why_with<'a>(
-    paths: &[&'a str],
-    count: usize,
-    is_forbidden: bool,
-    is_deep: bool,
-) -> Option<Form<'a>>
-    ensures { option_map asked_by_form result
-        ≡ why_with (borrowed_words paths.now) count is_forbidden is_deep }
-{
-    if are_paths(paths) && count == count_of(is_forbidden, is_deep) {
-        let model = word_at(paths, 0);
-        let test = word_at(paths, 1);
-        return Some(Form::Why {
-            model,
-            test,
-            is_forbidden,
-            is_deep,
-        });
-    }
-    None
-}
-
-fn why_form<'a>(words: &'a [&'a str]) -> Option<Form<'a>>
-    ensures { option_map asked_by_form result ≡ why_of (borrowed_words words.now) }
-{
-    if words.len() < 2 {
+    if words.paths.len() != 2 {
         return None;
     }
-    let options = options_of(words);
-    let is_forbidden = has_option(options, "--forbidden");
-    let is_deep = has_option(options, "--deep");
-    why_with(paths_of(words), options.len(), is_forbidden, is_deep)
+    Some(Form::Eval {
+        model: word_at(&words.paths, 0),
+        test: word_at(&words.paths, 1),
+        is_json: has_option(&words.options, OptionName::Json),
+    })
 }
 
-fn watch_with<'a>(words: &'a [&'a str], workers: Option<u64>) -> Option<Form<'a>>
-    ensures { option_map asked_by_form result ≡ watch_with (borrowed_words words.now) workers }
+fn table_form<'a>(words: GivenWords<'a>) -> Option<Form<'a>>
+    ensures { option_map asked_by_form result ≡ table_of (words_of words.entry) }
 {
-    match workers {
-        Some(workers) if words.len() > 1 && are_paths(words) && MOST_WORKERS >= workers => {
-            let model = word_at(words, 0);
-            let tests = &words[1..];
-            Some(Form::Watch {
-                model,
-                tests,
-                workers,
+    match format_in(&words.options) {
+        Some(format) if !words.paths.is_empty() && !words.last_paths.is_empty() => {
+            Some(Form::Table {
+                models: words.paths,
+                tests: words.last_paths,
+                format,
             })
         }
         _ => None,
     }
 }
 
-fn watch_form<'a>(words: &'a [&'a str]) -> Option<Form<'a>>
-    ensures { option_map asked_by_form result ≡ watch_of (borrowed_words words.now) }
+fn diff_form<'a>(alloc: Global, words: &GivenWords<'a>) -> Result<Option<Form<'a>>, AllocError>
+    ensures { IfOk result (λ f. option_map asked_by_form f ≡ diff_of (words_of words.now)) }
 {
-    let first = word_at(words, 0);
-    if first == "--workers" {
-        if words.len() < 2 {
-            return None;
-        }
-        return watch_with(&words[2..], number_in(word_at(words, 1).as_bytes()));
+    match format_in(&words.options) {
+        Some(format) if words.paths.len() > 2 => Ok(Some(Form::Diff {
+            first: word_at(&words.paths, 0),
+            second: word_at(&words.paths, 1),
+            tests: words_from(alloc, &words.paths, 2)?,
+            format,
+        })),
+        _ => Ok(None),
     }
-    if begins(first, WORKERS_FRONT) {
-        return watch_with(&words[1..], number_behind(first, WORKERS_FRONT));
-    }
-    watch_with(words, Some(0))
 }
 
-fn drawn_of(word: &str) -> Option<Drawn>
-    ensures { result ≡ drawn_of word.now }
+fn workers_in(options: &[GivenOption]) -> Option<u64>
+    ensures { result ≡ workers_in options.now }
 {
-    if word == "--shown" {
-        Some(Drawn::Shown)
-    } else if word == "--forbidden" {
-        Some(Drawn::Forbidden)
-    } else if word == "--all" {
-        Some(Drawn::All)
-    } else {
+    number_within(options, OptionName::Workers, 0, 0, MOST_WORKERS)
+}
+
+fn script_in<'a>(paths: &[&'a str]) -> Option<&'a str>
+    ensures { borrowed_word result ≡ script_in (borrowed_words paths.now) }
+{
+    if paths.len() == 0 {
         None
+    } else {
+        Some(word_at(paths, 0))
     }
 }
 
-fn draw_with<'a>(paths: &[&'a str], drawn: Option<Drawn>, most: Option<u64>) -> Option<Form<'a>>
-    ensures { option_map asked_by_form result ≡ draw_with (borrowed_words paths.now) drawn most }
+fn session_form<'a>(words: &GivenWords<'a>) -> Option<Form<'a>>
+    ensures { option_map asked_by_form result ≡ session_of (words_of words.now) }
 {
-    match (drawn, most) {
-        (Some(drawn), Some(most)) => {
-            if are_paths(paths) && 1 <= most && most <= MOST_PICTURES {
-                let model = word_at(paths, 0);
-                let test = word_at(paths, 1);
-                return Some(Form::Draw {
-                    model,
-                    test,
-                    drawn,
-                    most,
-                });
-            }
-            None
-        }
+    match workers_in(&words.options) {
+        Some(workers) if words.paths.len() < 2 => Some(Form::Session {
+            script: script_in(&words.paths),
+            workers,
+        }),
         _ => None,
     }
 }
 
-fn draw_of_one<'a>(paths: &[&'a str], option: &str) -> Option<Form<'a>>
-    ensures { option_map asked_by_form result ≡ draw_of_one (borrowed_words paths.now) option.now }
+fn why_form<'a>(words: &GivenWords<'a>) -> Option<Form<'a>>
+    ensures { option_map asked_by_form result ≡ why_of (words_of words.now) }
 {
-    if begins(option, MOST_FRONT) {
-        draw_with(paths, Some(Drawn::Shown), number_behind(option, MOST_FRONT))
-    } else {
-        draw_with(paths, drawn_of(option), Some(USUAL_PICTURES))
-    }
-}
-
-fn draw_of_two<'a>(paths: &[&'a str], first: &str, second: &str) -> Option<Form<'a>>
-    ensures { option_map asked_by_form result
-        ≡ draw_of_two (borrowed_words paths.now) first.now second.now }
-{
-    if first == "--most" {
-        draw_with(paths, Some(Drawn::Shown), number_in(second.as_bytes()))
-    } else if begins(first, MOST_FRONT) {
-        draw_with(paths, drawn_of(second), number_behind(first, MOST_FRONT))
-    } else if begins(second, MOST_FRONT) {
-        draw_with(paths, drawn_of(first), number_behind(second, MOST_FRONT))
-    } else {
-        None
-    }
-}
-
-fn draw_of_three<'a>(paths: &[&'a str], options: &[&str]) -> Option<Form<'a>>
-    ensures { option_map asked_by_form result
-        ≡ draw_of_three (borrowed_words paths.now) (borrowed_words options.now) }
-{
-    let first = word_at(options, 0);
-    let second = word_at(options, 1);
-    let third = word_at(options, 2);
-    if first == "--most" {
-        draw_with(paths, drawn_of(third), number_in(second.as_bytes()))
-    } else if second == "--most" {
-        draw_with(paths, drawn_of(first), number_in(third.as_bytes()))
-    } else {
-        None
-    }
-}
-
-fn draw_by<'a>(paths: &[&'a str], options: &[&str]) -> Option<Form<'a>>
-    ensures { option_map asked_by_form result
-        ≡ draw_by (borrowed_words paths.now) (borrowed_words options.now) }
-{
-    if options.len() == 0 {
-        draw_with(paths, Some(Drawn::Shown), Some(USUAL_PICTURES))
-    } else if options.len() == 1 {
-        draw_of_one(paths, word_at(options, 0))
-    } else if options.len() == 2 {
-        draw_of_two(paths, word_at(options, 0), word_at(options, 1))
-    } else if options.len() == 3 {
-        draw_of_three(paths, options)
-    } else {
-        None
-    }
-}
-
-fn draw_form<'a>(words: &'a [&'a str]) -> Option<Form<'a>>
-    ensures { option_map asked_by_form result ≡ draw_of (borrowed_words words.now) }
-{
-    if words.len() < 2 {
+    if words.paths.len() != 2 {
         return None;
     }
-    draw_by(paths_of(words), options_of(words))
+    Some(Form::Why {
+        model: word_at(&words.paths, 0),
+        test: word_at(&words.paths, 1),
+        is_forbidden: has_option(&words.options, OptionName::Forbidden),
+        is_deep: has_option(&words.options, OptionName::Deep),
+    })
 }
 
-fn command_form<'a>(command: &str, words: &'a [&'a str]) -> Option<Form<'a>>
-    ensures { option_map asked_by_form result ≡ by_command command.now (borrowed_words words.now) }
+// The models and the tests of files that are watched.
+#[derive(Drop)]
+struct WatchedPaths<'a> {
+    models: Vec<&'a str>,
+    tests: Vec<&'a str>,
+}
+
+// All before `--` are models, and the first where there is no `--`.
+fn watched_paths<'a>(alloc: Global, words: GivenWords<'a>) -> Result<WatchedPaths<'a>, AllocError>
+    ensures models { IfOk result (λ w.
+        borrowed_words w.models.items ≡ watched_models (words_of words.entry)) }
+    ensures tests { IfOk result (λ w.
+        borrowed_words w.tests.items ≡ watched_tests (words_of words.entry)) }
 {
-    if command == "eval" {
-        eval_form(words)
-    } else if command == "table" {
-        table_form(words)
-    } else if command == "diff" {
-        diff_form(words)
-    } else if command == "session" {
-        session_form(words)
-    } else if command == "why" {
-        why_form(words)
-    } else if command == "watch" {
-        watch_form(words)
-    } else if command == "draw" {
-        draw_form(words)
+    if has_option(&words.options, OptionName::Dashes) {
+        return Ok(WatchedPaths {
+            models: words.paths,
+            tests: words.last_paths,
+        });
+    }
+    let tests = words_from(alloc, &words.paths, 1)?;
+    let mut models = words.paths;
+    models.truncate(1);
+    Ok(WatchedPaths { models, tests })
+}
+
+fn watch_form<'a>(alloc: Global, words: GivenWords<'a>) -> Result<Option<Form<'a>>, AllocError>
+    ensures { IfOk result (λ f. option_map asked_by_form f ≡ watch_of (words_of words.entry)) }
+{
+    let workers = workers_in(&words.options);
+    let poll = number_within(
+        &words.options,
+        OptionName::Poll,
+        USUAL_POLL,
+        0,
+        LONGEST_POLL,
+    );
+    let watched = watched_paths(alloc, words)?;
+    if watched.models.is_empty() || watched.tests.is_empty() {
+        return Ok(None);
+    }
+    match (workers, poll) {
+        (Some(workers), Some(poll)) => Ok(Some(Form::Watch {
+            models: watched.models,
+            tests: watched.tests,
+            workers,
+            poll,
+        })),
+        _ => Ok(None),
+    }
+}
+
+fn draw_form<'a>(words: &GivenWords<'a>) -> Option<Form<'a>>
+    ensures { option_map asked_by_form result ≡ draw_of (words_of words.now) }
+{
+    if words.paths.len() != 2 {
+        return None;
+    }
+    match (drawn_in(&words.options), pictures_in(&words.options)) {
+        (Some(drawn), Some(pictures)) => Some(Form::Draw {
+            model: word_at(&words.paths, 0),
+            test: word_at(&words.paths, 1),
+            drawn,
+            pictures,
+        }),
+        _ => None,
+    }
+}
+
+fn command_of(word: &str) -> Option<Command>
+    ensures { result ≡ command_of word.now }
+{
+    if word == "eval" {
+        Some(Command::Eval)
+    } else if word == "table" {
+        Some(Command::Table)
+    } else if word == "diff" {
+        Some(Command::Diff)
+    } else if word == "session" {
+        Some(Command::Session)
+    } else if word == "why" {
+        Some(Command::Why)
+    } else if word == "watch" {
+        Some(Command::Watch)
+    } else if word == "draw" {
+        Some(Command::Draw)
     } else {
         None
     }
 }
 
-fn form_in<'a>(words: &'a [&'a str]) -> Option<Form<'a>>
-    ensures { option_map asked_by_form result ≡ asked_by_words (borrowed_words words.now) }
+// What a command asks for with these words, each of whose options it has.
+fn taken_form<'a>(
+    alloc: Global,
+    command: Command,
+    words: GivenWords<'a>,
+) -> Result<Option<Form<'a>>, AllocError>
+    ensures { IfOk result (λ f. option_map asked_by_form f ≡ taken command (words_of words.entry)) }
 {
-    if words.len() < 2 {
-        return Some(Form::Stream);
+    match command {
+        Command::Eval => Ok(eval_form(&words)),
+        Command::Table => Ok(table_form(words)),
+        Command::Diff => diff_form(alloc, &words),
+        Command::Session => Ok(session_form(&words)),
+        Command::Why => Ok(why_form(&words)),
+        Command::Watch => watch_form(alloc, words),
+        Command::Draw => Ok(draw_form(&words)),
     }
-    command_form(word_at(words, 1), &words[2..])
 }
 
-/// The form that these words have, the program's own name first. Errors: clap's usage, help or
-/// version, for words that have no form.
-pub fn form_of<'a>(alloc: Global, words: &'a [&'a str]) -> Result<Form<'a>, Error>
-    // A form is answered just where the words have one, and it is that one.
-    ensures form { IfOk result
-        (λ f. asked_by_words (borrowed_words words.now) ≡ Some (asked_by_form f)) }
-    ensures none { OnErr result (asked_by_words (borrowed_words words.now) ≡ None) }
+fn command_form<'a>(
+    alloc: Global,
+    command: Command,
+    words: &[&'a str],
+) -> Result<Option<Form<'a>>, AllocError>
+    ensures { IfOk result (λ f. option_map asked_by_form f
+        ≡ by_words command (words_given (borrowed_words words.now))) }
 {
-    match form_in(words) {
-        Some(form) => Ok(form),
-        None => Err(usage(alloc, words)),
+    let given = words_given(alloc, words)?;
+    if given.awaiting.is_some() || !takes_all(command, &given.options) {
+        return Ok(None);
+    }
+    taken_form(alloc, command, given)
+}
+
+fn form_in<'a>(alloc: Global, words: &[&'a str]) -> Result<Option<Form<'a>>, AllocError>
+    ensures { IfOk result (λ f. option_map asked_by_form f
+        ≡ asked_by_words (borrowed_words words.now)) }
+{
+    if words.len() < 2 {
+        return Ok(Some(Form::Stream));
+    }
+    match command_of(word_at(words, 1)) {
+        Some(command) => command_form(alloc, command, &words[2..]),
+        None => Ok(None),
+    }
+}
+
+/// The form that these words have, the program's own name first. Errors: usage, help or version for
+/// words that have no form, or want of memory.
+pub fn form_of<'a>(alloc: Global, words: &'a [&'a str]) -> Result<Form<'a>, UsageFault>
+    // A form is answered just where the words have one, and it is that one.
+    ensures form { IfOk result (IsFormOf (borrowed_words words.now)) }
+    // A refusal is of words that have none.
+    ensures none { IfErr result (IsNoForm (borrowed_words words.now)) }
+{
+    match form_in(alloc, words) {
+        Ok(Some(form)) => Ok(form),
+        Ok(None) => Err(usage(alloc, words)),
+        Err(e) => Err(UsageFault::Memory(e)),
     }
 }

@@ -6,6 +6,10 @@ use clap::error::ErrorKind;
 use clap::{Arg, ArgAction, Command, Error};
 use std::alloc::{AllocError, Global};
 
+mod fault;
+
+pub use fault::UsageFault;
+
 const ABOUT: &str =
     "Says which final states a memory model allows a litmus test to end in. With no \
     words, standard input holds the model, a line that is exactly `.`, and the test.";
@@ -13,7 +17,7 @@ const ABOUT: &str =
 const AFTER: &str =
     "What was asked for goes to standard output. Exit status: 0 done, 1 a text or a \
     command was refused, 2 usage or help, 3 a fault of reading, writing or memory. A path that begins with `-` \
-    is written `./-..`.\n\nExample: pipitsolder table sc.cat power.cat -- MP.litmus CoWR.litmus";
+    or `@` is written `./-..`; in a list of paths `@FILE` stands for those that the file holds, one a line.\n\nExample: pipitsolder table sc.cat power.cat -- MP.litmus CoWR.litmus";
 
 const VERSION: &str = "0.1.0";
 
@@ -24,6 +28,12 @@ const SESSION_AFTER: &str =
     po|rf|fr|co\\n.\\nitems sc\\n' | pipitsolder session\n\
     Example: pipitsolder session script.txt --workers 4";
 
+const DRAW_AFTER: &str = "Example: pipitsolder draw power.cat MP.litmus | dot -Tsvg -O\n\
+    Example: pipitsolder draw --svg --forbidden power.cat MP+lwsync+addr.litmus > forbidden.svg";
+
+const WATCH_AFTER: &str = "Example: pipitsolder watch power.cat MP.litmus\n\
+    Example: pipitsolder watch sc.cat power.cat -- MP.litmus CoWR.litmus";
+
 // What an argument is.
 #[derive(Clone, Copy)]
 enum Kind {
@@ -33,12 +43,16 @@ enum Kind {
     Files,
     // One file or more, behind `--`.
     LastFiles,
+    // The same, or none.
+    OptionalLastFiles,
     // A file that need not be named.
     OptionalFile,
     // A number, behind two dashes and this word.
     Number(&'static str),
-    // Two dashes and the argument's name, with none of these flags beside it.
+    // Two dashes and the argument's name, with none of these arguments beside it.
     Flag(&'static [&'static str]),
+    // A number, behind two dashes and this word, with none of these arguments beside it.
+    NumberAlone(&'static str, &'static [&'static str]),
 }
 
 // An argument of a form.
@@ -55,7 +69,7 @@ struct Form {
     name: &'static str,
     about: &'static str,
     arguments: &'static [Argument],
-    after: Option<&'static str>,
+    after: &'static str,
 }
 
 const MODEL: Argument = Argument {
@@ -72,8 +86,32 @@ const TEST: Argument = Argument {
 
 const TESTS: Argument = Argument {
     name: "TEST",
-    help: "Files of tests",
+    help: "Files of tests, or `@FILE`",
     kind: Kind::Files,
+};
+
+const MODELS: Argument = Argument {
+    name: "MODEL",
+    help: "Files of models, or `@FILE`",
+    kind: Kind::Files,
+};
+
+const LAST_TESTS: Argument = Argument {
+    name: "TEST",
+    help: "Files of tests, or `@FILE`, behind `--`",
+    kind: Kind::LastFiles,
+};
+
+const TAB: Argument = Argument {
+    name: "tab",
+    help: "Lines whose fields are parted by tabs, for programs",
+    kind: Kind::Flag(&["json"]),
+};
+
+const JSON: Argument = Argument {
+    name: "json",
+    help: "Lines that are objects of JSON, for programs",
+    kind: Kind::Flag(&[]),
 };
 
 const EVAL: Form = Form {
@@ -90,26 +128,16 @@ const EVAL: Form = Form {
             help: "A file that holds a litmus test for Power (PPC)",
             kind: Kind::File,
         },
+        JSON,
     ],
-    after: None,
+    after: "Example: pipitsolder eval power.cat MP.litmus",
 };
 
 const TABLE: Form = Form {
     name: "table",
     about: "A table of the tests of some files under the models of others",
-    arguments: &[
-        Argument {
-            name: "MODEL",
-            help: "Files of models",
-            kind: Kind::Files,
-        },
-        Argument {
-            name: "TEST",
-            help: "Files of tests, behind `--`",
-            kind: Kind::LastFiles,
-        },
-    ],
-    after: None,
+    arguments: &[MODELS, LAST_TESTS, TAB, JSON],
+    after: "Example: pipitsolder table --tab sc.cat power.cat -- MP.litmus @more",
 };
 
 const DIFF: Form = Form {
@@ -127,8 +155,10 @@ const DIFF: Form = Form {
             kind: Kind::File,
         },
         TESTS,
+        TAB,
+        JSON,
     ],
-    after: None,
+    after: "Example: pipitsolder diff sc.cat power.cat MP.litmus CoWR.litmus",
 };
 
 const SESSION: Form = Form {
@@ -146,7 +176,7 @@ const SESSION: Form = Form {
             kind: Kind::Number("workers"),
         },
     ],
-    after: Some(SESSION_AFTER),
+    after: SESSION_AFTER,
 };
 
 const WHY: Form = Form {
@@ -166,7 +196,7 @@ const WHY: Form = Form {
             kind: Kind::Flag(&[]),
         },
     ],
-    after: None,
+    after: "Example: pipitsolder why --deep power.cat MP+lwsync+addr.litmus",
 };
 
 const DRAW: Form = Form {
@@ -191,27 +221,52 @@ const DRAW: Form = Form {
             kind: Kind::Flag(&[]),
         },
         Argument {
+            name: "svg",
+            help: "As SVG: the first, that of `--nth`, or so many as `--most` says",
+            kind: Kind::Flag(&[]),
+        },
+        Argument {
+            name: "K",
+            help: "The drawing of this number alone, 1 to 16384",
+            kind: Kind::NumberAlone("nth", &["N"]),
+        },
+        Argument {
             name: "N",
             help: "At most so many drawings, 1 to 64: otherwise 16",
             kind: Kind::Number("most"),
         },
     ],
-    after: None,
+    after: DRAW_AFTER,
 };
 
 const WATCH: Form = Form {
     name: "watch",
-    about: "Some tests under a model, and what changes with each later version of a file that standard input names",
+    about: "Tests under models, and what changes with each later version of a file",
     arguments: &[
-        MODEL,
-        TESTS,
+        Argument {
+            name: "FILE",
+            help: "The file of a model, and files of tests, or `@FILE`; behind `--` tests alone, and \
+                models before it",
+            kind: Kind::Files,
+        },
+        Argument {
+            name: "TEST",
+            help: "Files of tests, or `@FILE`",
+            kind: Kind::OptionalLastFiles,
+        },
         Argument {
             name: "N",
-            help: "How many threads run the jobs, 0 to 32, before the files: 0 is the program itself",
+            help: "How many threads run the jobs, 0 to 32: 0 is the program itself",
             kind: Kind::Number("workers"),
         },
+        Argument {
+            name: "MS",
+            help: "The files are looked at so often, in milliseconds, 0 to 60000: otherwise 500; by \
+                0 only where standard input names one",
+            kind: Kind::Number("poll"),
+        },
     ],
-    after: None,
+    after: WATCH_AFTER,
 };
 
 // In the order of the usage.
@@ -220,7 +275,7 @@ const FORMS: [Form; 7] = [EVAL, TABLE, DIFF, SESSION, WHY, DRAW, WATCH];
 // How many values a positional argument takes.
 fn values_of(kind: Kind) -> ValueRange {
     match kind {
-        Kind::Files | Kind::LastFiles => ValueRange::new(1..),
+        Kind::Files | Kind::LastFiles | Kind::OptionalLastFiles => ValueRange::new(1..),
         _ => ValueRange::SINGLE,
     }
 }
@@ -230,9 +285,9 @@ fn file_argument<'a>(alloc: Global, argument: Argument) -> Arg<'a> {
     let kind = argument.kind;
     Arg::new(alloc, argument.name)
         .help(argument.help)
-        .required(!matches!(kind, Kind::OptionalFile))
+        .required(!matches!(kind, Kind::OptionalFile | Kind::OptionalLastFiles))
         .num_args(values_of(kind))
-        .last(matches!(kind, Kind::LastFiles))
+        .last(matches!(kind, Kind::LastFiles | Kind::OptionalLastFiles))
         .action(ArgAction::Set)
 }
 
@@ -250,6 +305,9 @@ fn argument_of<'a>(alloc: Global, argument: Argument) -> Result<Arg<'a>, AllocEr
         Kind::Flag(others) => {
             option(alloc, argument, argument.name, ArgAction::SetTrue).conflicts_with_all(others)
         }
+        Kind::NumberAlone(long, others) => {
+            option(alloc, argument, long, ArgAction::Set).conflicts_with_all(others)
+        }
         _ => Ok(file_argument(alloc, argument)),
     }
 }
@@ -264,11 +322,9 @@ fn arguments_of<'a>(alloc: Global, arguments: &[Argument]) -> Result<Vec<Arg<'a>
 
 // The command of this name, without arguments.
 fn bare_command<'a>(alloc: Global, form: Form) -> Command<'a> {
-    let command = Command::new(alloc, form.name).about(form.about);
-    match form.after {
-        Some(after) => command.after_help(after),
-        None => command,
-    }
+    Command::new(alloc, form.name)
+        .about(form.about)
+        .after_help(form.after)
 }
 
 fn command_of<'a>(alloc: Global, form: Form) -> Result<Command<'a>, AllocError> {
@@ -298,12 +354,12 @@ fn no_form(subcommand: Option<&str>) -> &'static str {
     match subcommand {
         Some("session") => "no form has these words; `--workers` takes a number from 0 to 32",
         Some("watch") => {
-            "no form has these words; `--workers` takes a number from 0 to 32, before MODEL"
+            "no form has these words; `--workers` takes a number from 0 to 32, and `--poll` one \
+            from 0 to 60000"
         }
-        Some("why") => "no form has these words; the options stand before MODEL or behind TEST",
         Some("draw") => {
-            "no form has these words; the options stand before MODEL or behind TEST, and \
-            `--most` takes a number from 1 to 64"
+            "no form has these words; `--most` takes a number from 1 to 64, and `--nth` one from 1 \
+            to 16384"
         }
         _ => "no form has these words",
     }
@@ -321,11 +377,37 @@ fn refusal<'a>(alloc: Global, words: &'a [&'a str]) -> Result<Error, AllocError>
     }
 }
 
+// How clap begins a line that tells to write a word behind `--`, where most forms take none.
+const ASTRAY: &str = "  tip: to pass '";
+
+// The lines of a text but for those that lead astray, and for an empty one behind another.
+fn without_tip(alloc: Global, text: &str) -> Result<String, AllocError> {
+    let mut kept = String::new(alloc);
+    let mut is_behind_empty = false;
+    for line in text.split_inclusive('\n') {
+        let is_empty = line == "\n";
+        if !line.starts_with(ASTRAY) && !(is_empty && is_behind_empty) {
+            kept.push_str(line)?;
+            is_behind_empty = is_empty;
+        }
+    }
+    Ok(kept)
+}
+
+fn usage_text<'a>(alloc: Global, words: &'a [&'a str]) -> Result<String, AllocError> {
+    let error = refusal(alloc, words)?;
+    if matches!(error.kind(), ErrorKind::OutOfMemory) {
+        return Err(AllocError);
+    }
+    let text = format!(in alloc; "{error}")?;
+    without_tip(alloc, text.as_str())
+}
+
 /// Clap's usage, help or version for the words of a command line that have no form, the program's
-/// own name first.
-pub fn usage<'a>(alloc: Global, words: &'a [&'a str]) -> Error {
-    match refusal(alloc, words) {
-        Ok(error) => error,
-        Err(error) => Error::from(error),
+/// own name first; or want of memory.
+pub fn usage<'a>(alloc: Global, words: &'a [&'a str]) -> UsageFault {
+    match usage_text(alloc, words) {
+        Ok(text) => UsageFault::Words(text),
+        Err(e) => UsageFault::Memory(e),
     }
 }

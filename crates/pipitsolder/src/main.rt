@@ -1,16 +1,15 @@
 //! The program: what its words ask for, over the bench's library.
 #![tactic(auto)]
 
-use bench_workers::NoGate;
-use clap::Error;
-use clap::error::ErrorKind;
 use litmusbench::{
-    Asked, Drawn, Form, NoProgress, OfRead, OfWrite, ProgressTeller, RefusalTeller, Report, RunEnd,
-    SessionFault, TextFile, difference_report, eval_stream, exit_status, form_of, model_fault,
-    read_text, refusal_lines, session, table_report, watch_files, write_answer, write_drawings,
-    write_report, write_why,
+    Asked, DrawRequest, Form, Format, Lines, ListEntry, NoGate, NoProgress, OfRead, OfWrite,
+    ProgressTeller, ReadFault, RefusalTeller, Report, ResultFormat, RunEnd, SessionFault, TextFile,
+    UsageFault, difference_report, draw_report, draw_request, eval_report, eval_stream_heard,
+    exit_status, form_of, line_report, list_entries, model_fault, model_refusal_lines, read_prefix,
+    read_text, refusal_lines, session_heard, table_report, test_refusal_lines, watch_files,
+    write_answer, write_drawings, write_report, write_why,
 };
-use std::alloc::AllocError;
+use std::alloc::{AllocError, Global};
 use std::fmt::Display;
 use std::fs::File;
 use std::io::{IsTerminal, Printer, Read, Write};
@@ -25,11 +24,11 @@ fn tell_fault<R: Eprint>(rt: &R, fault: SessionFault) -> RunEnd {
     RunEnd::Fault(fault)
 }
 
-fn tell_usage<R: Eprint>(rt: &R, error: &Error) -> RunEnd {
-    if matches!(error.kind(), ErrorKind::OutOfMemory) {
+fn tell_usage<R: Eprint>(rt: &R, fault: &UsageFault) -> RunEnd {
+    if matches!(fault, UsageFault::Memory(_)) {
         return tell_fault(rt, SessionFault::Memory);
     }
-    let _ = rt.eprint(error);
+    let _ = rt.eprint(fault);
     RunEnd::Usage
 }
 
@@ -103,7 +102,7 @@ fn stream<R: AllocGlobal + Input + Print, E: Print>(
     let mut source = OfRead::new(rt.reader());
     let mut sink = OfWrite::new(io::writer(rt));
     let mut teller = RefusalTeller::new(rt.alloc(), io::writer(errors), NoProgress);
-    eval_stream(rt, &mut source, &mut sink, &mut teller)
+    eval_stream_heard(rt, &mut source, &mut sink, &mut teller)
 }
 
 // Answers the script of a source.
@@ -120,18 +119,18 @@ where
     let mut sink = OfWrite::new(io::writer(rt));
     let progress = progress_to(rt, errors);
     let mut teller = RefusalTeller::new(rt.alloc(), io::writer(errors), progress);
-    session(rt, &mut source, &mut sink, &mut teller, workers, NoGate)
+    session_heard(rt, &mut source, &mut sink, workers, &NoGate, &mut teller)
 }
 
 fn tell_file<R: Eprint, T: Display>(rt: &R, path: &str, reason: &T) {
     let _ = rt.eprintln(format_args!("{path}: {reason}"));
 }
 
-fn open_file<R: Eprint + Files>(rt: &R, path: &str) -> Result<R::File, SessionFault> {
+fn open_file<R: Eprint + Files>(rt: &R, path: &str, label: &str) -> Result<R::File, SessionFault> {
     match File::open(rt, path) {
         Ok(file) => Ok(file),
         Err(error) => {
-            tell_file(rt, path, &error);
+            tell_file(rt, label, &error);
             Err(SessionFault::Read)
         }
     }
@@ -173,7 +172,7 @@ where
 {
     match script {
         Some(path) => {
-            let file = open_file(rt, path)?;
+            let file = open_file(rt, path, path)?;
             told(rt, path, session_over(rt, errors, file, workers))
         }
         None => session_over(rt, errors, rt.reader(), workers),
@@ -183,16 +182,17 @@ where
 fn text_of_file<R: AllocGlobal + Eprint + Files>(
     rt: &R,
     path: &str,
+    label: &str,
 ) -> Result<Vec<u8>, SessionFault> {
-    let mut source = OfRead::new(open_file(rt, path)?);
-    told(rt, path, read_text(rt.alloc(), &mut source))
+    let mut source = OfRead::new(open_file(rt, path, label)?);
+    told(rt, label, read_text(rt.alloc(), &mut source))
 }
 
 fn read_file<'a, R: AllocGlobal + Eprint + Files>(
     rt: &R,
     path: &'a str,
 ) -> Result<TextFile<'a>, SessionFault> {
-    let text = text_of_file(rt, path)?;
+    let text = text_of_file(rt, path, path)?;
     Ok(TextFile { path, text })
 }
 
@@ -201,7 +201,7 @@ fn read_file<'a, R: AllocGlobal + Eprint + Files>(
 enum PairQuestion {
     Log,
     Reasons(Asked),
-    Pictures { drawn: Drawn, most: u64 },
+    Pictures(DrawRequest),
 }
 
 fn write_pair<R: AllocGlobal + Print>(
@@ -214,8 +214,30 @@ fn write_pair<R: AllocGlobal + Print>(
     match question {
         PairQuestion::Log => write_answer(rt.alloc(), model, test, &mut sink),
         PairQuestion::Reasons(asked) => write_why(rt.alloc(), asked, model, test, &mut sink),
-        PairQuestion::Pictures { drawn, most } => {
-            write_drawings(rt.alloc(), model, test, drawn, most, &mut sink)
+        PairQuestion::Pictures(request) => {
+            write_drawings(rt.alloc(), model, test, request, &mut sink)
+        }
+    }
+}
+
+// Tells how to split a text of more than one graph.
+fn tell_many<R: AllocGlobal + Eprint>(rt: &R, question: PairQuestion, model: &[u8], test: &[u8]) {
+    let PairQuestion::Pictures(request) = question else {
+        return;
+    };
+    if request.format != Format::Dot || request.most < 2 || request.skipped > 0 {
+        return;
+    }
+    let second = DrawRequest {
+        skipped: 1,
+        most: 2,
+        ..request
+    };
+    if let Ok(text) = draw_report(rt.alloc(), model, test, second) {
+        if text.starts_with(b"digraph") {
+            let _ = rt.eprintln(
+                "note: more than one graph in one text; --nth K writes one, --svg a picture",
+            );
         }
     }
 }
@@ -231,17 +253,162 @@ fn answer_pair<R: AllocGlobal + Eprint + Files + Print, E: Print>(
     let test = read_file(rt, test)?;
     let is_refused = write_pair(rt, question, &model.text, &test.text)?;
     tell_answer(rt, errors, is_refused, &model, &test);
+    tell_many(rt, question, &model.text, &test.text);
     Ok(is_refused)
+}
+
+// A file that is asked for: its path, and what is told of it before a reason: the path, behind the
+// list and the line that name it where one does.
+#[derive(Drop)]
+struct WantedFile {
+    path: String,
+    label: String,
+    is_listed: bool,
+}
+
+fn file_of_word<R: AllocGlobal>(rt: &R, word: &str) -> Result<WantedFile, AllocError> {
+    Ok(WantedFile {
+        path: String::from_str(rt.alloc(), word)?,
+        label: String::from_str(rt.alloc(), word)?,
+        is_listed: false,
+    })
+}
+
+fn file_of_entry<R: AllocGlobal>(
+    rt: &R,
+    list: &str,
+    entry: ListEntry,
+) -> Result<WantedFile, AllocError> {
+    let label = format!(in rt.alloc(); "{list}:{}: {}", entry.line, entry.path)?;
+    Ok(WantedFile {
+        path: entry.path,
+        label,
+        is_listed: true,
+    })
+}
+
+fn add_file(
+    files: &mut Vec<WantedFile>,
+    file: Result<WantedFile, AllocError>,
+) -> Result<(), SessionFault> {
+    match file {
+        Ok(file) => match files.push(file) {
+            Ok(()) => Ok(()),
+            Err(_) => Err(SessionFault::Memory),
+        },
+        Err(_) => Err(SessionFault::Memory),
+    }
+}
+
+// The most bytes of a list.
+const MOST_OF_LIST: usize = 67_108_864;
+
+fn list_bytes<R: AllocGlobal + Eprint + Files>(
+    rt: &R,
+    list: &str,
+) -> Result<Vec<u8>, SessionFault> {
+    let mut source = OfRead::new(open_file(rt, list, list)?);
+    match read_prefix(rt.alloc(), &mut source, MOST_OF_LIST) {
+        Ok(bytes) if bytes.len() < MOST_OF_LIST => Ok(bytes),
+        Err(ReadFault::Memory) => Err(SessionFault::Memory),
+        _ => {
+            tell_file(
+                rt,
+                list,
+                &"the list cannot be read to its end, or is too long",
+            );
+            Err(SessionFault::Read)
+        }
+    }
+}
+
+fn entries_of<R: AllocGlobal + Eprint + Files>(
+    rt: &R,
+    list: &str,
+) -> Result<Vec<ListEntry>, SessionFault> {
+    let bytes = list_bytes(rt, list)?;
+    match str::from_utf8(&bytes) {
+        Ok(text) => match list_entries(rt.alloc(), list, text) {
+            Ok(entries) => Ok(entries),
+            Err(_) => Err(SessionFault::Memory),
+        },
+        Err(_) => {
+            tell_file(rt, list, &"the list is not UTF-8");
+            Err(SessionFault::Read)
+        }
+    }
+}
+
+// Adds the files of a list that another list names.
+fn add_inner_list<R: AllocGlobal + Eprint + Files>(
+    rt: &R,
+    list: &str,
+    files: &mut Vec<WantedFile>,
+) -> Result<(), SessionFault> {
+    for entry in entries_of(rt, list)? {
+        if entry.is_list {
+            let told = format_args!(
+                "{list}:{}: a list that a list names may name no list",
+                entry.line
+            );
+            let _ = rt.eprintln(told);
+            return Err(SessionFault::Read);
+        }
+        add_file(files, file_of_entry(rt, list, entry))?;
+    }
+    Ok(())
+}
+
+fn add_list<R: AllocGlobal + Eprint + Files>(
+    rt: &R,
+    list: &str,
+    files: &mut Vec<WantedFile>,
+) -> Result<(), SessionFault> {
+    for entry in entries_of(rt, list)? {
+        if entry.is_list {
+            add_inner_list(rt, entry.path.as_str(), files)?;
+        } else {
+            add_file(files, file_of_entry(rt, list, entry))?;
+        }
+    }
+    Ok(())
+}
+
+// The files of these words: a word behind `@` is a list of them.
+fn wanted_files<R: AllocGlobal + Eprint + Files>(
+    rt: &R,
+    words: &[&str],
+) -> Result<Vec<WantedFile>, SessionFault> {
+    let mut files = Vec::new(rt.alloc());
+    for word in words {
+        match word.strip_prefix('@') {
+            Some(list) => add_list(rt, list, &mut files)?,
+            None => add_file(&mut files, file_of_word(rt, *word))?,
+        }
+    }
+    Ok(files)
+}
+
+fn two_files<R: AllocGlobal>(
+    rt: &R,
+    first: &str,
+    second: &str,
+) -> Result<Vec<WantedFile>, SessionFault> {
+    let mut files = Vec::new(rt.alloc());
+    add_file(&mut files, file_of_word(rt, first))?;
+    add_file(&mut files, file_of_word(rt, second))?;
+    Ok(files)
 }
 
 fn files_of<'a, R: AllocGlobal + Eprint + Files>(
     rt: &R,
-    paths: &[&'a str],
+    wanted: &'a [WantedFile],
 ) -> Result<Vec<TextFile<'a>>, SessionFault> {
     let mut files = Vec::new(rt.alloc());
-    for path in paths {
-        let file = read_file(rt, *path)?;
-        if files.push(file).is_err() {
+    for file in wanted {
+        let text = text_of_file(rt, file.path.as_str(), file.label.as_str())?;
+        let path = file.path.as_str();
+        if files.push(TextFile { path, text }).is_err() {
             return Err(SessionFault::Memory);
         }
     }
@@ -268,29 +435,104 @@ fn write_both<R: Print, E: Print>(
 enum GridQuestion {
     Table,
     Differences,
+    Lines(Lines),
+}
+
+fn table_question(format: ResultFormat) -> GridQuestion {
+    match format {
+        ResultFormat::Plain => GridQuestion::Table,
+        ResultFormat::Tab => GridQuestion::Lines(Lines::TableTab),
+        ResultFormat::Json => GridQuestion::Lines(Lines::TableJson),
+    }
+}
+
+fn difference_question(format: ResultFormat) -> GridQuestion {
+    match format {
+        ResultFormat::Plain => GridQuestion::Differences,
+        ResultFormat::Tab => GridQuestion::Lines(Lines::DifferenceTab),
+        ResultFormat::Json => GridQuestion::Lines(Lines::DifferenceJson),
+    }
+}
+
+// Tells which files that a list names are refused. What cannot be told is left out.
+fn tell_listed<R: AllocGlobal + Eprint>(
+    rt: &R,
+    wanted: &[WantedFile],
+    files: &[TextFile<'_>],
+    are_models: bool,
+) {
+    for (wanted, file) in wanted.iter().zip(files.iter()) {
+        if wanted.is_listed && is_refused_file(rt.alloc(), file, are_models) {
+            let _ = rt.eprintln(format_args!("{}: refused", wanted.label));
+        }
+    }
+}
+
+fn is_refused_file(alloc: Global, file: &TextFile<'_>, is_model: bool) -> bool {
+    let lines = if is_model {
+        model_refusal_lines(alloc, file)
+    } else {
+        test_refusal_lines(alloc, file)
+    };
+    match lines {
+        Ok(lines) => !lines.is_empty(),
+        Err(_) => false,
+    }
+}
+
+fn grid_report<R: AllocGlobal + Clock, E: Print + IsTerminal>(
+    rt: &R,
+    errors: &E,
+    question: GridQuestion,
+    models: &[TextFile<'_>],
+    tests: &[TextFile<'_>],
+) -> Result<Report, AllocError> {
+    let mut progress = progress_to(rt, errors);
+    match question {
+        GridQuestion::Table => table_report(rt.alloc(), models, tests, &mut progress),
+        GridQuestion::Differences => difference_report(rt.alloc(), models, tests, &mut progress),
+        GridQuestion::Lines(lines) => line_report(rt.alloc(), lines, models, tests, &mut progress),
+    }
 }
 
 fn answer_grid<R: AllocGlobal + Clock + Eprint + Files + Print, E: Print + IsTerminal>(
     rt: &R,
     errors: &E,
     question: GridQuestion,
-    models: &[&str],
+    wanted_models: &[WantedFile],
     tests: &[&str],
 ) -> Result<bool, SessionFault> {
-    let models = files_of(rt, models)?;
-    let tests = files_of(rt, tests)?;
-    let mut progress = progress_to(rt, errors);
-    let report = match question {
-        GridQuestion::Table => table_report(rt.alloc(), &models, &tests, &mut progress),
-        GridQuestion::Differences => difference_report(rt.alloc(), &models, &tests, &mut progress),
-    };
+    let wanted_tests = wanted_files(rt, tests)?;
+    let models = files_of(rt, wanted_models)?;
+    let tests = files_of(rt, &wanted_tests)?;
+    let report = grid_report(rt, errors, question, &models, &tests);
     let is_refused = write_both(rt, errors, report)?;
+    if is_refused {
+        tell_listed(rt, wanted_models, &models, true);
+        tell_listed(rt, &wanted_tests, &tests, false);
+    }
     tell_models(rt, errors, &models);
     Ok(is_refused)
 }
 
+// Answers the model and the test of two files as a line for programs.
+fn answer_line<R: AllocGlobal + Eprint + Files + Print, E: Print>(
+    rt: &R,
+    errors: &E,
+    model: &str,
+    test: &str,
+) -> Result<bool, SessionFault> {
+    let model = read_file(rt, model)?;
+    let test = read_file(rt, test)?;
+    let is_refused = write_both(rt, errors, eval_report(rt.alloc(), &model, &test))?;
+    if !is_refused {
+        tell_model(rt, errors, &model);
+    }
+    Ok(is_refused)
+}
+
 // Does what the words ask for. Whether a text was refused.
-fn answer_form<R, E: Print + IsTerminal>(
+fn answer_form<R, E: Print + IsTerminal + Sync>(
     rt: &R,
     errors: &E,
     form: Form<'_>,
@@ -309,16 +551,30 @@ where
         + Send
         + Sync
         + 'static,
+    R::Reader: Send + Sync + 'static,
 {
     match form {
         Form::Stream => stream(rt, errors),
         Form::Session { script, workers } => session_of(rt, errors, script, workers),
         Form::Watch {
-            model,
+            models,
             tests,
             workers,
-        } => watch_files(rt, errors, model, tests, workers),
-        Form::Eval { model, test } => answer_pair(rt, errors, PairQuestion::Log, model, test),
+            poll,
+        } => match models.get(0) {
+            Some(model) => watch_files(rt, errors, model, &tests, workers, poll),
+            None => Ok(false),
+        },
+        Form::Eval {
+            model,
+            test,
+            is_json,
+        } => {
+            if is_json {
+                return answer_line(rt, errors, model, test);
+            }
+            answer_pair(rt, errors, PairQuestion::Log, model, test)
+        }
         Form::Why {
             model,
             test,
@@ -335,21 +591,39 @@ where
             model,
             test,
             drawn,
-            most,
+            pictures,
         } => {
-            let question = PairQuestion::Pictures { drawn, most };
+            let question = PairQuestion::Pictures(draw_request(drawn, pictures));
             answer_pair(rt, errors, question, model, test)
         }
-        Form::Table { models, tests } => {
-            answer_grid(rt, errors, GridQuestion::Table, models, tests)
+        Form::Table {
+            models,
+            tests,
+            format,
+        } => {
+            let models = wanted_files(rt, &models)?;
+            answer_grid(rt, errors, table_question(format), &models, &tests)
         }
-        Form::Diff { models, tests } => {
-            answer_grid(rt, errors, GridQuestion::Differences, models, tests)
+        Form::Diff {
+            first,
+            second,
+            tests,
+            format,
+        } => {
+            let models = two_files(rt, first, second)?;
+            answer_grid(rt, errors, difference_question(format), &models, &tests)
         }
     }
 }
 
-fn answer<R, E: Print + IsTerminal>(rt: &R, errors: &E, words: &[&str]) -> RunEnd
+fn watches_several(form: &Form<'_>) -> bool {
+    match form {
+        Form::Watch { models, .. } => models.len() > 1,
+        _ => false,
+    }
+}
+
+fn answer<R, E: Print + IsTerminal + Sync>(rt: &R, errors: &E, words: &[&str]) -> RunEnd
 where
     R: AllocGlobal
         + Clock
@@ -364,14 +638,19 @@ where
         + Send
         + Sync
         + 'static,
+    R::Reader: Send + Sync + 'static,
 {
     match form_of(rt.alloc(), words) {
+        Ok(form) if watches_several(&form) => {
+            let _ = rt.eprintln("error: one model is watched at a time");
+            RunEnd::Usage
+        }
         Ok(form) => tell_done(rt, answer_form(rt, errors, form)),
         Err(error) => tell_usage(rt, &error),
     }
 }
 
-fn run<R, E: Print + IsTerminal>(rt: &R, errors: &E) -> RunEnd
+fn run<R, E: Print + IsTerminal + Sync>(rt: &R, errors: &E) -> RunEnd
 where
     R: AllocGlobal
         + Clock
@@ -387,6 +666,7 @@ where
         + Send
         + Sync
         + 'static,
+    R::Reader: Send + Sync + 'static,
 {
     let words: Vec<String> = match env::args(rt) {
         Ok(words) => match words.collect(rt.alloc()) {

@@ -10,7 +10,7 @@ use Rattle.outcome_texts.specs.Differences.{difference_of}
 use Rattle.bench_texts.specs.BenchTexts.{BenchTexts, PlainModel}
 use Rattle.bench_texts.specs.Printed.{printed_items}
 use Rattle.bench_texts.specs.declared.fault.EditFault.TheVariants.{NoTest, NoModel}
-use Rattle.session_edits.specs.Answer.{SessionAnswer, told, denied}
+use Rattle.session_edits.specs.Answer.{SessionAnswer, plain_answer, refusal_answer}
 use Rattle.session_edits.specs.Faults.{fault_line}
 use Rattle.session_edits.specs.declared.request.Question.{Question}
 use Rattle.session_edits.specs.declared.request.Question.TheVariants as questions
@@ -20,22 +20,22 @@ use Rattle.session_answers.specs.Rows.{pair_in}
 -- ---- each item of a model: number, space, item
 
 abbrev pub IsItemsReply : Option PlainModel → SessionAnswer → Type 0
-IsItemsReply None said = said ≡ denied (fault_line NoModel)
-IsItemsReply (Some model) said = said ≡ told (printed_items model.items)
+IsItemsReply None said = said ≡ refusal_answer (fault_line NoModel)
+IsItemsReply (Some model) said = said ≡ plain_answer (printed_items model.items)
 
 -- ---- a test under a model: its log, or its counts
 
 abbrev pub IsLogReply : Option Content → Option PlainModel → SessionAnswer → Type 0
-IsLogReply None model said = said ≡ denied (fault_line NoTest)
-IsLogReply (Some test) None said = said ≡ denied (fault_line NoModel)
+IsLogReply None model said = said ≡ refusal_answer (fault_line NoTest)
+IsLogReply (Some test) None said = said ≡ refusal_answer (fault_line NoModel)
 IsLogReply (Some test) (Some model) said =
-    (o : Outcome) × IsPlainOutcome test model o × (said ≡ told (cell_log test.name (Settled o)))
+    (o : Outcome) × IsPlainOutcome test model o × (said ≡ plain_answer (cell_log test.name (Settled o)))
 
 abbrev pub IsCountsReply : Option Content → Option PlainModel → SessionAnswer → Type 0
-IsCountsReply None model said = said ≡ denied (fault_line NoTest)
-IsCountsReply (Some test) None said = said ≡ denied (fault_line NoModel)
+IsCountsReply None model said = said ≡ refusal_answer (fault_line NoTest)
+IsCountsReply (Some test) None said = said ≡ refusal_answer (fault_line NoModel)
 IsCountsReply (Some test) (Some model) said =
-    (o : Outcome) × IsPlainOutcome test model o × (said ≡ told (cell_counts (Settled o)))
+    (o : Outcome) × IsPlainOutcome test model o × (said ≡ plain_answer (cell_counts (Settled o)))
 
 -- ---- all tests under some models: the table, or where two models differ
 
@@ -44,15 +44,15 @@ ArePlainRows t models rows = AllZip (IsPlainRow models) t.tests rows
 
 abbrev pub IsTableReply : BenchTexts → List (List ℕ) → Option (List PlainModel) → SessionAnswer
     → Type 0
-IsTableReply t names None said = said ≡ denied (fault_line NoModel)
+IsTableReply t names None said = said ≡ refusal_answer (fault_line NoModel)
 IsTableReply t names (Some models) said =
-    (rows : List Row) × ArePlainRows t models rows × (said ≡ told (table_of names rows))
+    (rows : List Row) × ArePlainRows t models rows × (said ≡ plain_answer (table_of names rows))
 
 abbrev pub IsDifferenceReply : BenchTexts → Option (List PlainModel) → SessionAnswer → Type 0
-IsDifferenceReply t None said = said ≡ denied (fault_line NoModel)
+IsDifferenceReply t None said = said ≡ refusal_answer (fault_line NoModel)
 IsDifferenceReply t (Some models) said =
     (rows : List Row) × ArePlainRows t models rows
-    × (said ≡ told (difference_of (map pair_in rows)))
+    × (said ≡ plain_answer (difference_of (map pair_in rows)))
 
 -- ---- any question
 

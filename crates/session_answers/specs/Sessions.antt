@@ -3,10 +3,10 @@ use Rattle.std.specs.Prelude.{◌≡◌, ℕ, List, [], ◌∷◌, ◌++◌, Boo
 use Rattle.session_script.specs.declared.command.Command.{Command}
 use Rattle.session_script.specs.declared.command.Command.TheVariants as commands
 use Rattle.session_script.specs.Rules.{script_rule_number}
-use Rattle.bench_texts.specs.BenchTexts.{BenchTexts}
-use Rattle.session_edits.specs.Answer.{SessionAnswer, denied, refusal_line}
+use Rattle.bench_texts.specs.BenchTexts.{BenchTexts, no_texts}
+use Rattle.session_edits.specs.Answer.{SessionAnswer, refusal_answer, refusal_line}
 use Rattle.session_edits.specs.Edits.{IsEditAnswer}
-use Rattle.session_edits.specs.Requests.{RequestAsked, Editing, Asking, asked_in}
+use Rattle.session_edits.specs.Requests.{RequestAsked, Editing, Asking, request_meaning}
 use Rattle.session_answers.specs.Questions.{IsReply}
 
 -- an edit may change the texts, a question leaves them
@@ -18,18 +18,14 @@ IsRequestAnswer t (Asking question) said after = IsReply t question said × (aft
 -- command is refused by `Q` and a number
 abbrev pub IsCommandAnswer : BenchTexts → Command → SessionAnswer → BenchTexts → Type 0
 IsCommandAnswer t (commands.Refused rule) said after =
-    (said ≡ denied (refusal_line 81 (script_rule_number rule))) × (after ≡ t)
+    (said ≡ refusal_answer (refusal_line 81 (script_rule_number rule))) × (after ≡ t)
 IsCommandAnswer t (commands.Asked request text) said after =
-    IsRequestAnswer t (asked_in request text) said after
-
--- a session begins without texts
-abbrev pub no_texts : BenchTexts
-no_texts = record { tests = []; models = []; next = 1 }
+    IsRequestAnswer t (request_meaning request text) said after
 
 -- the output of these commands, whether one of them is refused, and the texts after them
 pub data IsOutput : List Command → List ℕ → Bool → BenchTexts → Type 0 where
   Nothing : IsOutput [] [] false no_texts
-  OneMore : (front : List Command) (text : List ℕ) (refused : Bool) (before : BenchTexts)
+  OneMore : (prefix : List Command) (text : List ℕ) (refused : Bool) (before : BenchTexts)
       (command : Command) (said : SessionAnswer) (after : BenchTexts)
-      → IsOutput front text refused before → IsCommandAnswer before command said after
-      → IsOutput (front ++ command ∷ []) (text ++ said.text) (refused || said.refused) after
+      → IsOutput prefix text refused before → IsCommandAnswer before command said after
+      → IsOutput (prefix ++ command ∷ []) (text ++ said.text) (refused || said.refused) after

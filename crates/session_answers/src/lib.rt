@@ -7,6 +7,6 @@ mod outcomes;
 mod progress;
 mod rows;
 
-pub use outcomes::test_outcomes;
+pub use outcomes::{outcomes_of, tell_rows, test_outcomes};
 pub use progress::{NoProgress, Progress, ProgressListener};
 pub use rows::{TestOutcomes, test_pairs, test_rows};

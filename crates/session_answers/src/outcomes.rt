@@ -13,7 +13,8 @@ use from_scratch::{eval_row, resolved_models};
 use std::alloc::{AllocError, Global};
 use text_values::{ModelText, Test};
 
-fn outcomes_of(
+/// The outcomes of a test under models that are resolved. Errors: out of memory.
+pub fn outcomes_of(
     alloc: Global,
     test: &Test,
     models: &[Result<Resolved, ModelFault>],
@@ -27,8 +28,8 @@ fn outcomes_of(
     })
 }
 
-// Tells that so many rows are evaluated, each by one job.
-fn tell_rows<L: ProgressListener>(listener: &mut L, rows: usize, tests: usize, models: usize) {
+/// Tells that so many rows are evaluated, each by one job.
+pub fn tell_rows<L: ProgressListener>(listener: &mut L, rows: usize, tests: usize, models: usize) {
     if listener.is_due() {
         listener.hear_progress(Progress {
             settled: rows.saturating_mul(models),

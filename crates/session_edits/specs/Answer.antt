@@ -20,8 +20,8 @@ refused_line letter number offset =
     codes "refused " ++ letter ∷ decimal number ++ codes " " ++ decimal offset ++ line_end
 
 -- an answer that is no refusal, and one that is
-abbrev pub told : List ℕ → SessionAnswer
-told text = record { text = text; refused = false }
+abbrev pub plain_answer : List ℕ → SessionAnswer
+plain_answer text = record { text = text; refused = false }
 
-abbrev pub denied : List ℕ → SessionAnswer
-denied text = record { text = text; refused = true }
+abbrev pub refusal_answer : List ℕ → SessionAnswer
+refusal_answer text = record { text = text; refused = true }

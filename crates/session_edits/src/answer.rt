@@ -23,11 +23,11 @@ impl Answer {
     ghost use Rattle.std.specs.Prelude.{◌≡◌, ◌+◌, ◌-◌, ◌<◌, ◌^◌, IfOk, OnOk, OnErr, codes};
     ghost use Rattle.std.specs.Io.KnownBytes.{Appends};
     ghost use Rattle.session_script.specs.Written.{WritesPrefix};
-    ghost use Rattle.session_edits.specs.Answer.{told, denied};
+    ghost use Rattle.session_edits.specs.Answer.{plain_answer, refusal_answer};
 
-    /// What is told.
-    pub fn told(text: Vec<u8>) -> Answer
-        ensures { result ≡ told text.items }
+    /// An answer that is no refusal.
+    pub fn plain(text: Vec<u8>) -> Answer
+        ensures { result ≡ plain_answer text.items }
     {
         Answer {
             text,
@@ -36,8 +36,8 @@ impl Answer {
     }
 
     /// The text of a refusal.
-    pub fn denied(text: Vec<u8>) -> Answer
-        ensures { result ≡ denied text.items }
+    pub fn refusal(text: Vec<u8>) -> Answer
+        ensures { result ≡ refusal_answer text.items }
     {
         Answer {
             text,
@@ -47,9 +47,9 @@ impl Answer {
 
     /// The answer to an edit that is accepted. Errors: out of memory.
     pub fn accepted(alloc: Global) -> Result<Answer, AllocError>
-        ensures { IfOk result (λ a. a ≡ told (codes "ok\n")) }
+        ensures { IfOk result (λ a. a ≡ plain_answer (codes "ok\n")) }
     {
-        Ok(Answer::told(Vec::from_slice(alloc, b"ok\n")?))
+        Ok(Answer::plain(Vec::from_slice(alloc, b"ok\n")?))
     }
 
     /// Its bytes.

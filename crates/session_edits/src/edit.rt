@@ -17,7 +17,7 @@ pub fn answer_edit(alloc: Global, texts: &mut Texts, edit: &Edit) -> Result<Answ
         IsEditAnswer (texts_of texts.old) (edit_of edit.now) said (texts_of texts.new)) }
     ensures kept { OnErr result (texts_of texts.new ≡ texts_of texts.old) }
 {
-    match texts.prepare(alloc, edit, false) {
+    match texts.prepare_unless_spent(alloc, edit, false) {
         Ok(prepared) => {
             let answer = Answer::accepted(alloc)?;
             texts.commit(prepared);

@@ -11,4 +11,4 @@ mod request;
 pub use answer::Answer;
 pub use edit::answer_edit;
 pub use refusal::{put_refusal, refused_by, refused_edit};
-pub use request::{Asked, Question, asked_in};
+pub use request::{Asked, Question, request_meaning};

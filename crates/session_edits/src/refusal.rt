@@ -1,7 +1,7 @@
 //! The lines of refusals.
 
 ghost use Rattle.std.specs.Prelude.{◌≡◌, ◌++◌, ◌∷◌, OnOk, IfOk, codes, decimal};
-ghost use Rattle.session_edits.specs.Answer.{refusal_line, refused_line, denied};
+ghost use Rattle.session_edits.specs.Answer.{refusal_line, refused_line, refusal_answer};
 ghost use Rattle.session_edits.specs.Faults.{test_line, model_line, fault_line, HasFaultLine};
 
 use crate::answer::Answer;
@@ -50,23 +50,23 @@ pub fn put_refusal(
 
 /// The refusal by a rule. Errors: out of memory.
 pub fn refused_by(alloc: Global, letter: u8, number: u8) -> Result<Answer, AllocError>
-    ensures { IfOk result (λ a. a ≡ denied (refusal_line letter number)) }
+    ensures { IfOk result (λ a. a ≡ refusal_answer (refusal_line letter number)) }
 {
     let mut text = Vec::new(alloc);
     put_rule(&mut text, letter, number)?;
-    Ok(Answer::denied(text))
+    Ok(Answer::refusal(text))
 }
 
 fn refused_at(alloc: Global, letter: u8, number: u8, offset: usize) -> Result<Answer, AllocError>
-    ensures { IfOk result (λ a. a ≡ denied (refused_line letter number offset)) }
+    ensures { IfOk result (λ a. a ≡ refusal_answer (refused_line letter number offset)) }
 {
     let mut text = Vec::new(alloc);
     put_refusal(&mut text, letter, number, offset)?;
-    Ok(Answer::denied(text))
+    Ok(Answer::refusal(text))
 }
 
 fn refused_test(alloc: Global, fault: LitmusFault) -> Result<Answer, AllocError>
-    ensures line { IfOk result (λ a. a ≡ denied (test_line fault)) }
+    ensures line { IfOk result (λ a. a ≡ refusal_answer (test_line fault)) }
     ensures answer { OnOk result (HasFaultLine (EditFault.Test fault)) }
 {
     match fault {
@@ -76,7 +76,7 @@ fn refused_test(alloc: Global, fault: LitmusFault) -> Result<Answer, AllocError>
 }
 
 fn refused_model(alloc: Global, fault: CatFault) -> Result<Answer, AllocError>
-    ensures line { IfOk result (λ a. a ≡ denied (model_line fault)) }
+    ensures line { IfOk result (λ a. a ≡ refusal_answer (model_line fault)) }
     ensures answer { OnOk result (HasFaultLine (EditFault.Model fault)) }
 {
     match fault {
@@ -88,7 +88,7 @@ fn refused_model(alloc: Global, fault: CatFault) -> Result<Answer, AllocError>
 /// The answer to an edit that is refused. Errors: out of memory, also where the edit was refused
 /// for want of it.
 pub fn refused_edit(alloc: Global, fault: EditFault) -> Result<Answer, AllocError>
-    ensures line { IfOk result (λ a. a ≡ denied (fault_line fault)) }
+    ensures line { IfOk result (λ a. a ≡ refusal_answer (fault_line fault)) }
     ensures answer { IfOk result (λ a. HasFaultLine fault) }
 {
     match fault {

@@ -1,7 +1,7 @@
 //! What a request asks for.
 
 ghost use Rattle.std.specs.Prelude.{◌≡◌};
-ghost use Rattle.session_edits.specs.Requests.{asked_by, asked_in};
+ghost use Rattle.session_edits.specs.Requests.{asked_by, request_meaning};
 
 use bench_texts::Edit;
 use session_script::{Names, Request, ScriptText};
@@ -44,8 +44,8 @@ pub enum Asked {
 }
 
 /// What a request with this text behind it asks for.
-pub fn asked_in(request: Request, text: ScriptText) -> Asked
-    ensures { asked_by result ≡ asked_in request text }
+pub fn request_meaning(request: Request, text: ScriptText) -> Asked
+    ensures { asked_by result ≡ request_meaning request text }
 {
     let text = text.into_bytes();
     match request {

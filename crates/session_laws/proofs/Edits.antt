@@ -14,12 +14,10 @@ use Rattle.bench_texts.specs.declared.fault.EditFault.{EditFault}
 use Rattle.bench_texts.specs.declared.fault.EditFault.TheVariants as faults
 use Rattle.bench_texts.specs.BenchTexts.{BenchTexts, NumberedItem, test_index, model_index, put_at, changed_at, with_init, with_thread, with_condition, with_observed, with_items, with_tests, with_models, numbered_items}
 use Rattle.bench_texts.specs.Edits.{Edit, PutTest, DropTest, SetInit, SetThread, SetCond, SetLocations, PutModel, DropModel, SetItem, InsertItem, RemoveItem, EditMakes, missing_fault, unless, has_test, thread_count, index_in, index_before}
+use Rattle.session_laws.specs.Laws.{AreFew}
 use Rattle.text_reading_laws.proofs.Meanings.{one_test, one_init, one_thread, one_condition, one_list, one_model, few_threads}
 
 -- ---- tests have few threads
-
-abbrev pub AreFew : List Content → Type 0
-AreFew cs = AllByRecursion (λ (c : Content). length c.threads < 18446744073709551616) cs
 
 pub few_at : (cs : List Content) (i : ℕ) → AreFew cs
     → slice_index (map (λ (c : Content). length c.threads) cs) i < 18446744073709551616

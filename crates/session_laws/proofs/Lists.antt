@@ -6,26 +6,26 @@ use Rattle.std.specs.List.{AllZip}
 -- ---- lists that end in an element
 
 -- the elements before the last, and the last
-pub record AreSplit {A : Type 0} (front other : List A) (c d : A) : Type 0 where
-  pub fronts : front ≡ other
+pub record AreSplit {A : Type 0} (prefix other : List A) (c d : A) : Type 0 where
+  pub prefixes : prefix ≡ other
   pub ends : c ≡ d
 
 pub not_empty : {A : Type 0} (cs : List A) (c : A) → [] ≡ (cs ++ c ∷ []) → ⊥
 not_empty [] c e = absurd cc
 not_empty (d ∷ cs) c e = absurd cc
 
-pub last_one : {A : Type 0} (front other : List A) (c d : A)
-    → (front ++ c ∷ []) ≡ (other ++ d ∷ []) → AreSplit front other c d
-last_one [] [] c d e = record { fronts = refl; ends = cc }
+pub last_one : {A : Type 0} (prefix other : List A) (c d : A)
+    → (prefix ++ c ∷ []) ≡ (other ++ d ∷ []) → AreSplit prefix other c d
+last_one [] [] c d e = record { prefixes = refl; ends = cc }
 last_one [] (x ∷ other) c d e =
     absurd (not_empty other d (let h : [] ≡ (other ++ d ∷ []) = cc in h))
-last_one (x ∷ front) [] c d e =
-    absurd (not_empty front c (let h : [] ≡ (front ++ c ∷ []) = cc in h))
-last_one (x ∷ front) (y ∷ other) c d e =
+last_one (x ∷ prefix) [] c d e =
+    absurd (not_empty prefix c (let h : [] ≡ (prefix ++ c ∷ []) = cc in h))
+last_one (x ∷ prefix) (y ∷ other) c d e =
     let heads : x ≡ y = cc in
-    let rest : (front ++ c ∷ []) ≡ (other ++ d ∷ []) = cc in
-    let r = last_one front other c d rest in
-    record { fronts = (λ i. heads i ∷ r.fronts i); ends = r.ends }
+    let rest : (prefix ++ c ∷ []) ≡ (other ++ d ∷ []) = cc in
+    let r = last_one prefix other c d rest in
+    record { prefixes = (λ i. heads i ∷ r.prefixes i); ends = r.ends }
 
 -- ---- lists that have equal images
 
@@ -41,8 +41,8 @@ split_images f xs ys x y e =
 pub longer_images : {A B : Type 0} (f : A → B) (xs ys more new : List A) (x y : A)
     → map f xs ≡ map f ys → f x ≡ f y → more ≡ xs ++ x ∷ [] → new ≡ ys ++ y ∷ []
     → map f more ≡ map f new
-longer_images f xs ys more new x y fronts ends h g =
-    ap (map f) h ∙ map-append f xs (x ∷ []) ∙ (λ i. fronts i ++ ends i ∷ [])
+longer_images f xs ys more new x y prefixes ends h g =
+    ap (map f) h ∙ map-append f xs (x ∷ []) ∙ (λ i. prefixes i ++ ends i ∷ [])
     ∙ sym (map-append f ys (y ∷ [])) ∙ sym (ap (map f) g)
 
 -- what elements of equal images determine is one

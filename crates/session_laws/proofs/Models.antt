@@ -18,7 +18,8 @@ use Rattle.verdict.specs.declared.answer.Outcome.{Outcome}
 use Rattle.verdict.specs.declared.answer.OutcomeResult.{OutcomeResult}
 use Rattle.verdict.specs.declared.answer.OutcomeResult.TheVariants.{Refused, Evaluated}
 use Rattle.verdict.specs.declared.answer.Refusal.TheVariants as refusals
-use Rattle.from_scratch.specs.FromScratch.{outermost, IsResultOf, IsFromScratch}
+use Rattle.from_scratch.specs.FromScratch.{IsResultOf, IsFromScratch}
+use Rattle.binding_kinds.specs.Outermost.{outermost_names}
 use Rattle.bench_texts.specs.BenchTexts.{PlainModel}
 use Rattle.evaluation_laws.proofs.Saying.{one_outcome}
 use Rattle.evaluation_laws.proofs.Tests.{equal_tests}
@@ -114,15 +115,15 @@ module _ (model other : ModelText)
 
   moved : (test : Test) (r : OutcomeResult) → IsResultOf test model r → IsResultOf test other r
   moved test (Refused (refusals.Model k)) h =
-      subst (λ (cs : List BareItem). FirstFault [] outermost 0 cs k) clauses h
+      subst (λ (cs : List BareItem). FirstFault [] outermost_names 0 cs k) clauses h
   moved test (Refused (refusals.Space r)) h =
-      (subst (λ (cs : List BareItem). HasNoFault [] outermost 0 cs) clauses h.0, h.1)
+      (subst (λ (cs : List BareItem). HasNoFault [] outermost_names 0 cs) clauses h.0, h.1)
   moved test (Evaluated e) h = (
-    subst (λ (cs : List BareItem). HasNoFault [] outermost 0 cs) clauses h.0,
+    subst (λ (cs : List BareItem). HasNoFault [] outermost_names 0 cs) clauses h.0,
     (
       h.1.0,
       (
-        subst (λ (cs : List BareItem). AreResolved [] [] outermost 0 cs h.1.0) clauses h.1.1.0,
+        subst (λ (cs : List BareItem). AreResolved [] [] outermost_names 0 cs h.1.0) clauses h.1.1.0,
         labels h.1.0 h.1.1.1,
       ),
       h.1.2,

@@ -1,7 +1,7 @@
 -- What is read of files depends on their paths and their bytes alone.
 use Rattle.std.proofs.Common.{◌≡◌, ℕ, List, ◌++◌, map, refl, sym, ap, ◌∙◌, subst}
 use Rattle.cat_grammar.specs.declared.form.Form.TheVariants.{Model}
-use Rattle.cat_syntax.specs.Reads.{Reads, FaultAt}
+use Rattle.cat_grammar.specs.Reads.{Reads, FaultAt}
 use Rattle.cat_tokens.specs.declared.rule.CatRule.{CatRule}
 use Rattle.cat_tokens.specs.Tokens.{number_of as model_rule_number}
 use Rattle.fault_lines.specs.Lines.{fault_lines}
@@ -12,7 +12,7 @@ use Rattle.litmus_tokens.specs.Numbers.{number_of as test_rule_number}
 use Rattle.command_answers.specs.declared.file.TextFile.{TextFile}
 use Rattle.command_answers.specs.declared.reading.NamedModel.{NamedModel}
 use Rattle.command_answers.specs.Answer.{IsModelRefused, IsTestRefused}
-use Rattle.command_answers.specs.Files.{model_name, AddsFault}
+use Rattle.command_answers.specs.Files.{model_stem, AddsFault}
 use Rattle.command_answers.specs.Reports.{AddsModel, IsModelAdded, IsModelFault, AreModels, NoModel, NextModel, AddsTest, IsTestAdded, IsTestFault as IsTestFaulty, AreTests, NoTest, NextTest}
 use Rattle.text_reading_laws.proofs.Faults.{one_test_fault, one_model_fault}
 use Rattle.text_reading_laws.proofs.Meanings.{one_test, one_model}
@@ -86,7 +86,7 @@ module _ (file other : TextFile) (same : path_and_text file ≡ path_and_text ot
       → AddsModel other others lines new also → AreModelsAlike more new told also
   model_added models others more new faults lines told also alike
       (IsModelAdded m named read added kept) (IsModelAdded n called known grown left) =
-      let name : m.name ≡ n.name = named ∙ ap model_name one_path ∙ sym called in
+      let name : m.name ≡ n.name = named ∙ ap model_stem one_path ∙ sym called in
       let says = one_model_read _ _ read known in
       record {
         said =
@@ -171,14 +171,14 @@ pub all_models : (files : List TextFile) (models : List NamedModel) (faults : Li
 all_models files models faults NoModel others also lines NoModel e =
     record { said = refl; told = refl }
 all_models files models faults NoModel others also lines
-    (NextModel front file before after old new h adds) e =
-    absurd (none_ends path_and_text front file e)
-all_models files models faults (NextModel front file before after old new h adds) others also lines
-    NoModel e = absurd (none_ends path_and_text front file (sym e))
-all_models files models faults (NextModel front file before after old new h adds) others also lines
-    (NextModel fronts other first later was is g adds_also) e =
-    let split = split_images path_and_text front fronts file other e in
-    let alike = all_models front before old h fronts first was g split.fronts in
+    (NextModel prefix file before after old new h adds) e =
+    absurd (none_ends path_and_text prefix file e)
+all_models files models faults (NextModel prefix file before after old new h adds) others also lines
+    NoModel e = absurd (none_ends path_and_text prefix file (sym e))
+all_models files models faults (NextModel prefix file before after old new h adds) others also lines
+    (NextModel prefixes other first later was is g adds_also) e =
+    let split = split_images path_and_text prefix prefixes file other e in
+    let alike = all_models prefix before old h prefixes first was g split.prefixes in
     model_added file other split.ends before first after later old was new is alike adds adds_also
 
 pub all_tests : (start begin : List ℕ) → start ≡ begin
@@ -190,12 +190,12 @@ pub all_tests : (start begin : List ℕ) → start ≡ begin
 all_tests start begin same files tests faults NoTest others also lines NoTest e =
     record { said = refl; told = same }
 all_tests start begin same files tests faults NoTest others also lines
-    (NextTest front file before after old new h adds) e =
-    absurd (none_ends path_and_text front file e)
-all_tests start begin same files tests faults (NextTest front file before after old new h adds)
-    others also lines NoTest e = absurd (none_ends path_and_text front file (sym e))
-all_tests start begin same files tests faults (NextTest front file before after old new h adds)
-    others also lines (NextTest fronts other first later was is g adds_also) e =
-    let split = split_images path_and_text front fronts file other e in
-    let alike = all_tests start begin same front before old h fronts first was g split.fronts in
+    (NextTest prefix file before after old new h adds) e =
+    absurd (none_ends path_and_text prefix file e)
+all_tests start begin same files tests faults (NextTest prefix file before after old new h adds)
+    others also lines NoTest e = absurd (none_ends path_and_text prefix file (sym e))
+all_tests start begin same files tests faults (NextTest prefix file before after old new h adds)
+    others also lines (NextTest prefixes other first later was is g adds_also) e =
+    let split = split_images path_and_text prefix prefixes file other e in
+    let alike = all_tests start begin same prefix before old h prefixes first was g split.prefixes in
     test_added file other split.ends before first after later old was new is alike adds adds_also

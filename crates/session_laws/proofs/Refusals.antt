@@ -11,7 +11,8 @@ use Rattle.bench_texts.specs.BenchTexts.{BenchTexts, test_index}
 use Rattle.bench_texts.specs.Edits.{Edit, PutTest, DropTest, SetInit, SetThread, SetCond, SetLocations, PutModel, DropModel, SetItem, InsertItem, RemoveItem, EditMakes, missing_fault, thread_count, limit_fault, IsTestEditRefused, IsModelEditRefused, IsOverLimit, Applies, RefusesEdit}
 use Rattle.session_edits.specs.Faults.{HasFaultLine}
 use Rattle.text_reading_laws.proofs.Faults.{one_test_fault, test_apart, one_thread_fault, thread_apart, one_init_fault, init_apart, one_condition_fault, condition_apart, one_locations_fault, locations_apart, one_model_fault, model_apart}
-use Rattle.session_laws.proofs.Edits.{AreFew, few_at, one_made}
+use Rattle.session_laws.specs.Laws.{AreFew, HasOneVerdict}
+use Rattle.session_laws.proofs.Edits.{few_at, one_made}
 
 some_is : (f g : EditFault) → Some f ≡ Some g → f ≡ g
 some_is f g e = cc
@@ -203,3 +204,10 @@ module _ (t : BenchTexts) (few : AreFew t.tests) where
   pub not_both : (e : Edit) (new : BenchTexts) (f : EditFault) → HasFaultLine f → Applies t false e new
       → RefusesEdit t false e f → ⊥
   not_both e new f is a h = not_accepted e new f a (reason e f is h)
+
+pub one_verdict : (t : BenchTexts) (e : Edit) → AreFew t.tests → HasOneVerdict t e
+one_verdict t e few = record {
+  one_result = λ new other h k. one_made t e new other few h.makes k.makes;
+  one_refusal = one_refusal t few e;
+  not_both = not_both t few e;
+}

@@ -7,7 +7,7 @@ use Rattle.outcome_texts.specs.Cells.{Cell, NoCell, Open, Settled, cell_log, cel
 use Rattle.outcome_texts.specs.Columns.{Row, table_of}
 use Rattle.outcome_texts.specs.Differences.{difference_of}
 use Rattle.bench_texts.specs.BenchTexts.{BenchTexts, PlainModel}
-use Rattle.session_edits.specs.Answer.{SessionAnswer, told}
+use Rattle.session_edits.specs.Answer.{SessionAnswer, plain_answer}
 use Rattle.session_edits.specs.declared.request.Question.{Question}
 use Rattle.session_edits.specs.declared.request.Question.TheVariants as questions
 use Rattle.session_answers.specs.Cells.{test_named, model_named, models_named, IsPlainCell, IsPlainRow}
@@ -61,7 +61,7 @@ one_log : (test : Option Content) (model : Option PlainModel) (a b : SessionAnsw
 one_log None model a b h g = h ∙ sym g
 one_log (Some t) None a b h g = h ∙ sym g
 one_log (Some t) (Some m) a b h g =
-    h.2 ∙ (ap (λ (o : Outcome). told (cell_log t.name (Settled o)))
+    h.2 ∙ (ap (λ (o : Outcome). plain_answer (cell_log t.name (Settled o)))
     (one_outcome_said t m h.0 g.0 h.1 g.1) ∙ sym g.2)
 
 one_counts : (test : Option Content) (model : Option PlainModel) (a b : SessionAnswer)
@@ -69,21 +69,21 @@ one_counts : (test : Option Content) (model : Option PlainModel) (a b : SessionA
 one_counts None model a b h g = h ∙ sym g
 one_counts (Some t) None a b h g = h ∙ sym g
 one_counts (Some t) (Some m) a b h g =
-    h.2 ∙ (ap (λ (o : Outcome). told (cell_counts (Settled o)))
+    h.2 ∙ (ap (λ (o : Outcome). plain_answer (cell_counts (Settled o)))
     (one_outcome_said t m h.0 g.0 h.1 g.1) ∙ sym g.2)
 
 one_table : (t : BenchTexts) (names : List (List ℕ)) (models : Option (List PlainModel))
     (a b : SessionAnswer) → IsTableReply t names models a → IsTableReply t names models b → a ≡ b
 one_table t names None a b h g = h ∙ sym g
 one_table t names (Some ms) a b h g =
-    h.2 ∙ (ap (λ (rows : List Row). told (table_of names rows)) (all_rows t ms h.0 g.0 h.1 g.1) ∙
+    h.2 ∙ (ap (λ (rows : List Row). plain_answer (table_of names rows)) (all_rows t ms h.0 g.0 h.1 g.1) ∙
     sym g.2)
 
 one_difference : (t : BenchTexts) (models : Option (List PlainModel)) (a b : SessionAnswer)
     → IsDifferenceReply t models a → IsDifferenceReply t models b → a ≡ b
 one_difference t None a b h g = h ∙ sym g
 one_difference t (Some ms) a b h g =
-    h.2 ∙ (ap (λ (rows : List Row). told (difference_of (map pair_in rows)))
+    h.2 ∙ (ap (λ (rows : List Row). plain_answer (difference_of (map pair_in rows)))
     (all_rows t ms h.0 g.0 h.1 g.1) ∙ sym g.2)
 
 pub one_reply : (t : BenchTexts) (question : Question) → HasOneReply t question

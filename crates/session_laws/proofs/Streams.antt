@@ -52,12 +52,12 @@ goes_on old text more x y n e h g =
     ∙ sym (append_assoc old (take n text) (drop n text))
     ∙ ap (λ (l : List ℕ). l ++ drop n text) (sym h)
 
--- the front, and what is written behind it
+-- the prefix, and what is written behind it
 record IsStop (new other : Option (List ℕ)) : Type 0 where
-  front : List ℕ
+  prefix : List ℕ
   rest : List ℕ
-  here : new ≡ Some front
-  whole : other ≡ Some (front ++ rest)
+  here : new ≡ Some prefix
+  whole : other ≡ Some (prefix ++ rest)
 
 stopped : (old text more : List ℕ) (new other : Option (List ℕ)) → text ≡ more
     → WritesPrefix (Some old) new text → Appends (Some old) other more → IsStop new other
@@ -65,7 +65,7 @@ stopped old text more None other e h g = absurd h.2
 stopped old text more (Some x) None e h g = absurd g
 stopped old text more (Some x) (Some y) e h g =
     let all = goes_on old text more x y h.0 e h.2 g in
-    record { front = x; rest = drop h.0 text; here = refl; whole = (λ i. Some (all i)) }
+    record { prefix = x; rest = drop h.0 text; here = refl; whole = (λ i. Some (all i)) }
 
 -- ---- what is written
 
@@ -93,17 +93,17 @@ one_stream input written new other refused also h g =
     let one = one_answer_moved _ _ _ _ _ _ _ _ same h.written.1 g.written.1 in
     (appended written h.written.0 g.written.0 new other one.0 h.written.2 g.written.2, one.1)
 
-pub fronts_of_writing : (model test written : List ℕ)
+pub prefixes_of_writing : (model test written : List ℕ)
     → LeavePrefixes (IsEvalWritten model test (Some written))
-fronts_of_writing model test written new other refused h g =
+prefixes_of_writing model test written new other refused h g =
     let one = one_answer model test _ _ _ _ h.2 g.1 in
     let stop = stopped written _ _ new other one.0 h.3 g.2 in
-    (stop.front, stop.rest, stop.here, stop.whole)
+    (stop.prefix, stop.rest, stop.here, stop.whole)
 
-pub fronts_of_stream : (input written : List ℕ)
+pub prefixes_of_stream : (input written : List ℕ)
     → LeavePrefixes (IsStreamed (Some input) (Some written))
-fronts_of_stream input written new other refused h g =
+prefixes_of_stream input written new other refused h g =
     let same = one_cut input h.model g.model h.test g.test h.cut g.cut in
     let one = one_answer_moved _ _ _ _ _ _ _ _ same h.written.2 g.written.1 in
     let stop = stopped written _ _ new other one.0 h.written.3 g.written.2 in
-    (stop.front, stop.rest, stop.here, stop.whole)
+    (stop.prefix, stop.rest, stop.here, stop.whole)

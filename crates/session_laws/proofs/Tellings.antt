@@ -6,7 +6,8 @@ use Rattle.binding_kinds.specs.declared.fault.ModelFault.{ModelFault}
 use Rattle.binding_kinds.specs.Value as kinds
 use Rattle.binding_kinds.specs.Faults.{HasNoFault, FirstFault}
 use Rattle.fault_places.specs.declared.place.ItemFault.{ItemFault}
-use Rattle.fault_places.specs.Found.{outermost, IsItemFault}
+use Rattle.fault_places.specs.Found.{IsItemFault}
+use Rattle.binding_kinds.specs.Outermost.{outermost_names}
 use Rattle.fault_places.specs.Signs.{signs_of_item}
 use Rattle.command_answers.specs.declared.file.TextFile.{TextFile}
 use Rattle.command_answers.specs.Reports.{IsModelTold, IsTestTold, IsToldOf}
@@ -67,7 +68,7 @@ both_first i j p q A B (inr x) (inr y) = record { items = x.0; indexes = at_inde
     at_index (inr u) v = u.0
 
 one_first : (clauses : List kinds.BareItem) (k l : ModelFault)
-    (h : FirstFault [] outermost 0 clauses k) (g : FirstFault [] outermost 0 clauses l)
+    (h : FirstFault [] outermost_names 0 clauses k) (g : FirstFault [] outermost_names 0 clauses l)
     → IsOnePlace h.item g.item h.index g.index
 one_first clauses k l h g =
     both_first h.item g.item h.index g.index _ _ (h.none_before g.item g.index l g.there)
@@ -91,7 +92,7 @@ one_place clauses a b h g =
     let place = one_first clauses a.fault b.fault h.first g.first in
     record {
       items = sym h.item_is ∙ place.items ∙ g.item_is;
-      faults = one_fault [] outermost 0 clauses a.fault b.fault h.first g.first;
+      faults = one_fault [] outermost_names 0 clauses a.fault b.fault h.first g.first;
       signs =
           text_is a.sign.now b.sign.now (sym h.sign_is
           ∙ (λ i. slice_get
@@ -116,14 +117,14 @@ module _ (name other : List ℕ) (items others : List Item) (named : name ≡ ot
   moved b g =
       subst (λ (cs : List kinds.BareItem). IsItemFault cs b) (sym (equal_clauses items others same)) g
 
-  none_here : HasNoFault [] outermost 0 (map kinds.bare_item others)
-      → HasNoFault [] outermost 0 (map kinds.bare_item items)
+  none_here : HasNoFault [] outermost_names 0 (map kinds.bare_item others)
+      → HasNoFault [] outermost_names 0 (map kinds.bare_item items)
   none_here g =
-      subst (λ (cs : List kinds.BareItem). HasNoFault [] outermost 0 cs)
+      subst (λ (cs : List kinds.BareItem). HasNoFault [] outermost_names 0 cs)
       (sym (equal_clauses items others same)) g
 
   fault_or_none : (clauses : List kinds.BareItem) (a : ItemFault)
-      → HasNoFault [] outermost 0 clauses → IsItemFault clauses a → ⊥
+      → HasNoFault [] outermost_names 0 clauses → IsItemFault clauses a → ⊥
   fault_or_none clauses a none h = none h.first.item h.first.index a.fault h.first.there
 
   one_fault_text : (text more : List ℕ) → IsModelFaultText name [] items text → IsModelFaultText other [] others more

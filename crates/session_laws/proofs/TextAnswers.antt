@@ -3,11 +3,13 @@ use Rattle.std.proofs.Common.{◌≡◌, ℕ, List, true, false, Ok, Err, refl, 
 use Rattle.cat_grammar.specs.declared.form.Form.TheVariants.{Model}
 use Rattle.cat_tokens.specs.declared.rule.CatRule.{CatRule}
 use Rattle.cat_tokens.specs.Tokens.{number_of as model_rule_number}
-use Rattle.command_line.specs.declared.form.Drawn.{Drawn}
+use Rattle.why_forbidden.specs.declared.drawing.DrawRequest.{DrawRequest}
 use Rattle.outcome_texts.specs.Log.{log_of}
 use Rattle.litmus_tokens.specs.declared.rule.LitmusRule.{LitmusRule}
 use Rattle.litmus_tokens.specs.Numbers.{number_of as test_rule_number}
 use Rattle.command_answers.specs.declared.fault.EvalFault.TheVariants as faults
+use Rattle.cat_syntax.specs.declared.fault.CatFault.TheVariants as model_faults
+use Rattle.litmus_ppc.specs.declared.fault.LitmusFault.TheVariants as test_faults
 use Rattle.command_answers.specs.Answer.{IsEvalLog, IsModel, IsModelRefused, IsTestRefused, IsEvalAnswer, IsEvaluated, RefusesModel, RefusesTest}
 use Rattle.command_answers.specs.Pictures.{IsPictureOf, IsPictureAnswer}
 use Rattle.command_answers.specs.Whys.{IsWhyOf, IsWhyAnswer}
@@ -84,27 +86,35 @@ module _ (model test : List ℕ) where
   pub one_evaluation : HasOneEvaluation model test
   one_evaluation (Ok log) (Ok other) h g =
       let one = one_log log other h g in λ i. Ok (one i)
-  one_evaluation (Ok log) (Err (faults.Model rule offset)) h g =
+  one_evaluation (Ok log) (Err (faults.Model (model_faults.Refused rule offset))) h g =
       absurd (no_model_fault log rule offset h g)
-  one_evaluation (Ok log) (Err (faults.Test rule offset)) h g =
+  one_evaluation (Ok log) (Err (faults.Test (test_faults.Refused rule offset))) h g =
       absurd (no_test_fault log rule offset h g.1)
+  one_evaluation (Ok log) (Err (faults.Model (model_faults.OutOfMemory e))) h g = absurd g
+  one_evaluation (Ok log) (Err (faults.Test (test_faults.OutOfMemory e))) h g = absurd g.1
   one_evaluation (Ok log) (Err (faults.Memory e)) h g = absurd g
-  one_evaluation (Err (faults.Model rule offset)) (Ok log) h g =
+  one_evaluation (Err (faults.Model (model_faults.Refused rule offset))) (Ok log) h g =
       absurd (no_model_fault log rule offset g h)
-  one_evaluation (Err (faults.Model rule offset)) (Err (faults.Model other again)) h g =
+  one_evaluation (Err (faults.Model (model_faults.Refused rule offset))) (Err (faults.Model (model_faults.Refused other again))) h g =
       let one = model_fault_one rule other offset again h g in
-      λ i. Err (faults.Model (one.0 i) (one.1 i))
-  one_evaluation (Err (faults.Model rule offset)) (Err (faults.Test other again)) h g =
+      λ i. Err (faults.Model (model_faults.Refused (one.0 i) (one.1 i)))
+  one_evaluation (Err (faults.Model (model_faults.Refused rule offset))) (Err (faults.Test (test_faults.Refused other again))) h g =
       absurd (no_model rule offset g.0 h)
-  one_evaluation (Err (faults.Model rule offset)) (Err (faults.Memory e)) h g = absurd g
-  one_evaluation (Err (faults.Test rule offset)) (Ok log) h g =
+  one_evaluation (Err (faults.Model (model_faults.Refused rule offset))) (Err (faults.Model (model_faults.OutOfMemory e))) h g = absurd g
+  one_evaluation (Err (faults.Model (model_faults.Refused rule offset))) (Err (faults.Test (test_faults.OutOfMemory e))) h g = absurd g.1
+  one_evaluation (Err (faults.Model (model_faults.Refused rule offset))) (Err (faults.Memory e)) h g = absurd g
+  one_evaluation (Err (faults.Test (test_faults.Refused rule offset))) (Ok log) h g =
       absurd (no_test_fault log rule offset g h.1)
-  one_evaluation (Err (faults.Test rule offset)) (Err (faults.Model other again)) h g =
+  one_evaluation (Err (faults.Test (test_faults.Refused rule offset))) (Err (faults.Model (model_faults.Refused other again))) h g =
       absurd (no_model other again h.0 g)
-  one_evaluation (Err (faults.Test rule offset)) (Err (faults.Test other again)) h g =
+  one_evaluation (Err (faults.Test (test_faults.Refused rule offset))) (Err (faults.Test (test_faults.Refused other again))) h g =
       let one = test_fault_one rule other offset again h.1 g.1 in
-      λ i. Err (faults.Test (one.0 i) (one.1 i))
-  one_evaluation (Err (faults.Test rule offset)) (Err (faults.Memory e)) h g = absurd g
+      λ i. Err (faults.Test (test_faults.Refused (one.0 i) (one.1 i)))
+  one_evaluation (Err (faults.Test (test_faults.Refused rule offset))) (Err (faults.Model (model_faults.OutOfMemory e))) h g = absurd g
+  one_evaluation (Err (faults.Test (test_faults.Refused rule offset))) (Err (faults.Test (test_faults.OutOfMemory e))) h g = absurd g.1
+  one_evaluation (Err (faults.Test (test_faults.Refused rule offset))) (Err (faults.Memory e)) h g = absurd g
+  one_evaluation (Err (faults.Model (model_faults.OutOfMemory e))) other h g = absurd h
+  one_evaluation (Err (faults.Test (test_faults.OutOfMemory e))) other h g = absurd h.1
   one_evaluation (Err (faults.Memory e)) other h g = absurd h
 
   -- ---- reasons and drawings
@@ -130,21 +140,21 @@ module _ (model test : List ℕ) where
   one_why_refusal asked text other true true h g =
       (refl, λ e. (one_answer text other true true h g).0)
 
-  picture_apart : (drawn : Drawn) (most : ℕ) (text other : List ℕ)
-      → IsPictureOf drawn most model test text → IsEvalAnswer model test other true → ⊥
-  picture_apart drawn most text other h (IsEvaluated e log) = true_is_not e
-  picture_apart drawn most text other h (RefusesModel e rule offset fault line) =
+  picture_apart : (request : DrawRequest) (text other : List ℕ)
+      → IsPictureOf request model test text → IsEvalAnswer model test other true → ⊥
+  picture_apart request text other h (IsEvaluated e log) = true_is_not e
+  picture_apart request text other h (RefusesModel e rule offset fault line) =
       fault.unread (clauses_of h.items.items.items) h.model_read
-  picture_apart drawn most text other h (RefusesTest e rule offset read fault line) =
+  picture_apart request text other h (RefusesTest e rule offset read fault line) =
       fault.unread (content_of h.known) h.test_read
 
-  pub one_picture_refusal : (drawn : Drawn) (most : ℕ)
-      → HasOneRefusalLine (IsPictureAnswer drawn most model test)
-  one_picture_refusal drawn most text other false false h g =
+  pub one_picture_refusal : (request : DrawRequest)
+      → HasOneRefusalLine (IsPictureAnswer request model test)
+  one_picture_refusal request text other false false h g =
       (refl, λ e. absurd (false_is_not e))
-  one_picture_refusal drawn most text other false true h g =
-      absurd (picture_apart drawn most text other h g)
-  one_picture_refusal drawn most text other true false h g =
-      absurd (picture_apart drawn most other text g h)
-  one_picture_refusal drawn most text other true true h g =
+  one_picture_refusal request text other false true h g =
+      absurd (picture_apart request text other h g)
+  one_picture_refusal request text other true false h g =
+      absurd (picture_apart request other text g h)
+  one_picture_refusal request text other true true h g =
       (refl, λ e. (one_answer text other true true h g).0)

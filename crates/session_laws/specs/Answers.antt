@@ -23,10 +23,10 @@ HasOneAnswer model test =
 -- offset of the first text that is refused
 abbrev pub IsEvalResult : (model test : List ℕ) → Result (List ℕ) EvalFault → Type 0
 IsEvalResult model test (Ok log) = IsEvalLog model test log
-IsEvalResult model test (Err (eval_faults.Model rule offset)) =
-    IsEvalRefusal model test (eval_faults.Model rule offset)
-IsEvalResult model test (Err (eval_faults.Test rule offset)) =
-    IsEvalRefusal model test (eval_faults.Test rule offset)
+IsEvalResult model test (Err (eval_faults.Model fault)) =
+    IsEvalRefusal model test (eval_faults.Model fault)
+IsEvalResult model test (Err (eval_faults.Test fault)) =
+    IsEvalRefusal model test (eval_faults.Test fault)
 IsEvalResult model test (Err (eval_faults.Memory e)) = ⊥
 
 -- evaluating the two texts gives one of these
@@ -49,12 +49,12 @@ LeaveOne is_left =
     (new other : Option (List ℕ)) (refused also : Bool)
     → is_left new (Ok refused) → is_left other (Ok also) → (new ≡ other) × (refused ≡ also)
 
--- an answer whose write failed leaves a front of what an answer that is written in full leaves
+-- an answer whose write failed leaves a prefix of what an answer that is written in full leaves
 abbrev pub LeavePrefixes : (Option (List ℕ) → Result Bool SessionFault → Type 0) → Type 0
 LeavePrefixes is_left =
     (new other : Option (List ℕ)) (refused : Bool)
     → is_left new (Err session_faults.Write) → is_left other (Ok refused)
-    → (front rest : List ℕ) × (new ≡ Some front) × (other ≡ Some (front ++ rest))
+    → (prefix rest : List ℕ) × (new ≡ Some prefix) × (other ≡ Some (prefix ++ rest))
 
 -- ---- files
 

@@ -7,7 +7,8 @@
 ghost use Rattle.std.specs.Prelude.{ℕ, List, [], Some};
 ghost use Rattle.text_values.specs.TestValue.{Content};
 ghost use Rattle.bench_texts.specs.BenchTexts.{PlainModel, BenchTexts};
-ghost use Rattle.command_line.specs.declared.form.Drawn.{Drawn};
+ghost use Rattle.bench_texts.specs.Edits.{Edit};
+ghost use Rattle.why_forbidden.specs.declared.drawing.DrawRequest.{DrawRequest};
 ghost use Rattle.command_answers.specs.Answer.{IsEvalWritten, IsStreamed};
 ghost use Rattle.command_answers.specs.Pictures.{IsPictureAnswer};
 ghost use Rattle.command_answers.specs.Reports.{IsTableReport, IsDifferenceReport, IsModelTold, IsTestTold, IsToldOf};
@@ -17,11 +18,16 @@ ghost use Rattle.why_forbidden.specs.declared.answer.Asked.{Asked};
 ghost use Rattle.session_edits.specs.declared.request.Question.{Question};
 ghost use Rattle.session_script.specs.declared.command.Command.{Command};
 ghost use Rattle.session_laws.specs.Answers.{HasOneAnswer, HasOneEvaluation, HasOneRefusalLine, LeaveOne, LeavePrefixes, HasOneReport, HasOneTelling, HasOneTellingOfBoth};
-ghost use Rattle.session_laws.specs.Laws.{HasOnePlainOutcome, HasOneReply, HasOneOutput, BeginsAlike};
+ghost use Rattle.session_laws.specs.Laws.{AreFew, HasOneVerdict, HasOnePlainOutcome, HasOneReply, HasOneOutput, BeginsAlike};
 
 /// A test has one outcome under a model, wherever the two lie in memory.
 pub fn outcomes_are_one()
     ensures { (test : Content) (model : PlainModel) → HasOnePlainOutcome test model }
+{}
+
+/// An edit of texts is accepted, and makes one thing of them, or it is refused, for one reason.
+pub fn edits_are_one()
+    ensures { (texts : BenchTexts) (edit : Edit) → AreFew texts.tests → HasOneVerdict texts edit }
 {}
 
 /// Over the same texts a question has one answer: the bytes, and whether it is refused.
@@ -34,7 +40,7 @@ pub fn outputs_are_one()
     ensures { (commands : List Command) → HasOneOutput commands }
 {}
 
-/// What is written of the first commands is a front of what is written of all.
+/// What is written of the first commands is a prefix of what is written of all.
 pub fn outputs_begin_alike()
     ensures { (first others : List Command) → BeginsAlike first others }
 {}
@@ -51,18 +57,18 @@ pub fn answers_are_one()
 pub fn refusals_are_one()
     ensures why { (asked : Asked) (model test : List ℕ)
         → HasOneRefusalLine (IsWhyAnswer asked model test) }
-    ensures draw { (drawn : Drawn) (most : ℕ) (model test : List ℕ)
-        → HasOneRefusalLine (IsPictureAnswer drawn most model test) }
+    ensures draw { (request : DrawRequest) (model test : List ℕ)
+        → HasOneRefusalLine (IsPictureAnswer request model test) }
 {}
 
 /// What `write_answer` writes of two texts, and `eval_stream` of an input, behind the bytes that
-/// stand there, is one where all of it is written. Where a write fails it is a front of that.
+/// stand there, is one where all of it is written. Where a write fails it is a prefix of that.
 pub fn writings_are_one()
     ensures texts { (model test old : List ℕ) → LeaveOne (IsEvalWritten model test (Some old)) }
     ensures stream { (input old : List ℕ) → LeaveOne (IsStreamed (Some input) (Some old)) }
-    ensures texts_front { (model test old : List ℕ)
+    ensures texts_prefix { (model test old : List ℕ)
         → LeavePrefixes (IsEvalWritten model test (Some old)) }
-    ensures stream_front { (input old : List ℕ)
+    ensures stream_prefix { (input old : List ℕ)
         → LeavePrefixes (IsStreamed (Some input) (Some old)) }
 {}
 

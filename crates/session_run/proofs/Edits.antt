@@ -1,12 +1,11 @@
 -- An edit of own texts, by whether it is refused.
 use Rattle.std.proofs.Common.{◌≡◌, ℕ, ◌<◌, ◌-◌, ◌+◌, ◌^◌, arith, List, [], true, false, ap, sym, subst, ◌∙◌}
-use Rattle.bench_texts.specs.BenchTexts.{BenchTexts}
+use Rattle.bench_texts.specs.BenchTexts.{BenchTexts, no_texts}
 use Rattle.bench_texts.specs.declared.edit.Edit as code
 use Rattle.bench_texts.specs.Edits.{Edit, Applies, edit_of}
 use Rattle.session_edits.specs.Answer.{SessionAnswer}
 use Rattle.session_edits.specs.Edits.{IsEditAnswer, IsAccepted, IsRefused}
 use Rattle.board.specs.declared.operation.BoardOp.{BoardOp}
-use Rattle.board.specs.Histories.{no_contents}
 use Rattle.session_views.specs.Knowing.{KnowsOwn, KnowsTexts, HasOwnEdit}
 
 -- an edit that is accepted makes them
@@ -28,8 +27,8 @@ EditsAreKnown t =
     → KnowsOwn seen made t → HasOwnEdit e number seen later → Applies t false (edit_of e) new
     → KnowsOwn later (made + 1) new
 
-pub knows_texts : (seen : List BoardOp) (t : BenchTexts) → KnowsOwn [] 0 no_contents → seen ≡ []
-    → t ≡ no_contents → KnowsOwn seen 0 t
+pub knows_texts : (seen : List BoardOp) (t : BenchTexts) → KnowsOwn [] 0 no_texts → seen ≡ []
+    → t ≡ no_texts → KnowsOwn seen 0 t
 knows_texts seen t k nothing none =
     subst (λ (l : List BoardOp). KnowsOwn l 0 t) (sym nothing)
     (subst (λ (x : BenchTexts). KnowsOwn [] 0 x) (sym none) k)

@@ -5,8 +5,8 @@ use Rattle.std.specs.Io.KnownBytes.{prepend_known, Keeps, Appends}
 use Rattle.session_script.specs.declared.command.Command.{Command}
 use Rattle.session_script.specs.Commands.{commands_of}
 use Rattle.session_script.specs.Reading.{IsNextCommand, IsPaid}
-use Rattle.bench_texts.specs.BenchTexts.{BenchTexts}
-use Rattle.session_answers.specs.Sessions.{IsOutput, Nothing, OneMore, no_texts}
+use Rattle.bench_texts.specs.BenchTexts.{BenchTexts, no_texts}
+use Rattle.session_answers.specs.Sessions.{IsOutput, Nothing, OneMore}
 use Rattle.command_line.specs.declared.fault.SessionFault.{SessionFault}
 use Rattle.command_line.specs.declared.fault.SessionFault.TheVariants as faults
 use Rattle.session_edits.specs.Answer.{SessionAnswer}

@@ -3,6 +3,7 @@
 ghost use Rattle.std.specs.Prelude.{◌≡◌, IfOk, IfErr, IfSome, OnOk};
 ghost use mathlib.Core.List.{IsPrefix};
 ghost use Rattle.bench_texts.specs.Held.{texts_of};
+ghost use Rattle.board.specs.Edits.{edit_count};
 ghost use Rattle.board.specs.Legal.{IsLegal};
 ghost use Rattle.session_answers.specs.Questions.{IsReply};
 ghost use Rattle.session_run.specs.Faults.{IsOwnFault};
@@ -13,10 +14,9 @@ use crate::jobs::run_some;
 use crate::state::Session;
 use bench_instance::{RunningDesk, StampedTexts, edit_count_in, newest_view};
 use bench_texts::Texts;
-use command_answers::{ProgressListener, SessionFault};
+use command_answers::{Progress, ProgressListener, SessionFault};
 use core::mem::replace_with;
-use desk::{Refusals, Settling};
-use desk_history::{Naming, View, Viewer};
+use desk::{Naming, Refusals, Settling, View, Viewer};
 use session_edits::{Answer, Question};
 use session_views::laws::{later_is_known, own_texts_are_shown};
 use session_views::{answer_from_board, board_progress};
@@ -56,6 +56,7 @@ fn answer_in<J: Naming>(
     requires legal { IsLegal view.now }
     requires ready { KnowsTexts view.now made (texts_of texts.now) }
     ensures reply { IfOk result (λ r. IfSome r (IsReply (texts_of texts.now) question.now)) }
+    ensures own { IfOk result (λ r. IfSome r (λ answer. edit_count view.now ≡ made)) }
     ensures fault { IfErr result IsOwnFault }
 {
     own_texts_are_shown();
@@ -68,20 +69,24 @@ fn answer_in<J: Naming>(
     }
 }
 
-// Tells a listener how far a table is, where it is due and there is no answer.
-fn tell_progress<J: Naming, L: ProgressListener>(
+// How far a table is, where a listener is to hear it now and there is no answer.
+fn due_progress<J: Naming, L: ProgressListener>(
     answer: &Result<Option<Answer>, SessionFault>,
     view: &View<J, StampedTexts>,
     texts: &Texts,
     question: &Question,
     listener: &mut L,
-) {
-    if let Ok(None) = answer {
-        if listener.is_due() {
-            if let Some(progress) = board_progress(texts, view.board(), question) {
-                listener.hear_progress(progress);
-            }
-        }
+) -> Option<Progress> {
+    match answer {
+        Ok(None) if listener.is_due() => board_progress(texts, view.board(), question),
+        _ => None,
+    }
+}
+
+// Tells a listener how far a table is. This may wait for a terminal, so no view is held then.
+fn tell_progress<L: ProgressListener>(progress: Option<Progress>, listener: &mut L) {
+    if let Some(progress) = progress {
+        listener.hear_progress(progress);
     }
 }
 
@@ -96,7 +101,7 @@ struct Looking<'q, L> {
 }
 
 // Looks at the board that was published last. The viewer comes back, and has seen the operations of
-// that board.
+// that board. The listener hears behind the view, which would hold up publishing.
 fn look_at<'q, J: Naming, L: ProgressListener>(
     viewer: Viewer<J, StampedTexts>,
     looking: Looking<'q, L>,
@@ -108,6 +113,8 @@ fn look_at<'q, J: Naming, L: ProgressListener>(
     ensures begins { IsPrefix viewer result.0 }
     ensures reply { IfOk result.1 (λ r.
         IfSome r (IsReply (texts_of looking.entry.texts.now) looking.entry.question.now)) }
+    ensures own { IfOk result.1 (λ r.
+        IfSome r (λ answer. edit_count result.0 ≡ looking.entry.made)) }
     ensures fault { IfErr result.1 IsOwnFault }
 {
     let Looking {
@@ -121,8 +128,10 @@ fn look_at<'q, J: Naming, L: ProgressListener>(
     match newest_view(viewer) {
         Ok(view) => {
             let answer = answer_in(alloc, &view, texts, made, question);
-            tell_progress(&answer, &view, texts, question, listener);
-            (view.leave(), answer)
+            let progress = due_progress(&answer, &view, texts, question, listener);
+            let viewer = view.leave();
+            tell_progress(progress, listener);
+            (viewer, answer)
         }
         Err(viewer) => (viewer, Err(SessionFault::Memory)),
     }
@@ -140,6 +149,9 @@ fn look<J: Naming, L: ProgressListener>(
     ensures ready { KnowsTexts session.new.viewer session.new.made (texts_of session.new.texts) }
     ensures reply { IfOk result (λ r.
         IfSome r (IsReply (texts_of session.old.texts) question.now)) }
+    // An answer comes only from a view with as many edits as the session made.
+    ensures own { IfOk result (λ r.
+        IfSome r (λ answer. edit_count session.new.viewer ≡ session.new.made)) }
     ensures fault { IfErr result IsOwnFault }
 {
     later_is_known();
@@ -153,8 +165,8 @@ fn look<J: Naming, L: ProgressListener>(
     replace_with(&mut session.viewer, looking, look_at)
 }
 
-// Goes on where a cell was open: runs jobs, or waits for a change where workers run them. A board
-// of which each cell is settled shows the answer.
+// Goes on where a cell was open: runs jobs, or waits for a change where workers run them; either
+// ends a row of refusals. A board of which each cell is settled shows the answer.
 fn go_on<J: Naming + StoreName, R: Wait + Drop, W: Wait>(
     rt: &W,
     alloc: Global,
@@ -168,10 +180,11 @@ fn go_on<J: Naming + StoreName, R: Wait + Drop, W: Wait>(
     let is_refused = match settling {
         Settling::Done => return Err(SessionFault::Shared),
         Settling::Waits(changes) => {
-            if !has_workers {
-                return run_some(rt, alloc, desk);
+            if has_workers {
+                desk.wait_past(rt, changes);
+            } else {
+                run_some(rt, alloc, desk)?;
             }
-            desk.wait_past(rt, changes);
             false
         }
         Settling::Refused => true,
@@ -198,6 +211,7 @@ pub(crate) fn ask<J: Naming + StoreName, R: Wait + Drop, W: Wait, L: ProgressLis
     ensures ready { OnOk result (KnowsTexts session.new.viewer session.new.made
         (texts_of session.new.texts)) }
     ensures reply { IfOk result (IsReply (texts_of session.old.texts) question.now) }
+    ensures own { IfOk result (λ answer. edit_count session.new.viewer ≡ session.new.made) }
     ensures fault { IfErr result IsOwnFault }
 {
     let mut refusals = Refusals::new();

@@ -4,18 +4,21 @@ ghost use Rattle.std.specs.Prelude.{◌≡◌, ◌≢◌, ◌+◌, ◌-◌, ◌<
 ghost use Rattle.std.specs.Io.KnownBytes.{Appends};
 ghost use Rattle.session_script.specs.Reading.{left_to, turns_of, work_of, IsNextCommand, IsPaid};
 ghost use Rattle.bench_texts.specs.Held.{texts_of};
-ghost use Rattle.session_answers.specs.Sessions.{no_texts};
+ghost use Rattle.bench_texts.specs.BenchTexts.{no_texts};
 ghost use Rattle.command_answers.specs.Answer.{AreReadsCounted, AreWritesCounted};
 ghost use Rattle.session_script.specs.Written.{WritesPrefix};
 ghost use Rattle.session_views.specs.Knowing.{KnowsTexts};
 ghost use Rattle.session_run.specs.Sessions.{IsSession, IsReplied, IsReplyStopped, IsTurnFault};
 
+use crate::blamed::blamed_word;
 use crate::reply::reply;
 use crate::state::Session;
 use bench_instance::RunningDesk;
 use bench_texts::Texts;
-use command_answers::{AnswerListener, ByteSink, ByteSource, ReadFault, SessionFault};
-use desk_history::Naming;
+use command_answers::{
+    AnswerListener, ByteSink, ByteSource, HeardCommand, ReadFault, SessionFault,
+};
+use desk::Naming;
 use session_edits::Answer;
 use session_script::{Command, Request, ScriptReader, ScriptText};
 use std::alloc::{AllocError, Global};
@@ -47,9 +50,12 @@ fn read_command<S: ByteSource>(
     }
 }
 
-/// What is kept of a command for a listener: its text, and the model that it puts or changes.
+/// What is kept of a command for a listener: its line, what of it is at fault if it is refused for
+/// that, its text, and the model that it puts or changes.
 #[derive(Drop)]
 struct Heard {
+    line: u64,
+    blamed: Vec<u8>,
     text: Vec<u8>,
     model: Option<ScriptText>,
 }
@@ -65,13 +71,23 @@ fn changed_model(alloc: Global, request: &Request) -> Result<Option<ScriptText>,
     }
 }
 
-fn heard_of(alloc: Global, command: &Command) -> Result<Heard, AllocError> {
+fn heard_of(
+    alloc: Global,
+    texts: &Texts,
+    script: &ScriptReader,
+    command: &Command,
+) -> Result<Heard, AllocError> {
+    let line = script.command_line();
     match command {
         Command::Asked { request, text } => Ok(Heard {
+            line,
+            blamed: blamed_word(alloc, texts, request)?,
             text: Vec::from_slice(alloc, text.as_bytes())?,
             model: changed_model(alloc, request)?,
         }),
         Command::Refused(_) => Ok(Heard {
+            line,
+            blamed: Vec::from_slice(alloc, script.command_words())?,
             text: Vec::new(alloc),
             model: None,
         }),
@@ -97,7 +113,7 @@ fn tell_model<L: AnswerListener>(
 
 // Writes an answer, of which a listener then hears.
 fn write_answer<K: ByteSink, L: AnswerListener>(
-    text: &[u8],
+    heard: &Heard,
     answer: &Answer,
     sink: &mut K,
     listener: &mut L,
@@ -112,7 +128,12 @@ fn write_answer<K: ByteSink, L: AnswerListener>(
     if answer.write_to(sink).is_err() {
         return Err(SessionFault::Write);
     }
-    listener.hear(text, answer.text());
+    let command = HeardCommand {
+        line: heard.line,
+        blamed: &heard.blamed,
+        text: &heard.text,
+    };
+    listener.hear(command, answer.text());
     Ok(())
 }
 
@@ -123,6 +144,7 @@ fn write_reply<J: Naming + StoreName, R: Wait + Drop, W: Wait, K: ByteSink, L: A
     desk: &RunningDesk<J, R>,
     session: &mut Session<J>,
     has_workers: bool,
+    script: &ScriptReader,
     command: Command,
     sink: &mut K,
     listener: &mut L,
@@ -138,12 +160,12 @@ fn write_reply<J: Naming + StoreName, R: Wait + Drop, W: Wait, K: ByteSink, L: A
     ensures calls { AreWritesCounted (K.failed_calls sink.old) (K.failed_calls sink.new) result }
     ensures fault { result ≢ Err SessionFault.Read }
 {
-    let heard = match heard_of(alloc, &command) {
+    let heard = match heard_of(alloc, &session.texts, script, &command) {
         Ok(heard) => heard,
         Err(_) => return Err(SessionFault::Memory),
     };
     let answer = reply(rt, alloc, desk, session, has_workers, command, listener)?;
-    write_answer(&heard.text, &answer, sink, listener)?;
+    write_answer(&heard, &answer, sink, listener)?;
     tell_model(&session.texts, &heard.model, &answer, listener);
     Ok(answer)
 }
@@ -191,6 +213,7 @@ pub(crate) fn answer_commands<
                     desk,
                     &mut session,
                     has_workers,
+                    &script,
                     command,
                     sink,
                     listener,

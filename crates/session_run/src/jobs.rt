@@ -7,7 +7,7 @@ use crate::fault::fault_of;
 use bench_instance::{RunningDesk, StampedTexts};
 use cells::job::Job;
 use command_answers::SessionFault;
-use desk_history::Naming;
+use desk::Naming;
 use std::alloc::Global;
 use std::sync::Wait;
 use value_store::StoreName;

@@ -4,6 +4,7 @@
 #![tactic(auto)]
 
 mod asking;
+mod blamed;
 mod commands;
 mod editing;
 mod fault;
@@ -12,4 +13,4 @@ mod reply;
 mod running;
 mod state;
 
-pub use running::session;
+pub use running::{session, session_heard};

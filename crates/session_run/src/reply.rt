@@ -12,8 +12,8 @@ use crate::editing::make_edit;
 use crate::state::Session;
 use bench_instance::RunningDesk;
 use command_answers::{AnswerListener, SessionFault};
-use desk_history::Naming;
-use session_edits::{Answer, Asked, asked_in, refused_by};
+use desk::Naming;
+use session_edits::{Answer, Asked, refused_by, request_meaning};
 use session_script::Command;
 use std::alloc::Global;
 use std::sync::Wait;
@@ -75,7 +75,7 @@ pub(crate) fn reply<J: Naming + StoreName, R: Wait + Drop, W: Wait, L: AnswerLis
                 desk,
                 session,
                 has_workers,
-                asked_in(request, text),
+                request_meaning(request, text),
                 listener,
             )
         }

@@ -6,10 +6,10 @@ ghost use Rattle.session_run.specs.Sessions.{IsSession};
 
 use crate::commands::answer_commands;
 use crate::state::Session;
-use bench_instance::{DeskSeed, RunningDesk};
+use bench_instance::StampedTexts;
 use bench_workers::{Gate, MOST_WORKERS, hire_crew};
-use command_answers::{AnswerListener, ByteSink, ByteSource, SessionFault};
-use desk_history::Naming;
+use command_answers::{AnswerListener, ByteSink, ByteSource, NoListener, SessionFault};
+use desk::{Desk, DeskSeed, Naming, OpenedDesk};
 use std::marker::Brand;
 use std::sync::{Arc, Wait};
 use std::thread::Threads;
@@ -20,25 +20,25 @@ fn count_of(workers: u64) -> u32 {
     workers.min(MOST_WORKERS as u64) as u32
 }
 
-// A session over a desk of its own, which is opened by this seed.
-fn session_from<J, R, S, K, L, G>(
+// A session over a desk of its own, which is named here.
+fn session_from<J, R, S, K, G, L>(
     rt: &R,
-    seed: DeskSeed,
+    opened: OpenedDesk<StampedTexts>,
     source: &mut S,
     sink: &mut K,
-    listener: &mut L,
     workers: u64,
-    gate: G,
+    gate: &G,
+    listener: &mut L,
 ) -> Result<bool, SessionFault>
 where
     J: Naming + StoreName + Send + Sync + 'static,
     R: AllocGlobal + Wait + Threads + Copy + Drop + Send + Sync + 'static,
     S: ByteSource,
     K: ByteSink,
+    G: Gate + Clone + Drop + Send + Sync + 'static,
     L: AnswerListener,
-    G: Gate + Drop + Send + Sync + 'static,
-    requires book { seed.book.seen.book ≡ J.book }
-    requires values { seed.values.values ≡ J.shelves }
+    requires book { opened.book.seen.book ≡ J.book }
+    requires values { opened.values.values ≡ J.shelves }
     requires source { S.failed_calls source.old < 2 ^ 64 - 1 }
     requires sink { K.failed_calls sink.old < 2 ^ 64 - 1 }
     ensures written { IsSession (S.remaining source.old) (K.contents sink.old) (K.contents sink.new)
@@ -48,16 +48,19 @@ where
     ensures writes { AreWritesCounted (K.failed_calls sink.old) (K.failed_calls sink.new) result }
 {
     let alloc = rt.alloc();
-    let Ok(desk) = seed.desk::<J, R, R>(rt, alloc, *rt) else {
+    let Ok(seed) = DeskSeed::<J, StampedTexts, R>::new(rt, alloc, opened) else {
         return Err(SessionFault::Memory);
     };
-    let Ok(desk) = Arc::new(alloc, desk) else {
+    let Ok(desk) = Arc::new(alloc, Desk::new(seed)) else {
         return Err(SessionFault::Memory);
     };
     let Ok(viewer) = desk.viewer(rt) else {
         return Err(SessionFault::Memory);
     };
     let session = Session::new(alloc, viewer);
+    let Ok(gate) = gate.clone() else {
+        return Err(SessionFault::Memory);
+    };
     let Ok(crew) = hire_crew(rt, alloc, &desk, gate, count_of(workers)) else {
         return Err(SessionFault::Memory);
     };
@@ -71,35 +74,26 @@ where
         sink,
         listener,
     );
-    let _tally = crew.dismiss(rt);
+    crew.leave(rt);
     answered
 }
 
-/// Answers the commands of a script one after another, each by one write as soon as its last line
-/// feed is read. Whether a command was refused. So many workers, at most 32, compute the open cells
-/// of all tests and models from each edit on. Where there are none the session runs jobs itself
-/// while a question waits for its cells, and these may be jobs of other cells. What is computed is
-/// kept for later questions. The bytes are the same for each number of workers, unless the jobs
-/// fill the store of values. Errors: `Read` where a read failed or the script did not end within
-/// 16,777,216 reads that gave bytes, `Write`, `Memory`, or `Shared` where the desk is not the
-/// session's alone; what was written by then is the output of the first commands, and of the next
-/// answer a front where a write failed. A listener hears of each answer behind its write and of
-/// each model that is put or changed, and how far a table is while cells of it are open; a gate
-/// hears of each job of a worker.
-pub fn session<R, S, K, L, G>(
+/// What `session` does. A listener hears of each answer behind its write and of each model that is
+/// put or changed, and how far a table is while cells of it are open.
+pub fn session_heard<R, S, K, G, L>(
     rt: &R,
     source: &mut S,
     sink: &mut K,
-    listener: &mut L,
     workers: u64,
-    gate: G,
+    gate: &G,
+    listener: &mut L,
 ) -> Result<bool, SessionFault>
 where
     R: AllocGlobal + Wait + Threads + Copy + Drop + Send + Sync + 'static,
     S: ByteSource,
     K: ByteSink,
+    G: Gate + Clone + Drop + Send + Sync + 'static,
     L: AnswerListener,
-    G: Gate + Drop + Send + Sync + 'static,
     requires source { S.failed_calls source.old < 2 ^ 64 - 1 }
     requires sink { K.failed_calls sink.old < 2 ^ 64 - 1 }
     // The output of the script is written, or that of its first commands, with a front of the next
@@ -112,8 +106,46 @@ where
         (S.remaining source.old) result }
     ensures writes { AreWritesCounted (K.failed_calls sink.old) (K.failed_calls sink.new) result }
 {
-    let Ok(seed) = DeskSeed::new(rt.alloc()) else {
+    let Ok(opened) = OpenedDesk::new(rt.alloc()) else {
         return Err(SessionFault::Memory);
     };
-    session_from::<Brand, R, S, K, L, G>(rt, seed, source, sink, listener, workers, gate)
+    session_from::<Brand, R, S, K, G, L>(rt, opened, source, sink, workers, gate, listener)
+}
+
+/// Answers the commands of a script one after another, each by one write as soon as its last line
+/// feed is read. Whether a command was refused. So many workers, at most 32, compute the open cells
+/// of all tests and models from each edit on. Where there are none the session runs jobs itself
+/// while a question waits for its cells, and these may be jobs of other cells. What is computed is
+/// kept for later questions. Where the script has ended no job is waited for: a worker ends with
+/// the job that it is at, or is cut off where the program ends first. The bytes are the same for
+/// each number of workers, unless the jobs fill the store of values. Errors: `Read` where a read
+/// failed or the script did not end within 16,777,216 reads that gave bytes, `Write`, `Memory`, or
+/// `Shared` where the desk is not the session's alone; what was written by then is the output of
+/// the first commands, and of the next answer a front where a write failed. A gate hears of each
+/// job of a worker: the workers have a copy of it.
+pub fn session<R, S, K, G>(
+    rt: &R,
+    source: &mut S,
+    sink: &mut K,
+    workers: u64,
+    gate: &G,
+) -> Result<bool, SessionFault>
+where
+    R: AllocGlobal + Wait + Threads + Copy + Drop + Send + Sync + 'static,
+    S: ByteSource,
+    K: ByteSink,
+    G: Gate + Clone + Drop + Send + Sync + 'static,
+    requires source { S.failed_calls source.old < 2 ^ 64 - 1 }
+    requires sink { K.failed_calls sink.old < 2 ^ 64 - 1 }
+    // The output of the script is written, or that of its first commands, with a front of the next
+    // answer after `Write`.
+    ensures written { IsSession (S.remaining source.old) (K.contents sink.old) (K.contents sink.new)
+        result }
+    // `Read` comes after one failed read, or where the script has so many bytes that it is taken
+    // for one that does not end; `Write` comes after one failed write, and all else after none.
+    ensures reads { AreReadsCounted (S.failed_calls source.old) (S.failed_calls source.new)
+        (S.remaining source.old) result }
+    ensures writes { AreWritesCounted (K.failed_calls sink.old) (K.failed_calls sink.new) result }
+{
+    session_heard(rt, source, sink, workers, gate, &mut NoListener)
 }

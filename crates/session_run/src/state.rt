@@ -2,12 +2,12 @@
 
 ghost use Rattle.std.specs.Prelude.{◌≡◌, []};
 ghost use Rattle.bench_texts.specs.Held.{texts_of};
-ghost use Rattle.session_answers.specs.Sessions.{no_texts};
+ghost use Rattle.bench_texts.specs.BenchTexts.{no_texts};
 ghost use Rattle.session_views.specs.Knowing.{KnowsTexts};
 
 use bench_instance::StampedTexts;
 use bench_texts::Texts;
-use desk_history::{Naming, Viewer};
+use desk::{Naming, Viewer};
 use session_views::laws::nothing_is_known;
 use std::alloc::Global;
 

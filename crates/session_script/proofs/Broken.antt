@@ -43,19 +43,19 @@ pub unbroken_joined : (a b : List ℕ) → IsUnbroken a → IsUnbroken b → IsU
 unbroken_joined [] b h k = k
 unbroken_joined (x ∷ xs) b h k = (h.0, unbroken_joined xs b h.1 k)
 
-unbroken_front : (bs : List ℕ) (n : ℕ) → ((k : ℕ) → k < n → is_line_end (get_or bs k 0) ≡ false)
+unbroken_prefix : (bs : List ℕ) (n : ℕ) → ((k : ℕ) → k < n → is_line_end (get_or bs k 0) ≡ false)
     → IsUnbroken (take n bs)
-unbroken_front [] zero h = tt
-unbroken_front [] (suc n) h = tt
-unbroken_front (b ∷ bs) zero h = tt
-unbroken_front (b ∷ bs) (suc n) h =
-    (h 0 (omega arith), unbroken_front bs n (λ k l. h (suc k) (omega arith)))
+unbroken_prefix [] zero h = tt
+unbroken_prefix [] (suc n) h = tt
+unbroken_prefix (b ∷ bs) zero h = tt
+unbroken_prefix (b ∷ bs) (suc n) h =
+    (h 0 (omega arith), unbroken_prefix bs n (λ k l. h (suc k) (omega arith)))
 
 -- the bytes before the first line feed
 pub unbroken_line : (bs : List ℕ) (n : ℕ) → n ≡ position_or_len is_line_end bs
     → IsUnbroken (take n bs)
 unbroken_line bs n e =
-    unbroken_front bs n (λ k l. fails_before_first is_line_end bs k 0 (omega arith))
+    unbroken_prefix bs n (λ k l. fails_before_first is_line_end bs k 0 (omega arith))
 
 is_ten : (b : ℕ) → is_line_end b ≡ true → b ≡ 10
 is_ten b h = grind (arith, common_steps)

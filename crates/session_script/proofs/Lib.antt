@@ -1,5 +1,5 @@
 pub mod Broken
-pub mod Fronts
+pub mod Prefixes
 pub mod Joined
 pub mod Parted
 pub mod Steps

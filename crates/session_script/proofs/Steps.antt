@@ -9,7 +9,7 @@ use Rattle.std.proofs.lemmas.List.{take_all, length-drop, drop-drop, append-nil}
 use Rattle.text_values.specs.Layout.{is_line_end}
 use Rattle.session_script.specs.Lines.{lines_of, IsUnbroken, without_return}
 use Rattle.session_script.specs.Reading.{IsPart, IsPaid, IsNextLine, HasText, IsCommandOfWords, IsNextCommand}
-use Rattle.session_script.specs.Commands.{commands_from, commands_of, Between, Within, is_dot, skips, is_skipped, kept_text, said_by, stage_behind}
+use Rattle.session_script.specs.Commands.{commands_from, commands_of, Between, ReadingText, is_dot, skips, is_skipped, kept_text, said_by, stage_behind}
 use Rattle.session_script.specs.Requests.{has_text, request_of}
 use Rattle.session_script.specs.Words.{words_of}
 use Rattle.session_script.specs.declared.command.Command.{Command}
@@ -18,7 +18,7 @@ use Rattle.session_script.specs.declared.command.ScriptRule.TheVariants.{NoComma
 use Rattle.session_script.specs.declared.request.Request.{Request}
 use Rattle.session_script.specs.declared.source.ReadFault.{ReadFault}
 use Rattle.session_script.proofs.Broken.{ended_line, last_line, unbroken_joined, unbroken_line, cut_at_end}
-use Rattle.session_script.proofs.Fronts.{front_of_front}
+use Rattle.session_script.proofs.Prefixes.{prefix_of_prefix}
 
 -- ---- parts of a line
 
@@ -30,7 +30,7 @@ pub part_ends : (items its more before line : List ℕ) (start n : ℕ) → its 
     → n < length (take (length its - start) (drop start its))
     → more ≡ take n (take (length its - start) (drop start its)) → line ≡ before ++ more
     → IsPart true (drop start items) (drop (start + n + 1) items) before line
-part_ends items its more before line start n same at inside front put =
+part_ends items its more before line start n same at inside prefix put =
     let part = take (length its - start) (drop start its) in
     let whole : part ≡ drop start items = rest its start ∙ ap (λ (l : List ℕ). drop start l) same in
     let cut : part ≡ take n part ++ 10 ∷ drop (suc n) part = cut_at_end part n at inside in
@@ -39,9 +39,9 @@ part_ends items its more before line start n same at inside front put =
     ap (λ (l : List ℕ). drop (suc n) l) whole ∙ drop-drop (suc n) start items
     ∙ ap (λ (k : ℕ). drop k items) next in (
       more,
-      subst IsUnbroken (sym front) (unbroken_line part n at),
+      subst IsUnbroken (sym prefix) (unbroken_line part n at),
       put,
-      sym whole ∙ cut ∙ ap (λ (l : List ℕ). l ++ 10 ∷ drop (suc n) part) (sym front)
+      sym whole ∙ cut ∙ ap (λ (l : List ℕ). l ++ 10 ∷ drop (suc n) part) (sym prefix)
           ∙ ap (λ (l : List ℕ). more ++ 10 ∷ l) behind,
     )
 
@@ -56,15 +56,15 @@ pub part_goes_on : (items its more before line : List ℕ) (start n : ℕ) → s
     → length (take (length its - start) (drop start its)) ≤ n
     → more ≡ take n (take (length its - start) (drop start its)) → line ≡ before ++ more
     → IsPart false (drop start items) (drop (start + n) items) before line
-part_goes_on items its more before line start n within same at all_of front put =
+part_goes_on items its more before line start n within same at all_of prefix put =
     let part = take (length its - start) (drop start its) in
     let whole : part ≡ drop start items = rest its start ∙ ap (λ (l : List ℕ). drop start l) same in
     let size : length part ≡ length items - start = ap (λ (l : List ℕ). length l) whole ∙ length-drop start items in
     let all_taken : take n part ≡ part = take_all n part all_of in (
       more,
-      subst IsUnbroken (sym front) (unbroken_line part n at),
+      subst IsUnbroken (sym prefix) (unbroken_line part n at),
       put,
-      sym whole ∙ sym all_taken ∙ sym front,
+      sym whole ∙ sym all_taken ∙ sym prefix,
       nothing items (start + n) (omega arith),
     )
 
@@ -162,8 +162,8 @@ InText None now r kept = Unit {0}
 InText (Some first) None r kept = ⊥
 InText (Some first) (Some now) r kept =
     (text : List ℕ) × (kept ≡ kept_text text)
-    × (commands_from (Within r []) (lines_of first)
-    ≡ commands_from (Within r text) (lines_of now))
+    × (commands_from (ReadingText r []) (lines_of first)
+    ≡ commands_from (ReadingText r text) (lines_of now))
 
 none_kept : (kept : List ℕ) → kept ≡ [] → kept ≡ kept_text []
 unfolding kept_text
@@ -175,12 +175,12 @@ text_begins None r kept e = tt
 text_begins (Some bytes) r kept e = ([], none_kept kept e, refl)
 
 text_line : (r : Request) (text line : List ℕ) (lines : List (List ℕ)) → is_dot line ≡ false
-    → commands_from (Within r text) (line ∷ lines)
-    ≡ commands_from (Within r (text ++ line ++ 10 ∷ [])) lines
+    → commands_from (ReadingText r text) (line ∷ lines)
+    ≡ commands_from (ReadingText r (text ++ line ++ 10 ∷ [])) lines
 text_line r text line lines e = rw e refl
 
 dot_line : (r : Request) (text line : List ℕ) (lines : List (List ℕ)) → is_dot line ≡ true
-    → commands_from (Within r text) (line ∷ lines)
+    → commands_from (ReadingText r text) (line ∷ lines)
     ≡ Asked r (kept_text text) ∷ commands_from Between lines
 dot_line r text line lines e = rw e refl
 
@@ -188,7 +188,7 @@ kept_at : (most : ℕ) (text line : List ℕ)
     → take most (take most text ++ line ++ 10 ∷ []) ≡ take most (text ++ line ++ 10 ∷ [])
 kept_at most text line =
     ap (λ (l : List ℕ). take most l) (append_assoc (take most text) line (10 ∷ []))
-    ∙ front_of_front most text (line ++ 10 ∷ [])
+    ∙ prefix_of_prefix most text (line ++ 10 ∷ [])
     ∙ ap (λ (l : List ℕ). take most l) (sym (append_assoc text line (10 ∷ [])))
 
 kept_on : (kept text more line : List ℕ) → kept ≡ kept_text text
@@ -206,7 +206,7 @@ text_goes_on (Some first) (Some now) None r kept more line h read e put = absurd
 text_goes_on (Some first) (Some now) (Some next) r kept more line (text, is, same) read e put = (
   text ++ line ++ 10 ∷ [],
   kept_on kept text more line is put,
-  same ∙ ap (λ (ls : List (List ℕ)). commands_from (Within r text) ls) read
+  same ∙ ap (λ (ls : List (List ℕ)). commands_from (ReadingText r text) ls) read
       ∙ text_line r text line (lines_of next) e,
 )
 
@@ -217,7 +217,7 @@ text_ends None now next r kept line h read e = tt
 text_ends (Some first) None next r kept line h read e = absurd h
 text_ends (Some first) (Some now) None r kept line h read e = absurd read
 text_ends (Some first) (Some now) (Some next) r kept line (text, is, same) read e =
-    same ∙ ap (λ (ls : List (List ℕ)). commands_from (Within r text) ls) read
+    same ∙ ap (λ (ls : List (List ℕ)). commands_from (ReadingText r text) ls) read
     ∙ dot_line r text line (lines_of next) e
     ∙ ap (λ (l : List ℕ). Asked r l ∷ commands_of next) (sym is)
 
@@ -234,7 +234,7 @@ text_is_cut_off None now next r kept h read = tt
 text_is_cut_off (Some first) None next r kept h read = absurd h
 text_is_cut_off (Some first) (Some now) None r kept h read = absurd read
 text_is_cut_off (Some first) (Some now) (Some next) r kept (text, is, same) read =
-    same ∙ ap (λ (ls : List (List ℕ)). commands_from (Within r text) ls) read.0
+    same ∙ ap (λ (ls : List (List ℕ)). commands_from (ReadingText r text) ls) read.0
     ∙ ap (λ (ls : List (List ℕ)). Refused NoTextEnd ∷ commands_from Between ls) (sym read.1)
 
 -- ---- commands
@@ -248,7 +248,7 @@ no_command (Some bytes) words e =
 
 text_said : (r : Request) (bytes : List ℕ) → has_text r ≡ true
     → said_by (Some r) ++ commands_from (stage_behind (Some r)) (lines_of bytes)
-    ≡ commands_from (Within r []) (lines_of bytes)
+    ≡ commands_from (ReadingText r []) (lines_of bytes)
 text_said r bytes e = rw e refl
 
 behind_words : (old new : Option (List ℕ)) (words : List (List ℕ)) (r : Request) (c : Command)

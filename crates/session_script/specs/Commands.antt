@@ -22,7 +22,7 @@ is_dot line = is_word line (46 ∷ [])
 -- the lines stand between two commands, or behind so much of the text of a request
 pub data Stage : Type 0 where
   Between : Stage
-  Within : Request → List ℕ → Stage
+  ReadingText : Request → List ℕ → Stage
 
 -- what a line says that is no part of a text,
 abbrev pub said_by : Option Request → List Command
@@ -32,7 +32,7 @@ said_by (Some r) = if has_text r then [] else Asked r [] ∷ []
 -- and where it leads
 abbrev pub stage_behind : Option Request → Stage
 stage_behind None = Between
-stage_behind (Some r) = if has_text r then Within r [] else Between
+stage_behind (Some r) = if has_text r then ReadingText r [] else Between
 
 -- of a text the first 65,537 bytes are kept: with so many it is too long, whatever follows
 unfoldable pub kept_text : List ℕ → List ℕ
@@ -40,14 +40,14 @@ kept_text text = take 65537 text
 
 abbrev pub commands_from : Stage → List (List ℕ) → List Command
 commands_from Between [] = []
-commands_from (Within r text) [] = Refused NoTextEnd ∷ []
+commands_from (ReadingText r text) [] = Refused NoTextEnd ∷ []
 commands_from Between (line ∷ lines) =
     if is_skipped line then commands_from Between lines
     else said_by (request_of (words_of line))
     ++ commands_from (stage_behind (request_of (words_of line))) lines
-commands_from (Within r text) (line ∷ lines) =
+commands_from (ReadingText r text) (line ∷ lines) =
     if is_dot line then Asked r (kept_text text) ∷ commands_from Between lines
-    else commands_from (Within r (text ++ line ++ 10 ∷ [])) lines
+    else commands_from (ReadingText r (text ++ line ++ 10 ∷ [])) lines
 
 -- the commands of a whole script
 abbrev pub commands_of : List ℕ → List Command

@@ -2,7 +2,7 @@
 use Rattle.std.specs.Prelude.{◌≡◌, ℕ, List, [], ◌∷◌, false, ◌==◌, ◌&&◌, if◌then◌else◌, slice_index}
 use Rattle.text_values.specs.Layout.{is_line_end}
 
--- the byte at the front of the first of these
+-- the byte at the beginning of the first of these
 abbrev pub onto_first : ℕ → List (List ℕ) → List (List ℕ)
 onto_first b [] = (b ∷ []) ∷ []
 onto_first b (l ∷ ls) = (b ∷ l) ∷ ls

@@ -7,7 +7,7 @@ use Rattle.session_script.specs.declared.command.ScriptRule.TheVariants.{NoTextE
 use Rattle.session_script.specs.declared.state.ScriptReader.{ScriptReader}
 use Rattle.session_script.specs.declared.request.Request.{Request}
 use Rattle.session_script.specs.Lines.{lines_of, IsUnbroken}
-use Rattle.session_script.specs.Commands.{commands_of, commands_from, Within, said_by, stage_behind}
+use Rattle.session_script.specs.Commands.{commands_of, commands_from, ReadingText, said_by, stage_behind}
 use Rattle.session_script.specs.Requests.{request_of}
 
 -- what is read and not yet used
@@ -55,7 +55,7 @@ abbrev pub HasText : Option (List ℕ) → Option (List ℕ) → Request → Com
 HasText None new r command = Unit {0}
 HasText (Some old) None r command = ⊥
 HasText (Some old) (Some new) r command =
-    commands_from (Within r []) (lines_of old) ≡ command ∷ commands_of new
+    commands_from (ReadingText r []) (lines_of old) ≡ command ∷ commands_of new
 
 -- a request and its text, or its lack of one
 abbrev pub answer_of : Request → Option (List ℕ) → Command

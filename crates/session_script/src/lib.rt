@@ -14,6 +14,6 @@ mod words;
 pub use command::{Command, ScriptRule};
 pub use request::{Names, Request, ScriptText};
 pub use sink::{ByteSink, MemorySink, OfWrite, write_whole};
-pub use source::{ByteSource, CallFailed, MAX_TURNS, MemorySource, OfRead, ReadFault, read_front};
+pub use source::{ByteSource, CallFailed, MAX_TURNS, MemorySource, OfRead, ReadFault, read_prefix};
 pub use state::ScriptReader;
 pub use words::number_of;

@@ -9,9 +9,9 @@ ghost use Rattle.session_script.specs.Reading.{waiting_in, left_to, turns_of, wo
 use crate::command::{Command, ScriptRule};
 use crate::parse::request_of;
 use crate::request::{Request, ScriptText};
-use crate::source::{ByteSource, MAX_TURNS, ReadFault, put_front};
+use crate::source::{ByteSource, MAX_TURNS, ReadFault, put_prefix};
 use crate::state::ScriptReader;
-use crate::words::words_of;
+use crate::words::{joined, words_of};
 use std::alloc::{AllocError, Global};
 use text_values::{byte_at, line_length, put_bytes};
 
@@ -60,8 +60,8 @@ fn put_line(text: &mut Vec<u8>, line: &[u8], most: usize) -> Result<(), AllocErr
     requires { length text.old.items ≤ most }
     ensures { OnOk result (text.new.items ≡ take most (text.old.items ++ line.now ++ 10 ∷ [])) }
 {
-    put_front(text, line, most)?;
-    put_front(text, b"\n", most)
+    put_prefix(text, line, most)?;
+    put_prefix(text, b"\n", most)
 }
 
 impl ScriptReader {
@@ -75,7 +75,20 @@ impl ScriptReader {
             waiting: Vec::new(alloc),
             start: 0,
             turns: MAX_TURNS,
+            lines: 0,
+            command_line: 0,
+            command_words: Vec::new(alloc),
         }
+    }
+
+    /// The number of the line of the last command, from 1.
+    pub fn command_line(&self) -> u64 {
+        self.command_line
+    }
+
+    /// The words of the last command, with a blank between two.
+    pub fn command_words(&self) -> &[u8] {
+        &self.command_words
     }
 
     // Moves what waits of a line to it. Whether the line ends there.
@@ -96,6 +109,7 @@ impl ScriptReader {
         put_bytes(line, &part[..length])?;
         if ends {
             self.start = start + length + 1;
+            self.lines = self.lines.saturating_add(1);
             Ok(true)
         } else {
             self.start = start + length;
@@ -115,12 +129,14 @@ impl ScriptReader {
         Ok(())
     }
 
-    // Nothing waits, and no turn is taken.
+    // The source has ended, and with it a line that lacks its line feed: nothing waits, and no turn
+    // is taken.
     fn keep_nothing(&mut self)
         ensures waiting { waiting_in self.new ≡ [] }
         ensures turns { turns_of self.new ≡ turns_of self.old }
     {
         self.start = self.waiting.len();
+        self.lines = self.lines.saturating_add(1);
     }
 
     // Reads once, where nothing waits. Whether something waits then; a read that gives nothing
@@ -255,6 +271,16 @@ impl ScriptReader {
         }
     }
 
+    // Remembers the line of a command.
+    fn remember(&mut self, words: &[ScriptText]) -> Result<(), AllocError>
+        ensures waiting { waiting_in self.new ≡ waiting_in self.old }
+        ensures turns { turns_of self.new ≡ turns_of self.old }
+    {
+        self.command_line = self.lines;
+        self.command_words = joined(self.alloc, words)?;
+        Ok(())
+    }
+
     // The command that a line with these words begins.
     fn command<S: ByteSource>(
         &mut self,
@@ -276,6 +302,7 @@ impl ScriptReader {
         ensures same { result ≢ Err ReadFault.Read
             → S.failed_calls source.new ≡ S.failed_calls source.old }
     {
+        self.remember(words)?;
         match request_of(self.alloc, words)? {
             None => Ok(Command::Refused(ScriptRule::NoCommand)),
             Some(request) => {

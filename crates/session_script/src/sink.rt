@@ -15,7 +15,7 @@ pub trait ByteSink {
     // How many calls have failed.
     ghost failed_calls: { Self → ℕ };
 
-    /// Writes a front of the bytes, of at least one, and says how many. Errors: the call failed,
+    /// Writes a prefix of the bytes, of at least one, and says how many. Errors: the call failed,
     /// and nothing was written.
     fn write_some(&mut self, bytes: &[u8]) -> Result<usize, CallFailed>
         requires room { failed_calls self.old < 2 ^ 64 - 1 }
@@ -110,11 +110,11 @@ impl ByteSink for MemorySink {
     }
 }
 
-/// Writes all the bytes. After an `Err` the sink holds a front of them.
+/// Writes all the bytes. After an `Err` the sink holds a prefix of them.
 pub fn write_whole<S: ByteSink>(sink: &mut S, bytes: &[u8]) -> Result<(), CallFailed>
     requires { S.failed_calls sink.old < 2 ^ 64 - 1 }
     ensures ok { OnOk result (Appends (S.contents sink.old) (S.contents sink.new) bytes.now) }
-    ensures front { WritesPrefix (S.contents sink.old) (S.contents sink.new) bytes.now }
+    ensures prefix { WritesPrefix (S.contents sink.old) (S.contents sink.new) bytes.now }
     ensures err { OnErr result (S.failed_calls sink.new ≡ S.failed_calls sink.old + 1) }
     ensures same { OnOk result (S.failed_calls sink.new ≡ S.failed_calls sink.old) }
 {

@@ -133,7 +133,7 @@ impl From<AllocError> for ReadFault {
 pub const MAX_TURNS: u32 = 16_777_216;
 
 // The first `most` of these bytes and those behind them.
-pub(crate) fn put_front(bytes: &mut Vec<u8>, more: &[u8], most: usize) -> Result<(), AllocError>
+pub(crate) fn put_prefix(bytes: &mut Vec<u8>, more: &[u8], most: usize) -> Result<(), AllocError>
     requires { length bytes.old.items ≤ most }
     ensures { OnOk result (bytes.new.items ≡ take most (bytes.old.items ++ more.now)) }
 {
@@ -144,7 +144,7 @@ pub(crate) fn put_front(bytes: &mut Vec<u8>, more: &[u8], most: usize) -> Result
 
 /// The first `most` bytes of a source, which is read to its end; the others are not kept. Errors: a
 /// call that failed, a source that has not ended after 16,777,216 calls, or want of memory.
-pub fn read_front<S: ByteSource>(
+pub fn read_prefix<S: ByteSource>(
     alloc: Global,
     source: &mut S,
     most: usize,
@@ -167,7 +167,7 @@ pub fn read_front<S: ByteSource>(
     for _turn in 0..MAX_TURNS {
         match source.read_some(&mut buffer) {
             Ok(0) => return Ok(bytes),
-            Ok(n) => put_front(&mut bytes, &buffer[..n], most)?,
+            Ok(n) => put_prefix(&mut bytes, &buffer[..n], most)?,
             Err(_) => return Err(ReadFault::Read),
         }
     }

@@ -7,7 +7,7 @@ ghost use Rattle.session_script.specs.Words.{is_gap, words_of, with_digit, numbe
 
 use crate::request::ScriptText;
 use std::alloc::{AllocError, Global};
-use text_values::is_digit;
+use text_values::{is_digit, put_bytes};
 
 // Whether the byte parts words.
 #[tactic(auto, unfolding(crate::specs::Words::is_gap))]
@@ -53,6 +53,18 @@ pub(crate) fn words_of(alloc: Global, line: &[u8]) -> Result<Vec<ScriptText>, Al
         }
     }
     Ok(words)
+}
+
+/// These words, with a blank between two. Errors: out of memory.
+pub(crate) fn joined(alloc: Global, words: &[ScriptText]) -> Result<Vec<u8>, AllocError> {
+    let mut line = Vec::new(alloc);
+    for word in words {
+        if !line.is_empty() {
+            line.push(b' ')?;
+        }
+        put_bytes(&mut line, word.as_bytes())?;
+    }
+    Ok(line)
 }
 
 // The number that goes on with this byte, if it is a digit and the number is below 2^64.

@@ -4,7 +4,7 @@ use Rattle.std.specs.Prelude.{fold, false}
 use Rattle.std.proofs.lemmas.Bool.{cases_lt}
 use Rattle.std.proofs.lemmas.List.{append-nil}
 use mathlib.Core.List.{IsPrefix}
-use Rattle.bench_texts.specs.BenchTexts.{BenchTexts}
+use Rattle.bench_texts.specs.BenchTexts.{BenchTexts, no_texts}
 use Rattle.bench_texts.specs.Edits as edits
 use Rattle.bench_texts.specs.Edits.{edit_of}
 use Rattle.bench_texts.specs.declared.edit.Edit as code
@@ -12,7 +12,7 @@ use Rattle.board.specs.declared.operation.BoardOp.{BoardOp}
 use Rattle.board.specs.declared.operation.BoardOp.TheVariants.{Edit, Settle}
 use Rattle.board.specs.Operations.{board_after}
 use Rattle.board.specs.Legal.{IsLegal}
-use Rattle.board.specs.Histories.{no_contents, contents_with, contents_after, IsEditOf}
+use Rattle.board.specs.Histories.{contents_with, contents_after, IsEditOf}
 use Rattle.board.specs.Edits.{counted_with, edits_in, edit_count}
 use Rattle.bench_text_laws.specs.Laws.{HasOneEditResult}
 use Rattle.session_views.specs.Knowing.{KnowsOwn, HasOwnEdit}
@@ -69,11 +69,11 @@ none_made [] t e = refl
 none_made (Edit edit ∷ ops) t e = absurd (not_none (edits_in ops) e)
 none_made (Settle at outcome ∷ ops) t e = none_made ops t e
 
-pub knows_nothing : KnowsOwn [] 0 no_contents
+pub knows_nothing : KnowsOwn [] 0 no_texts
 knows_nothing =
     record {
       all = λ more. zero_least (edits_in more);
-      alone = λ more e. none_made more no_contents e;
+      alone = λ more e. none_made more no_texts e;
     }
 
 knows_more : (seen more : List BoardOp) (made : ℕ) (t : BenchTexts) → KnowsOwn seen made t
@@ -139,7 +139,7 @@ module _ (seen between settles : List BoardOp) (op : BoardOp) (made number : ℕ
       let behind : edits_in (settles ++ more) ≡ 0 = back_alone (edits_in (whole more)) (edits_in front) (edits_in (settles ++ more)) made (count_whole more) (k.all between) same in
       let there : contents_after front ≡ t = k.alone between before in
       let is_there : IsEditOf t op e number = subst (λ (x : BenchTexts). IsEditOf x op e number) there is in
-      fold_joined contents_with no_contents front (op ∷ (settles ++ more))
+      fold_joined contents_with no_texts front (op ∷ (settles ++ more))
       ∙ none_made (settles ++ more) (contents_with (contents_after front) op) behind
       ∙ ap (λ (x : BenchTexts). contents_with x op) there
       ∙ is_made t new op e number one applies is_there

@@ -23,7 +23,7 @@ fn items(alloc: Global, model: Option<AskedModel<'_>>) -> Result<Answer, AllocEr
     ensures { IfOk result (IsItemsReply (option_map asked_model model.entry)) }
 {
     match model {
-        Some(asked) => Ok(Answer::told(asked.model.print_items(alloc)?)),
+        Some(asked) => Ok(Answer::plain(asked.model.print_items(alloc)?)),
         None => refused_edit(alloc, EditFault::NoModel),
     }
 }
@@ -54,7 +54,7 @@ fn log_under(
     match asked_outcome(view.texts, view.board, view.index, test, asked) {
         Some(outcome) => {
             let text = log_text(alloc, test.name.as_bytes(), Shown::Settled(outcome))?;
-            Ok(Some(Answer::told(text)))
+            Ok(Some(Answer::plain(text)))
         }
         None => Ok(None),
     }
@@ -103,7 +103,7 @@ fn counts_under(
     match asked_outcome(view.texts, view.board, view.index, test, asked) {
         Some(outcome) => {
             let text = counts_text(alloc, Shown::Settled(outcome))?;
-            Ok(Some(Answer::told(text)))
+            Ok(Some(Answer::plain(text)))
         }
         None => Ok(None),
     }
@@ -162,7 +162,7 @@ fn table_under(
     match asked_rows(alloc, texts, board, models)? {
         Some(rows) => {
             let names = names_of(alloc, names)?;
-            Ok(Some(Answer::told(table_text(alloc, &names, &rows)?)))
+            Ok(Some(Answer::plain(table_text(alloc, &names, &rows)?)))
         }
         None => Ok(None),
     }
@@ -202,7 +202,7 @@ fn difference_under(
     match asked_rows(alloc, texts, board, models)? {
         Some(rows) => {
             let pairs = row_pairs(alloc, &rows)?;
-            Ok(Some(Answer::told(difference_text(alloc, &pairs)?)))
+            Ok(Some(Answer::plain(difference_text(alloc, &pairs)?)))
         }
         None => Ok(None),
     }

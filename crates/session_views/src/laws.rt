@@ -5,14 +5,13 @@ ghost use mathlib.Core.List.{IsPrefix};
 ghost use Rattle.text_values.specs.TestValue.{Content};
 ghost use Rattle.verdict.specs.declared.answer.Outcome.{Outcome};
 ghost use Rattle.bench_texts.specs.declared.edit.Edit.{Edit as CodeEdit};
-ghost use Rattle.bench_texts.specs.BenchTexts.{BenchTexts, PlainModel};
+ghost use Rattle.bench_texts.specs.BenchTexts.{BenchTexts, PlainModel, no_texts};
 ghost use Rattle.bench_texts.specs.Edits.{Applies, edit_of};
 ghost use Rattle.bench_texts.specs.Held.{texts_of};
 ghost use Rattle.board.specs.declared.operation.BoardOp.{BoardOp};
 ghost use Rattle.board.specs.Contents.{BoardContent, cell_at};
 ghost use Rattle.board.specs.Operations.{board_after};
 ghost use Rattle.board.specs.Legal.{IsLegal};
-ghost use Rattle.board.specs.Histories.{no_contents};
 ghost use Rattle.session_answers.specs.Cells.{IsPlainOutcome};
 ghost use Rattle.board.specs.Edits.{edit_count};
 ghost use Rattle.session_views.specs.Knowing.{KnowsOwn, HasOwnEdit};
@@ -22,7 +21,7 @@ use bench_texts::Texts;
 
 /// Who has seen nothing and made no edit knows its texts: there are none.
 pub fn nothing_is_known()
-    ensures { KnowsOwn [] 0 no_contents }
+    ensures { KnowsOwn [] 0 no_texts }
 {}
 
 /// Who sees more knows what it knew.

@@ -9,7 +9,7 @@ use Rattle.std.specs.declared.alloc.Global.{Global}
 use mathlib.Core.List.{IsPrefix}
 use Rattle.text_values.specs.TestValue.{Content, content_of}
 use Rattle.outcome_texts.specs.Cells.{Cell, NoCell, Open, Settled}
-use Rattle.bench_texts.specs.BenchTexts.{BenchTexts, PlainModel, test_index, model_index}
+use Rattle.bench_texts.specs.BenchTexts.{BenchTexts, PlainModel, test_index, model_index, no_texts}
 use Rattle.bench_texts.specs.Held.{plain_model, texts_of}
 use Rattle.bench_texts.specs.declared.texts.Texts.{Texts}
 use Rattle.board.specs.declared.operation.BoardOp.{BoardOp}
@@ -17,7 +17,7 @@ use Rattle.board.specs.Contents.{cell_named}
 use Rattle.board.specs.Operations.{board_after}
 use Rattle.board.specs.Legal.{IsLegal, texts_after}
 use Rattle.board.specs.Edits.{edits_in, edit_count}
-use Rattle.board.specs.Histories.{contents_after, no_contents}
+use Rattle.board.specs.Histories.{contents_after}
 use Rattle.board.specs.Results as board
 use Rattle.board.specs.Results.{IsRightCell, ShowsRightCells}
 use Rattle.board.proofs.Histories.{contents_are_those}
@@ -25,7 +25,7 @@ use Rattle.session_answers.specs.Cells.{test_named, model_named}
 use Rattle.session_answers.proofs.Named.{clauses_of-items}
 use Rattle.session_views.proofs.Counts.{knows_later, knows_nothing}
 use Rattle.session_views.specs.Knowing.{KnowsOwn, KnowsTexts}
-use Rattle.watch_run.specs.Holding.{model_name, no_names}
+use Rattle.watch_run.specs.Holding.{bench_model_name, no_names}
 use Rattle.watch_run.specs.Lines.{IsTestCell, AreLinesOf}
 use Rattle.watch_run.specs.Boards.{shown_lines, IsClosedBy, AreOwnLines, lists_of, standing_of}
 use Rattle.watch_run.specs.Runs.{at_first}
@@ -49,10 +49,10 @@ model_there ops t same name =
 
 cell_right : (ops : List BoardOp) (t : BenchTexts) → contents_after ops ≡ t
     → (name : List ℕ) (cell : Cell)
-    → cell ≢ Open → IsRightCell (texts_after ops) name model_name cell → IsTestCell t name cell
+    → cell ≢ Open → IsRightCell (texts_after ops) name bench_model_name cell → IsTestCell t name cell
 cell_right ops t same name NoCell closed lacks = elim lacks [
   | inl none ↦ inl (test_there ops t same name ∙ ap (λ o. option_map content_of o) none)
-  | inr none ↦ inr (model_there ops t same model_name ∙ ap (λ o. option_map plain_model o) none)
+  | inr none ↦ inr (model_there ops t same bench_model_name ∙ ap (λ o. option_map plain_model o) none)
 ]
 cell_right ops t same name Open closed both = absurd (closed refl)
 cell_right ops t same name (Settled outcome) closed r =
@@ -61,7 +61,7 @@ cell_right ops t same name (Settled outcome) closed r =
       test = content_of r.content;
       model = plain_model r.under;
       test_is = test_there ops t same name ∙ ap (λ o. option_map content_of o) r.test_is;
-      model_is = model_there ops t same model_name ∙ ap (λ o. option_map plain_model o) r.model_is;
+      model_is = model_there ops t same bench_model_name ∙ ap (λ o. option_map plain_model o) r.model_is;
       right = record {
         test = r.content;
         model = r.under.text;
@@ -79,10 +79,10 @@ lines_right ops t same right (None ∷ names) closed =
     (refl, lines_right ops t same right names closed.1)
 lines_right ops t same right (Some name ∷ names) closed = (
   record {
-    cell = cell_named (board_after ops) name model_name;
+    cell = cell_named (board_after ops) name bench_model_name;
     right =
-        cell_right ops t same name (cell_named (board_after ops) name model_name) closed.0
-        (right name model_name);
+        cell_right ops t same name (cell_named (board_after ops) name bench_model_name) closed.0
+        (right name bench_model_name);
     is = refl;
   },
   lines_right ops t same right names closed.1,
@@ -104,7 +104,7 @@ all_counted n made (inl more) e lt = absurd (omega (arith, more, e, lt))
 all_counted n made (inr few) e lt = omega (arith, few, e, lt)
 
 -- who has seen nothing knows that there are no texts
-pub knows_start : (seen : List BoardOp) (t : BenchTexts) → seen ≡ [] → t ≡ no_contents
+pub knows_start : (seen : List BoardOp) (t : BenchTexts) → seen ≡ [] → t ≡ no_texts
     → KnowsTexts seen 0 t
 knows_start seen t nothing none =
     let knows = subst (λ (l : List BoardOp). KnowsOwn l 0 t) (sym nothing) (subst (λ (x : BenchTexts). KnowsOwn [] 0 x) (sym none) knows_nothing) in
@@ -117,7 +117,7 @@ as_many (t ∷ tests) = ap suc (as_many tests)
 -- nothing is held at the start, no line was written and no text refused
 pub stands_first : (texts : Texts) (names : Vec (Option (List ℕ)) Global)
     (lines : Vec (Vec ℕ Global) Global) (tests : List (Bor (List ℕ))) (count : ℕ)
-    → texts_of texts ≡ no_contents → names.items ≡ no_names count → count ≡ length tests
+    → texts_of texts ≡ no_texts → names.items ≡ no_names count → count ≡ length tests
     → lines.items ≡ []
     → standing_of texts names lines false
     ≡ at_first (length (map (λ t. t.now) tests)) (lists_of lines.items)
@@ -131,7 +131,7 @@ stands_first texts names lines tests count none empty long first =
     }) none
     ∙ ap
     (λ (l : List (Option (List ℕ))). record {
-      held = record { texts = no_contents; names = l };
+      held = record { texts = no_texts; names = l };
       lines = lists_of lines.items;
       refused = false;
     }) named

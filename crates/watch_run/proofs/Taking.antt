@@ -26,7 +26,7 @@ use Rattle.watch_edits.specs.Edits.{IsPartEdit, item_edit}
 use Rattle.watch_edits.specs.declared.items.ItemChange.{ItemChange}
 use Rattle.watch_edits.specs.declared.items.ItemChange.TheVariants as changes
 use Rattle.watch_edits.specs.declared.parts.TestPart.{TestPart}
-use Rattle.watch_run.specs.Holding.{Holding, model_name, held_name, without_unheld, tests_left, HoldsItems, IsTestTaken}
+use Rattle.watch_run.specs.Holding.{Holding, bench_model_name, held_name, without_unheld, tests_left, HoldsItems, IsTestTaken}
 use Rattle.watch_run.specs.Edits.{IsEditTried, IsModelEdit, AreChanges, AreTestParts, AreSameBut}
 use Rattle.watch_run.proofs.Lists.{put_same, put_twice, IsPut, changed_is_put, index_put, nothing_of}
 
@@ -218,7 +218,7 @@ put_whole a t new text c only but made =
 -- ---- what changes and parts make
 
 pub changes_of : (t : BenchTexts) (m : NamedModel) (new : List Clause) (cs : List ItemChange)
-    → Some (plain_model m) ≡ model_named t model_name
+    → Some (plain_model m) ≡ model_named t bench_model_name
     → with_changes new cs (clauses_of m.text.items.items) ≡ new → AreChanges t new cs
 changes_of t m new cs there applied =
     let long : length m.numbers.items ≡ length m.text.items.items = omega (arith, m.paired, m.numbers.ok.0, m.text.items.ok.0) in

@@ -13,7 +13,7 @@ use Rattle.board.specs.Legal.{IsLegal}
 use Rattle.board.specs.Results.{ShowsRightCells}
 use Rattle.board.specs.Edits.{edit_count}
 use Rattle.session_views.specs.Knowing.{KnowsTexts}
-use Rattle.watch_run.specs.Holding.{Holding, model_name}
+use Rattle.watch_run.specs.Holding.{Holding, bench_model_name}
 use Rattle.watch_run.specs.Lines.{test_table, behind_line}
 use Rattle.watch_run.specs.Edits.{holding_of}
 use Rattle.watch_run.specs.Runs.{Standing}
@@ -22,11 +22,11 @@ use Rattle.watch_run.specs.declared.answers.Run.{Run}
 
 -- the line of a test on the board after these operations
 abbrev pub shown_line : List BoardOp → List ℕ → List ℕ
-shown_line ops name = behind_line (test_table name (cell_named (board_after ops) name model_name))
+shown_line ops name = behind_line (test_table name (cell_named (board_after ops) name bench_model_name))
 
 -- the cell of the test is settled, or there is none
 abbrev pub IsCellClosed : List BoardOp → List ℕ → Type 0
-IsCellClosed ops name = cell_named (board_after ops) name model_name ≢ Open
+IsCellClosed ops name = cell_named (board_after ops) name bench_model_name ≢ Open
 
 -- the same of the test that a file holds
 abbrev pub shown_line_of : List BoardOp → Option (List ℕ) → List ℕ

@@ -17,7 +17,7 @@ use Rattle.watch_edits.specs.declared.parts.TestPart.{TestPart}
 use Rattle.watch_run.specs.declared.watched.Paths.{Paths}
 use Rattle.watch_run.specs.declared.watched.WatchedFile.{WatchedFile}
 use Rattle.watch_run.specs.declared.watched.WatchedFile.TheVariants as files
-use Rattle.watch_run.specs.Holding.{Holding, File, ModelFile, TestFile, model_name, IsFileTaken, IsVersionRefused}
+use Rattle.watch_run.specs.Holding.{Holding, File, ModelFile, TestFile, bench_model_name, IsFileTaken, IsVersionRefused}
 
 -- the file that a value of the code names
 abbrev pub file_of : WatchedFile → File
@@ -58,7 +58,7 @@ IsModelEdit _ = ⊥
 pub record AreChanges (t : BenchTexts) (new : List Clause) (changes : List ItemChange)
     : Type 0 where
   pub model : PlainModel
-  pub there : model_named t model_name ≡ Some model
+  pub there : model_named t bench_model_name ≡ Some model
   pub applied : with_changes new changes (map (λ i. i.clause) model.items) ≡ new
 
 -- these parts make the new test of the one of its name

@@ -4,18 +4,17 @@ use Rattle.std.specs.List.{list_any, position_or_len}
 use Rattle.text_values.specs.TestValue.{Content}
 use Rattle.text_values.specs.ModelValue.{Clause}
 use Rattle.cat_grammar.specs.declared.form.Form.TheVariants as forms
-use Rattle.cat_syntax.specs.Reads.{Reads}
+use Rattle.cat_grammar.specs.Reads.{Reads}
 use Rattle.litmus_grammar.specs.Texts.{ReadsTest}
-use Rattle.bench_texts.specs.BenchTexts.{BenchTexts, PlainModel, test_index, put_at, changed_at}
+use Rattle.bench_texts.specs.BenchTexts.{BenchTexts, PlainModel, test_index, put_at, changed_at, no_texts}
 use Rattle.bench_texts.specs.Edits.{Edit, PutTest, PutModel, RefusesEdit}
 use Rattle.bench_texts.specs.declared.fault.EditFault.{EditFault}
-use Rattle.board.specs.Histories.{no_contents}
 use Rattle.session_answers.specs.Cells.{model_named}
 use Rattle.session_edits.specs.Faults.{HasFaultLine}
 
 -- the name of the model on the bench
-abbrev pub model_name : List ℕ
-model_name = codes "model"
+abbrev pub bench_model_name : List ℕ
+bench_model_name = codes "model"
 
 -- What is held of the files: the texts of the bench, and for the file of each test the name of the
 -- test that it holds, or none where no version of it was accepted.
@@ -29,7 +28,7 @@ no_names count = replicate count None
 
 -- of so many files of tests, and of the model's, nothing is held
 abbrev pub empty_holding : (count : ℕ) → Holding
-empty_holding count = record { texts = no_contents; names = no_names count }
+empty_holding count = record { texts = no_texts; names = no_names count }
 
 -- ---- the watched files, by their paths
 
@@ -69,7 +68,7 @@ file_at model tests path =
 -- the bench holds the model, with just these items
 pub record HoldsItems (items : List Clause) (t : BenchTexts) : Type 0 where
   pub model : PlainModel
-  pub there : model_named t model_name ≡ Some model
+  pub there : model_named t bench_model_name ≡ Some model
   pub are : map (λ i. i.clause) model.items ≡ items
 
 -- of the model's file: the model has the items that the text means from then on, and the tests stay
@@ -121,7 +120,7 @@ IsFileTaken (TestFile index) text old new = IsTestTaken index text old new
 
 -- the edit that puts the whole text on the bench
 abbrev pub whole_edit : File → (text : List ℕ) → Edit
-whole_edit ModelFile text = PutModel model_name text
+whole_edit ModelFile text = PutModel bench_model_name text
 whole_edit (TestFile index) text = PutTest text
 
 -- the bench refuses the whole text for that fault

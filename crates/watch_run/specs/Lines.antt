@@ -8,13 +8,13 @@ use Rattle.outcome_texts.specs.Cells.{Cell, NoCell, Open, Settled}
 use Rattle.outcome_texts.specs.Columns.{table_of}
 use Rattle.bench_texts.specs.BenchTexts.{BenchTexts, PlainModel}
 use Rattle.session_answers.specs.Cells.{test_named, model_named, IsPlainOutcome}
-use Rattle.watch_run.specs.Holding.{model_name}
+use Rattle.watch_run.specs.Holding.{bench_model_name}
 
 -- ---- the line of a test
 
 -- the table of the test alone
 abbrev pub test_table : List ℕ → Cell → List ℕ
-test_table name cell = table_of (model_name ∷ []) (record { name = name; cells = cell ∷ [] } ∷ [])
+test_table name cell = table_of (bench_model_name ∷ []) (record { name = name; cells = cell ∷ [] } ∷ [])
 
 -- what stands behind the first line
 abbrev pub behind_line : List ℕ → List ℕ
@@ -25,13 +25,13 @@ pub record IsTestResult (t : BenchTexts) (name : List ℕ) (outcome : Outcome) :
   pub test : Content
   pub model : PlainModel
   pub test_is : test_named t name ≡ Some test
-  pub model_is : model_named t model_name ≡ Some model
+  pub model_is : model_named t bench_model_name ≡ Some model
   pub right : IsPlainOutcome test model outcome
 
 -- The cell of the test of this name under the model: there is none where one of the two is not
 -- there.
 abbrev pub IsTestCell : BenchTexts → (name : List ℕ) → Cell → Type 0
-IsTestCell t name NoCell = (test_named t name ≡ None) ⊎ (model_named t model_name ≡ None)
+IsTestCell t name NoCell = (test_named t name ≡ None) ⊎ (model_named t bench_model_name ≡ None)
 IsTestCell t name Open = ⊥
 IsTestCell t name (Settled outcome) = IsTestResult t name outcome
 

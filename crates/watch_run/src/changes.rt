@@ -10,12 +10,12 @@ ghost use Rattle.bench_texts.specs.Edits.{edit_of, RefusesEdit};
 ghost use Rattle.bench_texts.specs.Held.{plain_model, texts_of};
 ghost use Rattle.session_answers.specs.Cells.{test_named, model_named};
 ghost use Rattle.session_edits.specs.Faults.{HasFaultLine};
-ghost use Rattle.watch_run.specs.Holding.{model_name, holds_name, without_unheld, held_name, HoldsItems, IsTestTaken, ModelFile, TestFile};
+ghost use Rattle.watch_run.specs.Holding.{bench_model_name, holds_name, without_unheld, held_name, HoldsItems, IsTestTaken, ModelFile, TestFile};
 ghost use Rattle.watch_run.specs.Edits.{IsEditTried, IsVersionTaken, IsModelEdit, AreChanges, AreTestParts, AreSameBut};
 ghost use Rattle.watch_run.specs.Boards.{KnowsItsTexts, holding};
 
 use crate::author::Author;
-use crate::lines::model_name;
+use crate::lines::bench_model_name;
 use crate::watched::Watched;
 use bench_texts::{Edit, EditFault, NamedModel, Texts};
 use cat_syntax::{CatFault, ModelText, read_model};
@@ -64,9 +64,9 @@ fn is_full(fault: &EditFault) -> bool {
 // The model, if it is there.
 fn held_model<'t>(texts: &'t Texts) -> Option<&'t NamedModel>
     ensures { option_map (λ m. plain_model m.now) result
-        ≡ model_named (texts_of texts.now) model_name }
+        ≡ model_named (texts_of texts.now) bench_model_name }
 {
-    let index = texts.model_index(model_name());
+    let index = texts.model_index(bench_model_name());
     texts.models().get(index)
 }
 
@@ -218,7 +218,7 @@ impl<A: Author> Watched<A> {
         ensures names { self.new.names ≡ self.old.names }
     {
         own_edits_are_known(&self.texts);
-        let prepared = match self.texts.prepare(alloc, &edit, false) {
+        let prepared = match self.texts.prepare_unless_spent(alloc, &edit, false) {
             Ok(prepared) => prepared,
             Err(fault) => return Ok(Some(told_fault(fault)?)),
         };
@@ -240,7 +240,7 @@ impl<A: Author> Watched<A> {
         ensures texts { texts_of self.new.texts ≡ texts_of self.old.texts }
         ensures names { self.new.names ≡ self.old.names }
     {
-        match self.texts.prepare(alloc, edit, false) {
+        match self.texts.prepare_unless_spent(alloc, edit, false) {
             Ok(_prepared) => Ok(None),
             Err(fault) => Ok(Some(told_fault(fault)?)),
         }
@@ -339,7 +339,7 @@ impl<A: Author> Watched<A> {
             IsVersionTaken ModelFile text.items (holding self.old) o (holding self.new)) }
     {
         let whole = Edit::PutModel {
-            model: Vec::from_slice(alloc, model_name())?,
+            model: Vec::from_slice(alloc, bench_model_name())?,
             text: Vec::from_slice(alloc, &text)?,
         };
         if let Some(fault) = self.refusal(alloc, &whole)? {

@@ -8,7 +8,6 @@ mod answers;
 mod author;
 mod changes;
 mod desk_author;
-mod files;
 mod lines;
 mod settling;
 mod start;
@@ -17,7 +16,6 @@ mod turnstile;
 mod versions;
 mod watched;
 
-pub use files::watch_files;
 pub use start::{Ended, watch};
 pub use telling::VersionTeller;
 pub use versions::{FileVersions, Version, Versions};

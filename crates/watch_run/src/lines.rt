@@ -6,22 +6,22 @@ ghost use mathlib.Core.List.{IsPrefix};
 ghost use Rattle.outcome_texts.specs.Cells.{cell_of};
 ghost use Rattle.bench_texts.specs.Held.{texts_of};
 ghost use Rattle.board.specs.Legal.{IsLegal};
-ghost use Rattle.watch_run.specs.Holding.{model_name};
+ghost use Rattle.watch_run.specs.Holding.{bench_model_name};
 ghost use Rattle.watch_run.specs.Lines.{test_table, behind_line, AreLinesOf, changed_line, changed_lines, jobs_line, AreLinesWritten};
 ghost use Rattle.watch_run.specs.Boards.{lists_of, shown_line, IsCellClosed, shown_line_of, IsClosedBy, shown_lines, AreOwnLines, KnowsItsTexts};
 
 use crate::author::Author;
 use crate::watched::Watched;
 use bench_instance::{StampedTexts, edit_count_in, newest_view, result_in};
-use desk_history::{Naming, View, Viewer};
+use desk::{Naming, View, Viewer};
 use litmus_ppc::Name;
 use outcome_texts::{Shown as Cell, TestRow, table_text};
 use std::alloc::{AllocError, Global};
 use text_values::{line_length, put_bytes, put_decimal};
 
 /// The name of the model on the bench.
-pub fn model_name() -> &'static [u8]
-    ensures { result.now ≡ model_name }
+pub fn bench_model_name() -> &'static [u8]
+    ensures { result.now ≡ bench_model_name }
 {
     b"model"
 }
@@ -30,7 +30,7 @@ pub fn model_name() -> &'static [u8]
 fn cell_table<'x>(alloc: Global, name: &'x [u8], cell: Cell<'x>) -> Result<Vec<u8>, AllocError>
     ensures { IfOk result (λ v. v.items ≡ test_table name.now (cell_of cell.entry)) }
 {
-    let model = Name::new(alloc, model_name())?;
+    let model = Name::new(alloc, bench_model_name())?;
     let mut models = Vec::new(alloc);
     models.push(model)?;
     let mut cells = Vec::new(alloc);
@@ -63,7 +63,7 @@ pub fn test_line<J: Naming>(
     ensures line { IfOk result (λ o. IfSome o (λ v. v.items ≡ shown_line view.now name.now)) }
     ensures closed { IfOk result (λ o. IfSome o (λ v. IsCellClosed view.now name.now)) }
 {
-    match result_in(view, name, model_name()) {
+    match result_in(view, name, bench_model_name()) {
         Cell::Open => Ok(None),
         cell => {
             let table = cell_table(alloc, name, cell)?;

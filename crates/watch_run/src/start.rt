@@ -11,10 +11,10 @@ use crate::desk_author::{DeskAuthor, Hands};
 use crate::turnstile::{RunningTurnstile, Turnstile, beside_workers};
 use crate::versions::Versions;
 use crate::watched::{Paths, Watched, no_names};
-use bench_instance::{DeskSeed, RunningDesk};
+use bench_instance::{RunningDesk, StampedTexts};
 use bench_texts::Texts;
 use command_answers::{ByteSink, ByteSource, SessionFault};
-use desk_history::Naming;
+use desk::{Desk, DeskSeed, Naming, OpenedDesk};
 use std::alloc::AllocError;
 use std::marker::Brand;
 use std::sync::Wait;
@@ -182,14 +182,14 @@ where
         { attend_workers(rt, gate, workers, paths, versions, source, sink) },
     );
     match worked {
-        Ok(worked) => worked.answer,
+        Ok((answer, _tally)) => answer,
         Err(_) => Err(AllocError),
     }
 }
 
 fn watch_from<'a, J, R, V, S, K>(
     rt: &R,
-    seed: DeskSeed,
+    opened: OpenedDesk<StampedTexts>,
     workers: u32,
     paths: Paths<'a>,
     versions: V,
@@ -202,15 +202,15 @@ where
     V: Versions + Drop,
     S: ByteSource + Drop,
     K: ByteSink + Drop,
-    requires book { seed.book.seen.book ≡ J.book }
-    requires values { seed.values.values ≡ J.shelves }
+    requires book { opened.book.seen.book ≡ J.book }
+    requires values { opened.values.values ≡ J.shelves }
     requires source { S.failed_calls source < 2 ^ 64 - 1 }
     requires sink { K.failed_calls sink < 2 ^ 64 - 1 }
     ensures { IfOk result (λ e. IsEnded S.failed_calls S.remaining K.failed_calls V.readings
         K.contents (model_path paths.entry) (test_paths paths.entry) versions source sink e) }
 {
-    match seed.desk::<J, R, R>(rt, rt.alloc(), *rt) {
-        Ok(desk) => watch_at(rt, &desk, workers, paths, versions, source, sink),
+    match DeskSeed::<J, StampedTexts, R>::new(rt, rt.alloc(), opened) {
+        Ok(seed) => watch_at(rt, &Desk::new(seed), workers, paths, versions, source, sink),
         Err(_) => Err(AllocError),
     }
 }
@@ -247,10 +247,10 @@ where
     ensures { IfOk result (λ e. IsEnded S.failed_calls S.remaining K.failed_calls V.readings
         K.contents model.now (map (λ t. t.now) tests.now) versions source sink e) }
 {
-    match DeskSeed::new(rt.alloc()) {
-        Ok(seed) => {
+    match OpenedDesk::new(rt.alloc()) {
+        Ok(opened) => {
             let paths = Paths { model, tests };
-            watch_from::<Brand, R, V, S, K>(rt, seed, workers, paths, versions, source, sink)
+            watch_from::<Brand, R, V, S, K>(rt, opened, workers, paths, versions, source, sink)
         }
         Err(_) => Err(AllocError),
     }

@@ -15,19 +15,22 @@ use std::io::Write;
 pub struct VersionTeller<'a, V, W> {
     versions: V,
     model: &'a str,
+    tells_tests: bool,
     errors: W,
     // The lines of the fault of the model that read last, which are none where it has no fault.
     fault: Vec<u8>,
 }
 
 impl<'a, V: Versions, W: Write> VersionTeller<'a, V, W> {
-    /// Has told nothing. The model is the file of this path, any other holds a test.
-    pub fn new(alloc: Global, versions: V, model: &'a str, errors: W) -> Self
+    /// Has told nothing. The model is the file of this path, any other holds a test, and is told
+    /// of only where that is wanted.
+    pub fn new(alloc: Global, versions: V, model: &'a str, tells_tests: bool, errors: W) -> Self
         ensures { result.versions ≡ versions }
     {
         VersionTeller {
             versions,
             model,
+            tells_tests,
             errors,
             fault: Vec::new(alloc),
         }
@@ -73,8 +76,10 @@ impl<'a, V: Versions, W: Write> VersionTeller<'a, V, W> {
     {
         if file.path == self.model {
             self.tell_model(alloc, file)
-        } else {
+        } else if self.tells_tests {
             self.tell_test(alloc, file)
+        } else {
+            Ok(())
         }
     }
 }

@@ -3,9 +3,9 @@
 ghost use Rattle.std.specs.Prelude.{IfOk};
 
 use bench_instance::StampedTexts;
-use bench_workers::{Gate, Worked, WorkersFault, with_workers};
-use desk::{BoardTexts, Desk};
-use desk_history::{Entry, Naming, Plate};
+use bench_workers::{Gate, Tally, WorkersFault, with_workers};
+use desk::{BoardTexts, Desk, Naming};
+use desk_history::{Entry, Plate};
 use left_right::Absorb;
 use std::alloc::Global;
 use std::mem::drop;
@@ -115,7 +115,7 @@ pub fn beside_workers<'d, J, X, R, W, T, F>(
     turnstile: &Turnstile<'d, J, X, R>,
     count: u32,
     body: F,
-) -> Result<Worked<T>, WorkersFault>
+) -> Result<(T, Tally), WorkersFault>
 where
     J: Naming + StoreName + Send + Sync,
     X: BoardTexts + Send + Sync,
@@ -132,7 +132,7 @@ where
     F: FnOnce() -> T + Drop,
     T: Drop,
     requires { F.pre body }
-    ensures { IfOk result (λ w. F.post body w.answer) }
+    ensures { IfOk result (λ w. F.post body w.0) }
 {
     with_workers(rt, alloc, turnstile.desk(), turnstile, count, body)
 }

@@ -5,5 +5,5 @@ pub returns : goal.returns
 returns c =
     record {
       why = λ asked model test. one_why_refusal model test asked;
-      draw = λ drawn most model test. one_picture_refusal model test drawn most;
+      draw = λ request model test. one_picture_refusal model test request;
     }

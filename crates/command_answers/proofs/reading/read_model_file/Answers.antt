@@ -3,7 +3,7 @@ use Rattle.std.proofs.lemmas.Result.{on_ok_weaker}
 use Rattle.command_answers.proofs.Answering.{model_refused}
 use Rattle.command_answers.proofs.Reports.{model_fault_added}
 use Rattle.command_answers.specs.Answer.{IsModelRefused}
-use Rattle.command_answers.specs.Files.{model_name}
+use Rattle.command_answers.specs.Files.{model_stem}
 use Rattle.command_answers.specs.Reports.{IsModelAdded}
 use Rattle.command_answers.proofs.reading.read_model_file.Goals as goal
 
@@ -11,7 +11,7 @@ pub returns-in-Ok : goal.returns-in-Ok
 returns-in-Ok c =
     on_ok_weaker c.push_model.result
     (λ e. IsModelAdded
-    (record { name = model_name c.args.file.now.path.now; model = c.in-Ok.model }) refl
+    (record { name = model_stem c.args.file.now.path.now; model = c.in-Ok.model }) refl
     (search rules) e refl) c.push_model.ensures
 
 pub returns-in-Err-Refused : goal.returns-in-Err-Refused

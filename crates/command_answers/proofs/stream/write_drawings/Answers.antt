@@ -7,6 +7,6 @@ pub returns-clause-written : goal.returns-clause-written
 returns-clause-written g c =
     written_so
     (λ (text : List ℕ) (refused : Bool).
-    IsPictureAnswer c.args.drawn c.args.most c.args.model.now c.args.test.now text refused)
+    IsPictureAnswer c.args.request c.args.model.now c.args.test.now text refused)
     c.draw_answer.result _ _ c.write_made.result c.draw_answer.ensures
     c.write_made.ensures.written

@@ -18,6 +18,11 @@ returns-in_default-viewer-clause-written g c =
     not_begun (g.S.ByteSource.remaining c.args.source.now) (g.K.ByteSink.contents c.args.sink.now)
     faults.Memory tt
 
+pub returns-in_default-clone-clause-written : goal.returns-in_default-clone-clause-written
+returns-in_default-clone-clause-written g c =
+    not_begun (g.S.ByteSource.remaining c.args.source.now) (g.K.ByteSink.contents c.args.sink.now)
+    faults.Memory tt
+
 pub returns-in_default-hire_crew-clause-written : goal.returns-in_default-hire_crew-clause-written
 returns-in_default-hire_crew-clause-written g c =
     not_begun (g.S.ByteSource.remaining c.args.source.now) (g.K.ByteSink.contents c.args.sink.now)

@@ -4,7 +4,7 @@ use Rattle.session_script.specs.Lines.{IsUnbroken}
 use Rattle.session_script.specs.Reading.{left_to, turns_of, work_of, ReadsFewAhead, IsPaid}
 use Rattle.session_script.proofs.state.ScriptReader.read_line.Given as goal
 
--- what is read so far is the front of a line
+-- what is read so far is the beginning of a line
 abbrev pub invariant-parts : goal.invariant-parts
 invariant-parts g l = record {
   ahead : ReadsFewAhead l.initial.self l.self;

@@ -1,7 +1,7 @@
 use Rattle.std.proofs.Common.{rules, arith, refl, sym, ap, ◌≡◌, ◌∙◌, ◌++◌, ◌∷◌, [], ℕ, List, true, false, take}
 use Rattle.session_script.specs.Commands.{is_dot}
 use Rattle.session_script.specs.Reading.{left_to, turns_of}
-use Rattle.session_script.proofs.Fronts.{front_is_short}
+use Rattle.session_script.proofs.Prefixes.{prefix_is_short}
 use Rattle.session_script.proofs.Steps.{paid_none, paid_on, text_begins, text_goes_on, text_given, text_is_cut_off, read_nothing, read_one}
 use Rattle.session_script.proofs.state.ScriptReader.text.Goals as goal
 
@@ -53,7 +53,7 @@ lines-preserved g c =
           c.in_ok-read.ensures.paid;
       same = search rules;
       short =
-          front_is_short c.put_line.new.text.items 65537
+          prefix_is_short c.put_line.new.text.items 65537
           (c.lines.text.items ++ c.in-Some.line.items ++ 10 ∷ []) put;
       kept =
           λ r. text_goes_on first now next r c.lines.text.items c.put_line.new.text.items

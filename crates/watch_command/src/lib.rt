@@ -1,0 +1,7 @@
+//! Watching the host's files: a model over some tests, by `watch_run::watch`. Changes are found by
+//! looking at the files (`watch_polls`), or named by standard input.
+#![tactic(auto)]
+
+mod files;
+
+pub use files::watch_files;
