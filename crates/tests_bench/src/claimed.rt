@@ -11,6 +11,8 @@ use cells::shown::Shown;
 use cells::texts::CellTexts;
 use memo_core::claims::ClaimFault;
 use memo_core::keys::Node;
+use memo_core::texts::Texts;
+use memo_marks::Marks;
 use std::alloc::{AllocError, Global};
 use std::sync::Wait;
 use value_store::{StoreFault, StoreName};
@@ -25,6 +27,31 @@ pub trait NamedOutputs {
 impl NamedOutputs for StampedTexts {
     fn output_name(&self, node: Node, number: u64) -> Option<&[u8]> {
         StampedTexts::output_name(self, node, number)
+    }
+}
+
+/// Whether a node that stands on this one is settled.
+fn has_settled_user<K: StoreName, T: CellTexts>(marks: &Marks<'_, K, T>, node: Node) -> bool {
+    for user in memo_marks::users(marks, node) {
+        if memo_marks::settled(marks, *user) {
+            return true;
+        }
+    }
+    false
+}
+
+/// Whether the marks of a node, what it matches, or the marks of what stands on it say of it what
+/// the recursion does not.
+fn is_marked_wrong<K: StoreName, T: CellTexts>(marks: &Marks<'_, K, T>, node: Node) -> bool {
+    let is_settled = memo_graph::settled(marks.texts(), marks.memos(), node);
+    let is_matched = memo_graph::matches(marks.texts(), marks.memos(), node);
+    if memo_marks::settled(marks, node) != is_settled {
+        return true;
+    }
+    if is_settled {
+        !is_matched
+    } else {
+        has_settled_user(marks, node)
     }
 }
 
@@ -86,6 +113,16 @@ where
 
     fn shown(&self, test: &[u8], model: &[u8]) -> Shown<'_, Outcome> {
         self.bench.shown(test, model)
+    }
+
+    fn has_wrong_mark(&self, alloc: Global) -> Result<bool, AllocError> {
+        let marks = self.bench.marks(alloc)?;
+        for index in 0..marks.texts().used_count() {
+            if is_marked_wrong(&marks, marks.texts().used_at(index)) {
+                return Ok(true);
+            }
+        }
+        Ok(false)
     }
 
     fn output_name(&self, node: Node, number: u64) -> Option<&[u8]> {

@@ -1,11 +1,11 @@
 //! A desk with the viewers and the jobs that were taken of it.
 
 use crate::jobs::{Stage, keep_claimed, made};
-use crate::played::{Call, Looker, PlayedDesk, Refusal};
+use crate::played::{Call, Looker, PlayedDesk, Refusal, Taken};
 use crate::threads;
 use bench_texts::Edit;
 use bench_workers::Tally;
-use desk::{Accepted, Taken};
+use desk::Accepted;
 use std::alloc::{AllocError, Global};
 use std::sync::Wait;
 use std::thread::Threads;

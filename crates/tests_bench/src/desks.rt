@@ -7,12 +7,11 @@ use crate::meeting::{self, Puts, Setting};
 use crate::played::PlayedDesk;
 use crate::rows;
 use crate::stress::{self, Plan};
-use bench_instance::{DeskSeed, StampedTexts};
+use bench_instance::StampedTexts;
 use bench_texts::{Edit, EditFault};
-use bench_workers::{Gate, NoGate, Worked, with_workers};
+use bench_workers::{Gate, NoGate, Tally, with_workers};
 use board::Board;
-use desk::{BoardTexts, Desk};
-use desk_history::Naming;
+use desk::{BoardTexts, Desk, DeskSeed, Naming, OpenedDesk};
 use std::alloc::AllocError;
 use std::io;
 use std::marker::Brand;
@@ -42,7 +41,7 @@ enum Part {
 }
 
 /// What was played beside workers: how many faults were found, or what was refused, in words.
-pub type Played = Result<Worked<Result<u64, AllocError>>, &'static str>;
+pub type Played = Result<(Result<u64, AllocError>, Tally), &'static str>;
 
 /// Plays a part as a viewer: how many faults were found.
 fn play_part<R, D>(rt: &R, desk: &D, viewer: D::Viewer, part: Part) -> Result<u64, AllocError>
@@ -92,7 +91,7 @@ where
         workers,
         || play_part(rt, desk, viewer, part),
     ) {
-        Ok(worked) => Ok(worked),
+        Ok(played) => Ok(played),
         Err(_) => Err("no workers"),
     }
 }
@@ -127,16 +126,16 @@ where
     }
 }
 
-/// Plays at the desk of a seed.
-fn play_from<R, J>(rt: &R, seed: DeskSeed, example: Example<'_>) -> io::Result<()>
+/// Plays at a desk that is named here.
+fn play_from<R, J>(rt: &R, opened: OpenedDesk<StampedTexts>, example: Example<'_>) -> io::Result<()>
 where
     R: Print + AllocGlobal + Clock + Wait + Threads + Copy + Send + Sync + Drop,
     J: Naming + StoreName + Send + Sync,
-    requires book { seed.book.seen.book ≡ J.book }
-    requires values { seed.values.values ≡ J.shelves }
+    requires book { opened.book.seen.book ≡ J.book }
+    requires values { opened.values.values ≡ J.shelves }
 {
-    match seed.desk::<J, R, R>(rt, rt.alloc(), *rt) {
-        Ok(desk) => play_at::<R, J, StampedTexts>(rt, &desk, example),
+    match DeskSeed::<J, StampedTexts, R>::new(rt, rt.alloc(), opened) {
+        Ok(seed) => play_at::<R, J, StampedTexts>(rt, &Desk::new(seed), example),
         Err(_) => println!(rt; "no desk"),
     }
 }
@@ -146,9 +145,9 @@ pub fn play<R>(rt: &R, limit: Option<usize>, example: Example<'_>) -> io::Result
 where
     R: Print + AllocGlobal + Clock + Wait + Threads + Copy + Send + Sync + Drop,
 {
-    let seed = match limit {
-        Some(limit) => DeskSeed::with_limit(rt.alloc(), limit)?,
-        None => DeskSeed::new(rt.alloc())?,
+    let opened = match limit {
+        Some(limit) => OpenedDesk::with_limit(rt.alloc(), limit)?,
+        None => OpenedDesk::new(rt.alloc())?,
     };
-    play_from::<R, Brand>(rt, seed, example)
+    play_from::<R, Brand>(rt, opened, example)
 }

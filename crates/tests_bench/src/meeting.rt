@@ -139,12 +139,10 @@ where
     R: Print + AllocGlobal + Wait,
 {
     match played {
-        Ok(worked) => print_tally(
-            rt,
-            workers,
-            &worked.tally,
-            worked.answer? == 0 && !gate.counts(rt).is_missed,
-        ),
+        Ok((answer, tally)) => {
+            let is_met = answer? == 0 && !gate.counts(rt).is_missed;
+            print_tally(rt, workers, &tally, is_met)
+        }
         Err(word) => println!(rt; "{word}"),
     }
 }

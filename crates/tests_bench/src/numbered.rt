@@ -44,6 +44,10 @@ pub trait NumberedBench: Drop {
     /// What is shown of a test under a model.
     fn shown(&self, test: &[u8], model: &[u8]) -> Shown<'_, Outcome>;
 
+    /// Whether the marks of a used node say of it what the recursion does not. Errors: no room for
+    /// the users of nodes.
+    fn has_wrong_mark(&self, alloc: Global) -> Result<bool, AllocError>;
+
     /// The name of the output of a node that goes by that number, if there is such an output.
     fn output_name(&self, node: Node, number: u64) -> Option<&[u8]>;
 

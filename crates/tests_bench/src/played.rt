@@ -7,8 +7,8 @@ use bench_workers::{NoGate, Tally, work};
 use board::Board;
 use cells::job::{Done, Job};
 use cells::texts::CellTexts;
-use desk::{Accepted, BoardTexts, Desk, DeskFault, Taken};
-use desk_history::{Naming, Viewer};
+use desk::{Accepted, BoardTexts, Desk, DeskFault, Naming, Posted, Viewer};
+use memo_core::claims::Finish;
 use std::alloc::{AllocError, Global};
 use std::rt::Clock;
 use std::sync::Wait;
@@ -16,6 +16,9 @@ use value_store::{StoreFault, StoreName};
 
 /// Why a desk refuses a call.
 pub type Refusal = DeskFault<EditFault>;
+
+/// What a return came to at a desk, and what became of the cells that are settled.
+pub type Taken = (Finish, Posted);
 
 /// A job that was claimed.
 pub trait PlayedJob: Drop {

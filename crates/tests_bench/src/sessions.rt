@@ -39,10 +39,9 @@ where
     R: AllocGlobal + Print + Threads + Wait + Copy + Drop + Send + Sync + 'static,
 {
     let gate = SharedMeeting::new(rt.alloc())?;
-    let told = gate.share()?;
     let mut source = MemorySource::failing_at(SMALL, None);
-    let ending = run_over(rt, &mut source, &mut NoListener, told, with_workers(2))?;
-    let counts = gate.counts(rt);
+    let ending = run_over(rt, &mut source, with_workers(2), &gate, &mut NoListener)?;
+    let counts = gate.last_counts(rt);
     let word = if counts.is_missed { "missed" } else { "met" };
     println!(rt;
         "two workers: {}, {}, {word}, {} claims begun, {} ended",
@@ -58,7 +57,7 @@ where
     R: AllocGlobal + Print + Threads + Wait + Copy + Drop + Send + Sync + 'static,
 {
     let setting = with_workers(workers);
-    let ending = run_over(rt, &mut Endless, &mut NoListener, NoGate, setting)?;
+    let ending = run_over(rt, &mut Endless, setting, &NoGate, &mut NoListener)?;
     println!(rt;
         "a script that does not end, {workers} workers: {}, {} bytes",
         word_of(ending.end),
@@ -74,7 +73,7 @@ where
 {
     let mut hearing = Hearing::new();
     let mut source = MemorySource::failing_at(SMALL, None);
-    let ending = run_over(rt, &mut source, &mut hearing, NoGate, with_workers(0))?;
+    let ending = run_over(rt, &mut source, with_workers(0), &NoGate, &mut hearing)?;
     println!(rt;
         "a listener: {}, heard {} times, last {} of {} cells, {} tables ended, {} models",
         word_of(ending.end),

@@ -68,8 +68,8 @@ where
 /// Prints how many faults were found.
 pub fn tell<R: Print>(rt: &R, played: Played) -> io::Result<()> {
     match played {
-        Ok(worked) => {
-            let faults = worked.answer?;
+        Ok((answer, _tally)) => {
+            let faults = answer?;
             println!(rt; "{EDITS} edits, {WORKERS} workers, {VIEWERS} viewers: {faults} faults")
         }
         Err(word) => println!(rt; "{word}"),

@@ -1,6 +1,7 @@
 //! A walk over a bench by events that are drawn from a fixed seed: edits, claims, returns that come
 //! late and again, losses and renewals. After each event every settled cell is compared with the
-//! evaluation of the present texts from nothing.
+//! evaluation of the present texts from nothing, and the marks of each used node with the
+//! recursion that says what is settled.
 
 pub mod draw;
 pub mod mirror;
@@ -29,7 +30,8 @@ pub fn walk_over<R: Print + Wait, B: NumberedBench>(
         walk.step(rt, alloc, &mut bench, &mut mirror)?;
     }
     let differing = walk.differing();
-    println!(rt; "{EVENTS} events, {differing} cells that differ")
+    let unlike = walk.unlike_marks();
+    println!(rt; "{EVENTS} events, {differing} cells that differ, {unlike} marks")
 }
 
 /// Walks over a bench of tests and models.

@@ -104,7 +104,7 @@ fn read_table<R: Files + AllocGlobal>(rt: &R) -> io::Result<Table> {
 fn tell_versions<R: AllocGlobal + Files + Print>(rt: &R) -> io::Result<()> {
     let list = fs::read_to_string(rt, "watched/told.txt")?;
     let versions = table_of(rt, &list)?;
-    let mut teller = VersionTeller::new(rt.alloc(), versions, MODEL, io::writer(rt));
+    let mut teller = VersionTeller::new(rt.alloc(), versions, MODEL, true, io::writer(rt));
     for line in list.lines() {
         println!(rt; "version {line}")?;
         let (path, _file) = line.split_once(" ").unwrap_or((line, ""));

@@ -4,6 +4,7 @@ use binding_graph::{
     CheckCode, Kind, ResolveFault, Resolved, ResolvedItem, Role, Source, Step, inputs_of, resolve,
     used,
 };
+use cat_eval::rounds;
 use cat_syntax::{Predefined, read_model};
 use std::alloc::{AllocError, Global};
 use text_values::{put_between, put_bytes, put_decimal};
@@ -64,6 +65,18 @@ fn put_steps(answer: &mut Vec<u8>, item: Option<&ResolvedItem>) -> Result<(), Al
     put_bytes(answer, b"no check")
 }
 
+/// Appends which names of the first item a round computes anew, as bits, for each set of its first
+/// three names that grew; then those of the item behind it and of no item, where all grew.
+fn put_rounds(answer: &mut Vec<u8>, model: &Resolved) -> Result<(), AllocError> {
+    for grew in 0..8 {
+        put_decimal(answer, rounds::next(model, 0, grew))?;
+        put_bytes(answer, b" ")?;
+    }
+    put_decimal(answer, rounds::next(model, 1, u64::MAX))?;
+    put_bytes(answer, b" ")?;
+    put_decimal(answer, rounds::next(model, model.items.len(), u64::MAX))
+}
+
 /// Appends the answer to a question about a model without faults.
 fn put_parts(
     alloc: Global,
@@ -75,6 +88,7 @@ fn put_parts(
         "fault" => put_bytes(answer, b"0"),
         "used items" => put_list(answer, &used(alloc, model)?),
         "item 3" => put_item(answer, model, 3),
+        "rounds of item 0" => put_rounds(answer, model),
         "steps of item 1" => put_steps(answer, model.items.get(1)),
         _ => put_bytes(answer, b"no such question"),
     }

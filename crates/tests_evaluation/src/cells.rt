@@ -2,7 +2,7 @@
 
 use crate::outcomes::put_counts;
 use cat_syntax::{ModelText, read_model};
-use command_answers::{Drawn, Form, form_of};
+use command_answers::{Drawn, Form, Pictures, ResultFormat, form_of};
 use from_scratch::{eval_cell, eval_suite};
 use litmus_ppc::{Quantifier, Test, read_test};
 use std::alloc::{AllocError, Global};
@@ -128,58 +128,100 @@ fn put_drawn(answer: &mut Vec<u8>, drawn: Drawn) -> Result<(), AllocError> {
     }
 }
 
-fn put_form_of(alloc: Global, answer: &mut Vec<u8>, words: &[&str]) -> Result<(), AllocError> {
-    match form_of(alloc, words) {
-        Ok(Form::Stream) => put_bytes(answer, b"stream"),
-        Ok(Form::Eval { model, test }) => {
+fn put_format(answer: &mut Vec<u8>, format: ResultFormat) -> Result<(), AllocError> {
+    match format {
+        ResultFormat::Plain => Ok(()),
+        ResultFormat::Tab => put_bytes(answer, b", tab"),
+        ResultFormat::Json => put_bytes(answer, b", json"),
+    }
+}
+
+fn put_numbered(answer: &mut Vec<u8>, word: &[u8], number: u64) -> Result<(), AllocError> {
+    put_bytes(answer, word)?;
+    put_decimal(answer, number)
+}
+
+fn put_pictures(answer: &mut Vec<u8>, pictures: Pictures) -> Result<(), AllocError> {
+    match pictures {
+        Pictures::Graphs { most } => put_decimal(answer, most),
+        Pictures::Graph { nth } => put_numbered(answer, b"graph ", nth),
+        Pictures::Svg { nth } => put_numbered(answer, b"svg ", nth),
+        Pictures::Svgs { most } => put_numbered(answer, b"svgs ", most),
+    }
+}
+
+fn put_asked(answer: &mut Vec<u8>, form: Form<'_>) -> Result<(), AllocError> {
+    match form {
+        Form::Stream => put_bytes(answer, b"stream"),
+        Form::Eval {
+            model,
+            test,
+            is_json,
+        } => {
             put_bytes(answer, b"eval ")?;
             put_bytes(answer, model.as_bytes())?;
             put_bytes(answer, b" ")?;
-            put_bytes(answer, test.as_bytes())
+            put_bytes(answer, test.as_bytes())?;
+            put_flag(answer, is_json, b", json")
         }
-        Ok(Form::Table { models, tests }) => put_files(answer, b"table", models, tests),
-        Ok(Form::Diff { models, tests }) => put_files(answer, b"diff", models, tests),
-        Ok(Form::Session { script, workers }) => {
+        Form::Table {
+            models,
+            tests,
+            format,
+        } => {
+            put_files(answer, b"table", &models, &tests)?;
+            put_format(answer, format)
+        }
+        Form::Diff {
+            first,
+            second,
+            tests,
+            format,
+        } => {
+            put_files(answer, b"diff", &[first, second], &tests)?;
+            put_format(answer, format)
+        }
+        Form::Session { script, workers } => {
             put_bytes(answer, b"session ")?;
             put_script(answer, script)?;
-            put_bytes(answer, b"with ")?;
-            put_decimal(answer, workers)
+            put_numbered(answer, b"with ", workers)
         }
-        Ok(
-            Form::Why {
-                model,
-                test,
-                is_forbidden,
-                is_deep,
-            },
-        ) => {
+        Form::Why {
+            model,
+            test,
+            is_forbidden,
+            is_deep,
+        } => {
             put_files(answer, b"why", &[model], &[test])?;
             put_flag(answer, is_forbidden, b", forbidden")?;
             put_flag(answer, is_deep, b", deep")
         }
-        Ok(
-            Form::Watch {
-                model,
-                tests,
-                workers,
-            },
-        ) => {
-            put_files(answer, b"watch", &[model], tests)?;
-            put_bytes(answer, b" with ")?;
-            put_decimal(answer, workers)
+        Form::Watch {
+            models,
+            tests,
+            workers,
+            poll,
+        } => {
+            put_files(answer, b"watch", &models, &tests)?;
+            put_numbered(answer, b" with ", workers)?;
+            put_numbered(answer, b" by ", poll)
         }
-        Ok(
-            Form::Draw {
-                model,
-                test,
-                drawn,
-                most,
-            },
-        ) => {
+        Form::Draw {
+            model,
+            test,
+            drawn,
+            pictures,
+        } => {
             put_files(answer, b"draw", &[model], &[test])?;
             put_drawn(answer, drawn)?;
-            put_decimal(answer, most)
+            put_pictures(answer, pictures)
         }
+    }
+}
+
+fn put_form_of(alloc: Global, answer: &mut Vec<u8>, words: &[&str]) -> Result<(), AllocError> {
+    match form_of(alloc, words) {
+        Ok(form) => put_asked(answer, form),
         Err(_) => put_bytes(answer, b"usage"),
     }
 }

@@ -10,7 +10,7 @@ use from_scratch::fixtures::POWER;
 use litmus_ppc::read_test;
 use std::alloc::{AllocError, Global};
 use std::io;
-use why_forbidden::{Asked, Wanted, draw, why};
+use why_forbidden::{Asked, DrawRequest, Format, Wanted, draw, why};
 
 /// The most drawings of a test.
 const MOST: u64 = 2;
@@ -58,7 +58,13 @@ fn drawing_of(
     let Ok(test) = read_test(alloc, test) else {
         return String::from_str(alloc, "no test\n");
     };
-    match String::from_utf8(draw(alloc, &test, &model, wanted, MOST)?) {
+    let request = DrawRequest {
+        wanted,
+        skipped: 0,
+        most: MOST,
+        format: Format::Dot,
+    };
+    match String::from_utf8(draw(alloc, &test, &model, request)?) {
         Ok(text) => Ok(text),
         Err(_) => String::from_str(alloc, "no text\n"),
     }

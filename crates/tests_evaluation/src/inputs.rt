@@ -2,7 +2,7 @@
 //! input, and prints a line for each: its name, whether the answer is the one that is wanted, how
 //! many lines it has, and the last of them.
 
-use command_answers::{MemorySink, MemorySource, NoListener, SessionFault, eval_stream};
+use command_answers::{MemorySink, MemorySource, SessionFault, eval_stream};
 use std::rt::Files;
 use std::{fs, io};
 
@@ -16,7 +16,7 @@ struct Answer {
 fn answer_to<R: AllocGlobal>(rt: &R, input: &[u8]) -> Result<Answer, SessionFault> {
     let mut source = MemorySource::failing_at(input, None);
     let mut sink = MemorySink::failing_at(Vec::new(rt.alloc()), None);
-    let is_refused = eval_stream(rt, &mut source, &mut sink, &mut NoListener)?;
+    let is_refused = eval_stream(rt, &mut source, &mut sink)?;
     match Vec::from_slice(rt.alloc(), sink.as_bytes()) {
         Ok(text) => Ok(Answer { text, is_refused }),
         Err(_) => Err(SessionFault::Memory),

@@ -2,7 +2,7 @@
 
 use binding_graph::ModelFault;
 use candidates::EvalRefusal;
-use cat_syntax::CatRule;
+use cat_syntax::{CatFault, CatRule};
 use command_answers::{EvalFault, eval};
 use litmus_ppc::{Name, Quantifier};
 use outcome_texts::outcome_log;
@@ -50,10 +50,12 @@ fn show_log<R: Print + AllocGlobal>(
 fn show_refusal<R: Print + AllocGlobal>(rt: &R) -> io::Result<()> {
     match eval(rt.alloc(), b"acyclic po |", b"PPCT") {
         Err(
-            EvalFault::Model {
-                rule: CatRule::Syntax,
-                offset,
-            },
+            EvalFault::Model(
+                CatFault::Refused {
+                    rule: CatRule::Syntax,
+                    offset,
+                },
+            ),
         ) => println!(rt; "model refused first: syntax {offset}"),
         _ => println!(rt; "no refusal of the model"),
     }

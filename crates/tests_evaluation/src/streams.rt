@@ -3,8 +3,8 @@
 ghost use Rattle.std.specs.Prelude.{None};
 
 use command_answers::{
-    ByteSink, CallFailed, MemorySink, MemorySource, NoListener, OfRead, eval_stream, read_front,
-    read_text, write_answer,
+    ByteSink, CallFailed, MemorySink, MemorySource, OfRead, eval_stream, read_prefix, read_text,
+    write_answer,
 };
 use std::alloc::AllocError;
 use std::io;
@@ -58,7 +58,7 @@ fn show_sources<R: Print + AllocGlobal>(rt: &R, input: &[u8]) -> io::Result<()> 
     for call in 0..6 {
         let mut source = MemorySource::failing_at(input, Some(call));
         let mut sink = MemorySink::failing_at(Vec::new(alloc), None);
-        let word = word_of(eval_stream(rt, &mut source, &mut sink, &mut NoListener));
+        let word = word_of(eval_stream(rt, &mut source, &mut sink));
         let head = format!(in alloc; "source that fails at call {call}: {word}")?;
         show_written(rt, head.as_str(), sink.as_bytes())?;
     }
@@ -72,7 +72,7 @@ fn show_sinks<R: Print + AllocGlobal>(rt: &R, input: &[u8]) -> io::Result<()> {
         let mut sink = Sipping {
             inner: MemorySink::failing_at(Vec::new(alloc), Some(call)),
         };
-        let word = word_of(eval_stream(rt, &mut source, &mut sink, &mut NoListener));
+        let word = word_of(eval_stream(rt, &mut source, &mut sink));
         let head = format!(in alloc; "sink that fails at call {call}: {word}")?;
         show_written(rt, head.as_str(), sink.inner.as_bytes())?;
     }
@@ -82,7 +82,7 @@ fn show_sinks<R: Print + AllocGlobal>(rt: &R, input: &[u8]) -> io::Result<()> {
 fn show_fronts<R: Print + AllocGlobal>(rt: &R) -> io::Result<()> {
     let alloc = rt.alloc();
     for most in [0, 1, 10, LOG.len(), 1_000] {
-        let is_front = match read_front(alloc, &mut OfRead::new(LOG), most) {
+        let is_front = match read_prefix(alloc, &mut OfRead::new(LOG), most) {
             Ok(bytes) => bytes.as_slice() == &LOG[..most.min(LOG.len())],
             Err(_) => false,
         };
@@ -122,7 +122,7 @@ fn show_lengths<R: Print + AllocGlobal>(rt: &R) -> io::Result<()> {
         put_padded(&mut input, TEST, test)?;
         let mut sink = MemorySink::failing_at(Vec::new(alloc), None);
         let mut source = MemorySource::failing_at(&input, None);
-        let word = word_of(eval_stream(rt, &mut source, &mut sink, &mut NoListener));
+        let word = word_of(eval_stream(rt, &mut source, &mut sink));
         let head = format!(in alloc; "model of {model} bytes, test of {test}: {word}")?;
         show_written(rt, head.as_str(), sink.as_bytes())?;
     }
@@ -134,7 +134,7 @@ fn show_ends<R: Print + AllocGlobal>(rt: &R) -> io::Result<()> {
     show_fronts(rt)?;
     show_lengths(rt)?;
     let mut sink = MemorySink::failing_at(Vec::new(alloc), None);
-    let word = word_of(eval_stream(rt, &mut Endless, &mut sink, &mut NoListener));
+    let word = word_of(eval_stream(rt, &mut Endless, &mut sink));
     let head = format!(in alloc; "source that does not end: {word}")?;
     show_written(rt, head.as_str(), sink.as_bytes())
 }
@@ -168,7 +168,7 @@ fn show_answers<R: Print + AllocGlobal>(rt: &R) -> io::Result<()> {
 pub fn show_answer<R: Print + AllocGlobal>(rt: &R, input: &[u8]) -> io::Result<()> {
     let mut source = MemorySource::failing_at(input, None);
     let mut sink = MemorySink::failing_at(Vec::new(rt.alloc()), None);
-    let word = word_of(eval_stream(rt, &mut source, &mut sink, &mut NoListener));
+    let word = word_of(eval_stream(rt, &mut source, &mut sink));
     match str::from_utf8(sink.as_bytes()) {
         Ok(text) => print!(rt; "{word}: {text}"),
         Err(_) => println!(rt; "{word}: no text"),

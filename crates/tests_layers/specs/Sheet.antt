@@ -153,4 +153,5 @@ pub record IsSheetPrepared (old : Sheet) (change : Change) (prepared : Prepared)
   pub stamp : new.base_stamp ≡ old.base_stamp
   pub last : new.last ≡ old.last
   pub change_is : prepared.change ≡ change
+  pub there : IsMissing old change → ⊥
   pub used : prepared.used ≡ length old.rows.items + 2

@@ -128,7 +128,7 @@ impl Stamped {
         edit: &Edit,
         number: u64,
     ) -> Result<(), EditFault> {
-        let prepared = self.texts.prepare(alloc, edit, false)?;
+        let prepared = self.texts.prepare_unless_spent(alloc, edit, false)?;
         let made = prepare_parts(
             alloc,
             &mut self.parts,

@@ -13,7 +13,14 @@ use tests_cases::{edits, text_of};
 
 // Makes an edit, or answers why it is refused.
 fn make_edit(alloc: Global, texts: &mut Texts, edit: &Edit, spent: bool) -> Result<(), EditFault> {
-    let prepared = texts.prepare(alloc, edit, spent)?;
+    let prepared = texts.prepare_unless_spent(alloc, edit, spent)?;
+    texts.commit(prepared);
+    Ok(())
+}
+
+// Makes an edit whose number is not spent, or answers why it is refused.
+fn make(alloc: Global, texts: &mut Texts, edit: Edit) -> Result<(), EditFault> {
+    let prepared = texts.prepare(alloc, edit)?;
     texts.commit(prepared);
     Ok(())
 }
@@ -21,8 +28,7 @@ fn make_edit(alloc: Global, texts: &mut Texts, edit: &Edit, spent: bool) -> Resu
 // Puts so many tests, named T0, T1 and so on, and answers as the last one is answered.
 fn put_tests(alloc: Global, texts: &mut Texts, count: u64) -> Result<(), EditFault> {
     for number in 0..count {
-        let edit = edits::small_test(alloc, number)?;
-        make_edit(alloc, texts, &edit, false)?;
+        make(alloc, texts, edits::small_test(alloc, number)?)?;
     }
     Ok(())
 }
@@ -30,8 +36,7 @@ fn put_tests(alloc: Global, texts: &mut Texts, count: u64) -> Result<(), EditFau
 // Puts so many models of one item, named M0, M1 and so on, and answers as the last one is answered.
 fn put_models(alloc: Global, texts: &mut Texts, count: u64, text: &[u8]) -> Result<(), EditFault> {
     for number in 0..count {
-        let edit = edits::small_model(alloc, number, text)?;
-        make_edit(alloc, texts, &edit, false)?;
+        make(alloc, texts, edits::small_model(alloc, number, text)?)?;
     }
     Ok(())
 }

@@ -5,11 +5,10 @@ ghost use Rattle.std.specs.Prelude.{◌≡◌};
 
 use crate::player::edits_of;
 use crate::tables::{Size, each};
-use bench_instance::{DeskSeed, StampedTexts};
+use bench_instance::StampedTexts;
 use bench_texts::Edit;
 use bench_workers::{NoGate, with_workers};
-use desk::{Accepted, BoardTexts, Desk, Settling};
-use desk_history::{Naming, Viewer};
+use desk::{Accepted, BoardTexts, Desk, DeskSeed, Naming, OpenedDesk, Settling, Viewer};
 use std::alloc::Global;
 use std::io;
 use std::marker::Brand;
@@ -232,10 +231,10 @@ where
         form.workers,
         || settle(rt, alloc, desk, author, reader, form),
     );
-    let Ok(worked) = worked else {
+    let Ok((answer, _tally)) = worked else {
         return Ok(None);
     };
-    let mut times = worked.answer?;
+    let mut times = answer?;
     times.edited = edited;
     times.is_well &= is_made;
     Ok(Some(times))
@@ -263,17 +262,22 @@ fn print_times<R: Print>(rt: &R, form: Form, times: Times) -> io::Result<()> {
 }
 
 /// Settles a desk, and prints how long that takes.
-fn show_desk<R, J>(rt: &R, seed: DeskSeed, edits: Vec<Edit>, form: Form) -> io::Result<()>
+fn show_desk<R, J>(
+    rt: &R,
+    opened: OpenedDesk<StampedTexts>,
+    edits: Vec<Edit>,
+    form: Form,
+) -> io::Result<()>
 where
     R: Print + AllocGlobal + Clock + Wait + Threads + Copy + Send + Sync + Drop,
     J: Naming + StoreName + Send + Sync,
-    requires book { seed.book.seen.book ≡ J.book }
-    requires values { seed.values.values ≡ J.shelves }
+    requires book { opened.book.seen.book ≡ J.book }
+    requires values { opened.values.values ≡ J.shelves }
 {
-    let Ok(desk) = seed.desk::<J, R, R>(rt, rt.alloc(), *rt) else {
+    let Ok(seed) = DeskSeed::<J, StampedTexts, R>::new(rt, rt.alloc(), opened) else {
         return println!(rt; "no desk");
     };
-    match measure::<J, StampedTexts, R>(rt, &desk, edits, form)? {
+    match measure::<J, StampedTexts, R>(rt, &Desk::new(seed), edits, form)? {
         Some(times) => print_times(rt, form, times),
         None => println!(rt; "no viewer, or no worker"),
     }
@@ -288,7 +292,7 @@ where
     let alloc = rt.alloc();
     for form in FORMS {
         let edits = edits_of(alloc, model, SIZE.models, test, SIZE.tests)?;
-        show_desk::<R, Brand>(rt, DeskSeed::new(alloc)?, edits, form)?;
+        show_desk::<R, Brand>(rt, OpenedDesk::new(alloc)?, edits, form)?;
     }
     Ok(())
 }

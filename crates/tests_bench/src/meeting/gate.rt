@@ -48,6 +48,18 @@ impl Meeting {
         *self.counts.lock(rt)
     }
 
+    /// The counts once each claim that has begun has ended, or after the last turn.
+    pub fn last_counts<R: Wait>(&self, rt: &R) -> Counts {
+        for _ in 0..MOST_TURNS {
+            let counts = self.counts(rt);
+            if counts.ended >= counts.begun {
+                return counts;
+            }
+            yield_now();
+        }
+        self.counts(rt)
+    }
+
     /// Whether those that a claim waits for have come.
     fn is_open<R: Wait>(&self, rt: &R) -> bool {
         let counts = self.counts(rt);

@@ -10,8 +10,7 @@ use bench_texts::{Edit, EditFault};
 use bench_workers::Tally;
 use cells::events::Reply;
 use cells::shown::Shown;
-use memo_core::claims::Finish;
-use memo_core::keys::Node;
+use memo_core::claims::{Finish, StoredOutputs};
 use outcome_texts::{Shown as Cell, counts_text};
 use std::alloc::{AllocError, Global};
 use std::sync::Wait;
@@ -71,15 +70,6 @@ fn small_edit(
     }
 }
 
-/// Appends replies, each with a line feed behind it.
-fn put_replies(answer: &mut Vec<u8>, replies: &[Reply<EditFault>]) -> Result<(), AllocError> {
-    for reply in replies {
-        put_reply(answer, reply)?;
-        put_bytes(answer, b"\n")?;
-    }
-    Ok(())
-}
-
 /// What becomes of a return: none for a job that is not kept.
 type Returned = Option<Result<Offered, StoreFault>>;
 
@@ -87,15 +77,30 @@ type Returned = Option<Result<Offered, StoreFault>>;
 fn put_stored<B: NumberedBench>(
     answer: &mut Vec<u8>,
     bench: &B,
-    node: Node,
-    outputs: &[u64],
+    told: &StoredOutputs,
 ) -> Result<(), AllocError> {
     put_bytes(answer, b"stored")?;
-    for output in outputs {
+    for name in &told.names {
         put_bytes(answer, b" ")?;
-        if let Some(name) = bench.output_name(node, *output) {
+        if let Some(name) = bench.output_name(told.node, *name) {
             put_bytes(answer, name)?;
         }
+    }
+    Ok(())
+}
+
+/// Appends replies, each with a line feed behind it.
+fn put_replies<B: NumberedBench>(
+    answer: &mut Vec<u8>,
+    bench: &B,
+    replies: &[Reply<EditFault>],
+) -> Result<(), AllocError> {
+    for reply in replies {
+        match reply {
+            Reply::Returned(Ok(Finish::Stored(told))) => put_stored(answer, bench, told)?,
+            reply => put_reply(answer, reply)?,
+        }
+        put_bytes(answer, b"\n")?;
     }
     Ok(())
 }
@@ -108,7 +113,7 @@ fn put_offered<B: NumberedBench>(
 ) -> Result<(), AllocError> {
     put_node(answer, offered.node)?;
     match &offered.finish {
-        Finish::Stored(outputs) => put_stored(answer, bench, offered.node, outputs),
+        Finish::Stored(told) => put_stored(answer, bench, told),
         finish => put_finish(answer, finish),
     }
 }
@@ -229,7 +234,7 @@ impl<'a, B: NumberedBench> BenchPlay<'a, B> {
         let events = events_of(alloc, list)?;
         match self.bench.run_events(rt, alloc, &events) {
             Ok(replies) => {
-                put_replies(answer, &replies)?;
+                put_replies(answer, &self.bench, &replies)?;
                 Ok(true)
             }
             Err(_) => Ok(false),

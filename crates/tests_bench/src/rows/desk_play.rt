@@ -1,7 +1,7 @@
 //! What is answered to a line that is asked of a desk.
 
 use crate::claimed_desk::{ClaimedDesk, Returned};
-use crate::played::{Call, Looker, PlayedDesk, Refusal};
+use crate::played::{Call, Looker, PlayedDesk, Refusal, Taken};
 use crate::rows::question::{Question, edit_of, question_of};
 use crate::rows::replies::{
     put_accepted, put_board, put_claimed, put_count, put_desk_fault, put_finish, put_lost,
@@ -9,7 +9,6 @@ use crate::rows::replies::{
 };
 use bench_workers::Tally;
 use board::Board;
-use desk::Taken;
 use memo_core::claims::Finish;
 use std::alloc::{AllocError, Global};
 use std::io;
@@ -57,7 +56,7 @@ fn asked_of(verb: &str) -> Asked {
 /// Whether a return is answered as that of a claim that was not out.
 fn is_unknown(taken: &Result<Taken, Refusal>) -> bool {
     match taken {
-        Ok(taken) => matches!(&taken.finish, Finish::Unknown),
+        Ok((finish, _posted)) => matches!(finish, Finish::Unknown),
         Err(_) => false,
     }
 }
@@ -202,7 +201,7 @@ fn claim<D: PlayedDesk, W: Wait>(
 /// Counts what became of a return.
 fn note_return(tally: &mut Tally, returned: &Returned) {
     match returned {
-        Returned::Once(Ok(taken)) => tally.note(&taken.finish),
+        Returned::Once(Ok((finish, _posted))) => tally.note(finish),
         _ => tally.note_refusal(),
     }
 }

@@ -1,11 +1,12 @@
 //! What is answered, as words.
 
+use crate::played::{Refusal, Taken};
 use bench_texts::EditFault;
 use bench_workers::Tally;
 use board::Board;
 use cat_syntax::CatFault;
 use cells::events::Reply;
-use desk::{Accepted, DeskFault, Posted, Taken};
+use desk::{Accepted, DeskFault, Posted};
 use litmus_ppc::LitmusFault;
 use memo_core::claims::{ClaimFault, Finish};
 use memo_core::keys::{Kind, Node};
@@ -73,9 +74,9 @@ pub fn put_finish(answer: &mut Vec<u8>, finish: &Finish) -> Result<(), AllocErro
         Finish::Stale(None) => put_bytes(answer, b"stale, of no use"),
         Finish::Stale(Some(stamp)) => put_numbered(answer, b"stale ", *stamp),
         Finish::Same => put_bytes(answer, b"same"),
-        Finish::Stored(names) => {
+        Finish::Stored(told) => {
             put_bytes(answer, b"stored")?;
-            for name in names {
+            for name in &told.names {
                 put_bytes(answer, b" ")?;
                 put_decimal(answer, *name)?;
             }
@@ -87,7 +88,7 @@ pub fn put_finish(answer: &mut Vec<u8>, finish: &Finish) -> Result<(), AllocErro
 /// Why a job was not run.
 pub fn put_run_fault(answer: &mut Vec<u8>, fault: &StoreFault) -> Result<(), AllocError> {
     match fault {
-        StoreFault::Full => put_bytes(answer, b"store full"),
+        StoreFault::StoreFull => put_bytes(answer, b"store full"),
         StoreFault::OutOfMemory => put_bytes(answer, b"out of memory"),
     }
 }
@@ -181,14 +182,11 @@ pub fn put_accepted(answer: &mut Vec<u8>, accepted: Accepted) -> Result<(), Allo
 }
 
 /// What became of a return to a desk: what settles by it is published, if nothing else is said.
-pub fn put_taken(
-    answer: &mut Vec<u8>,
-    taken: &Result<Taken, DeskFault<EditFault>>,
-) -> Result<(), AllocError> {
+pub fn put_taken(answer: &mut Vec<u8>, taken: &Result<Taken, Refusal>) -> Result<(), AllocError> {
     match taken {
-        Ok(taken) => {
-            put_finish(answer, &taken.finish)?;
-            match taken.posted {
+        Ok((finish, posted)) => {
+            put_finish(answer, finish)?;
+            match posted {
                 Posted::Now => Ok(()),
                 Posted::Later => put_bytes(answer, b", published later"),
             }

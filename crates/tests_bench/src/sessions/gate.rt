@@ -26,16 +26,17 @@ impl SharedMeeting {
         })
     }
 
-    /// The same gate once more.
-    pub fn share(&self) -> Result<SharedMeeting, AllocError> {
+    /// The counts once each claim that has begun has ended.
+    pub fn last_counts<R: Wait>(&self, rt: &R) -> Counts {
+        self.meeting.last_counts(rt)
+    }
+}
+
+impl Clone for SharedMeeting {
+    fn clone(&self) -> Result<SharedMeeting, AllocError> {
         Ok(SharedMeeting {
             meeting: Arc::try_clone(&self.meeting)?,
         })
-    }
-
-    /// The counts so far.
-    pub fn counts<R: Wait>(&self, rt: &R) -> Counts {
-        self.meeting.counts(rt)
     }
 }
 

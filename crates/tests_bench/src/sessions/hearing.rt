@@ -1,6 +1,6 @@
 //! A listener that hears how far a table is whenever it is asked.
 
-use command_answers::{AnswerListener, Progress, ProgressListener};
+use command_answers::{AnswerListener, HeardCommand, Progress, ProgressListener};
 use text_values::Item;
 
 /// What was heard: how often of how far a table is and what the last time, how many tables ended,
@@ -44,7 +44,7 @@ impl ProgressListener for Hearing {
 }
 
 impl AnswerListener for Hearing {
-    fn hear(&mut self, _text: &[u8], _answer: &[u8]) {}
+    fn hear(&mut self, _command: HeardCommand<'_>, _answer: &[u8]) {}
 
     fn hear_model(&mut self, _name: &[u8], _numbers: &[u64], _items: &[Item]) {
         self.models = self.models.saturating_add(1);

@@ -3,10 +3,8 @@
 ghost use Rattle.std.specs.Prelude.{◌<◌, ◌-◌, ◌^◌};
 
 use bench_workers::{Gate, NoGate};
-use command_answers::{
-    AnswerListener, ByteSource, MemorySink, MemorySource, NoListener, SessionFault,
-};
-use session_run::session;
+use command_answers::{AnswerListener, ByteSource, MemorySink, MemorySource, SessionFault};
+use session_run::{session, session_heard};
 use std::io;
 use std::sync::Wait;
 use std::thread::Threads;
@@ -40,23 +38,23 @@ pub fn is_same(one: &Ending, other: &Ending) -> bool {
     one.output.as_slice() == other.output.as_slice() && one.end == other.end
 }
 
-/// Runs a session over a source, with a listener and a gate.
-pub fn run_over<R, S, L, G>(
+/// Runs a session over a source, with a gate and a listener.
+pub fn run_over<R, S, G, L>(
     rt: &R,
     source: &mut S,
-    listener: &mut L,
-    gate: G,
     setting: Setting,
+    gate: &G,
+    listener: &mut L,
 ) -> io::Result<Ending>
 where
     R: AllocGlobal + Threads + Wait + Copy + Drop + Send + Sync + 'static,
     S: ByteSource,
+    G: Gate + Clone + Drop + Send + Sync + 'static,
     L: AnswerListener,
-    G: Gate + Drop + Send + Sync + 'static,
     requires { S.failed_calls source.old < 2 ^ 64 - 1 }
 {
     let mut sink = MemorySink::failing_at(Vec::new(rt.alloc()), setting.write);
-    let end = session(rt, source, &mut sink, listener, setting.workers, gate);
+    let end = session_heard(rt, source, &mut sink, setting.workers, gate, listener);
     let output = Vec::from_slice(rt.alloc(), sink.as_bytes())?;
     Ok(Ending { output, end })
 }
@@ -67,5 +65,8 @@ where
     R: AllocGlobal + Threads + Wait + Copy + Drop + Send + Sync + 'static,
 {
     let mut source = MemorySource::failing_at(script, setting.read);
-    run_over(rt, &mut source, &mut NoListener, NoGate, setting)
+    let mut sink = MemorySink::failing_at(Vec::new(rt.alloc()), setting.write);
+    let end = session(rt, &mut source, &mut sink, setting.workers, &NoGate);
+    let output = Vec::from_slice(rt.alloc(), sink.as_bytes())?;
+    Ok(Ending { output, end })
 }

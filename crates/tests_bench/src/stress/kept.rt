@@ -41,7 +41,9 @@ fn is_answered<D: PlayedDesk, W: Wait>(
     is_closed: bool,
 ) -> bool {
     match desk.offer(rt, alloc, claim) {
-        Ok(Returned::Once(Ok(taken))) => matches!(&taken.finish, Finish::Unknown) == is_closed,
+        Ok(Returned::Once(Ok((finish, _posted)))) => {
+            matches!(finish, Finish::Unknown) == is_closed
+        }
         Ok(Returned::Once(Err(_))) => false,
         _ => give_back(rt, desk, claim),
     }

@@ -86,7 +86,7 @@ impl Mirror {
     }
 
     fn make(&mut self, alloc: Global, edit: &Edit) -> Result<bool, AllocError> {
-        match self.texts.prepare(alloc, edit, false) {
+        match self.texts.prepare_unless_spent(alloc, edit, false) {
             Ok(prepared) => {
                 self.texts.commit(prepared);
                 self.logs = Arc::new(alloc, Logs::of(alloc, &self.texts)?)?;

@@ -24,11 +24,12 @@ fn is_other(
     }
 }
 
-/// What is drawn, and how many cells differed.
+/// What is drawn, how many cells differed, and after how many events marks did.
 #[derive(Clone, Copy)]
 pub struct Walk {
     draw: Draw,
     differing: u64,
+    unlike_marks: u64,
 }
 
 impl Walk {
@@ -37,12 +38,18 @@ impl Walk {
         Walk {
             draw: Draw::new(2026),
             differing: 0,
+            unlike_marks: 0,
         }
     }
 
     /// How many times a cell differed.
     pub fn differing(&self) -> u64 {
         self.differing
+    }
+
+    /// After how many events the marks of a node differed from the recursion.
+    pub fn unlike_marks(&self) -> u64 {
+        self.unlike_marks
     }
 
     fn count(&mut self, differs: bool) {
@@ -100,6 +107,9 @@ impl Walk {
             2..=7 => self.edit(alloc, bench, mirror)?,
             8..=23 => claim(alloc, bench)?,
             _ => self.offer(rt, alloc, bench)?,
+        }
+        if bench.has_wrong_mark(alloc)? {
+            self.unlike_marks = self.unlike_marks.wrapping_add(1);
         }
         self.compare(alloc, bench, &**mirror.logs())
     }

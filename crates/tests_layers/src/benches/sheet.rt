@@ -247,6 +247,10 @@ impl Texts for Sheet {
         prepared.used
     }
 
+    fn refused_memory(_prepared: &Prepared, _error: AllocError) -> SheetFault {
+        SheetFault::OutOfMemory
+    }
+
     fn commit(&mut self, prepared: Prepared, number: u64) {
         self.last = number;
         match prepared.change {

@@ -21,7 +21,7 @@ fn fill<R: Print + Wait, K: StoreName>(rt: &R, opened: Opened<u64>) -> io::Resul
     println!(rt; "seen {seen}, one with itself {is_its_own}, one with another {is_another}")?;
     match store.put(rt, 7) {
         Err((value, fault)) => {
-            let is_full = fault == StoreFault::Full;
+            let is_full = fault == StoreFault::StoreFull;
             let is_first = fault.number() == Some(1);
             println!(rt; "{value} comes back, full {is_full}, S1 {is_first}")
         }

@@ -1,7 +1,8 @@
 //! Propositions as `litmus_tokens` reads them, token by token, in a test of two threads.
 
 use litmus_tokens::{
-    Expectation, Front, PropositionStep, Stage, StepError, Token, front_of, proposition_step,
+    Expectation, NextLexeme, PropositionStep, Stage, StepError, Token, first_lexeme,
+    proposition_step,
 };
 use std::alloc::{AllocError, Global};
 use text_values::{Connective, Place, Proposition, Value, put_bytes, put_decimal};
@@ -22,9 +23,9 @@ fn token_at(
     if offset >= text.len() {
         return Ok((Some(Token::End), 1));
     }
-    match front_of(alloc, Stage::Tail, false, &text[offset..])? {
-        Front::Layout(n) => Ok((None, n)),
-        Front::Lexeme(token, n) => Ok((Some(token), n)),
+    match first_lexeme(alloc, Stage::Tail, false, &text[offset..])? {
+        NextLexeme::Layout(n) => Ok((None, n)),
+        NextLexeme::Lexeme(token, n) => Ok((Some(token), n)),
     }
 }
 

@@ -67,12 +67,12 @@ fn put_access(
 
 fn put_event(answer: &mut Vec<u8>, event: Event) -> Result<(), AllocError> {
     match event {
-        Event::Reads(address, value) => put_access(answer, b"load ", address, value),
-        Event::Writes(address, value) => put_access(answer, b"store ", address, value),
-        Event::Orders(Fence::Sync) => put_bytes(answer, b"sync"),
-        Event::Orders(Fence::LightweightSync) => put_bytes(answer, b"lwsync"),
-        Event::Orders(Fence::Eieio) => put_bytes(answer, b"eieio"),
-        Event::Orders(Fence::Isync) => put_bytes(answer, b"isync"),
+        Event::Load(address, value) => put_access(answer, b"load ", address, value),
+        Event::Store(address, value) => put_access(answer, b"store ", address, value),
+        Event::Fence(Fence::Sync) => put_bytes(answer, b"sync"),
+        Event::Fence(Fence::LightweightSync) => put_bytes(answer, b"lwsync"),
+        Event::Fence(Fence::Eieio) => put_bytes(answer, b"eieio"),
+        Event::Fence(Fence::Isync) => put_bytes(answer, b"isync"),
     }
 }
 
@@ -133,10 +133,10 @@ fn put_named_pairs(
 fn put_links_of(alloc: Global, answer: &mut Vec<u8>, run: &Run) -> Result<(), AllocError> {
     put_events(answer, run)?;
     let found = links(alloc, run)?;
-    put_named_pairs(answer, b"; addr ", &found.dependencies.addr_pairs)?;
-    put_named_pairs(answer, b"; data ", &found.dependencies.data_pairs)?;
-    put_named_pairs(answer, b"; ctrl ", &found.dependencies.ctrl_pairs)?;
-    put_named_pairs(answer, b"; ctrlisync ", &found.dependencies.ctrlisync_pairs)?;
+    put_named_pairs(answer, b"; addr ", &found.addr_pairs)?;
+    put_named_pairs(answer, b"; data ", &found.data_pairs)?;
+    put_named_pairs(answer, b"; ctrl ", &found.ctrl_pairs)?;
+    put_named_pairs(answer, b"; ctrlisync ", &found.ctrlisync_pairs)?;
     put_named_pairs(answer, b"; need ", &found.need_pairs)
 }
 

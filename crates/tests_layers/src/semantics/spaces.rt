@@ -30,9 +30,9 @@ fn put_indices(answer: &mut Vec<u8>, list: &[u8]) -> Result<(), AllocError> {
 fn put_execution(answer: &mut Vec<u8>, execution: &Execution) -> Result<(), AllocError> {
     put_decimal(answer, execution.events.len() as u64)?;
     put_bytes(answer, b" events; sources ")?;
-    put_indices(answer, &execution.sources)?;
+    put_indices(answer, &execution.reads_from)?;
     put_bytes(answer, b"; order ")?;
-    put_indices(answer, &execution.order)
+    put_indices(answer, &execution.coherence)
 }
 
 /// Appends a candidate of a test, or what a name means in it.
@@ -49,7 +49,7 @@ pub fn put_candidate(
                 if name == "execution" {
                     return put_execution(answer, &execution);
                 }
-                put_name(answer, &*base(alloc, &execution)?, name)
+                put_name(answer, &base(alloc, &execution)?, name)
             }
             None => put_bytes(answer, b"no candidate"),
         },

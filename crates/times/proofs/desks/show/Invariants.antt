@@ -1,7 +1,7 @@
 use Rattle.times.proofs.desks.show.Given as goal
 
 abbrev pub ghosts-show_desk-J-Naming : goal.ghosts-show_desk-J-Naming
-ghosts-show_desk-J-Naming g a = record { book = a.seed.book.seen.book }
+ghosts-show_desk-J-Naming g a = record { book = a.opened.book.seen.book }
 
 abbrev pub ghosts-show_desk-J-StoreName : goal.ghosts-show_desk-J-StoreName
-ghosts-show_desk-J-StoreName g a = record { shelves = a.seed.values.values }
+ghosts-show_desk-J-StoreName g a = record { shelves = a.opened.values.values }
