@@ -68,38 +68,15 @@ function readReasons(text) {
   return reasons;
 }
 
-const QUOTED = String.raw`"((?:[^"\\]|\\.)*)"`;
-
-function unquoted(text) {
-  return text.replace(/\\(.)/g, (_, letter) => (letter === "n" ? "\n" : letter));
-}
-
-// The executions that `draw` draws: title, events of each thread and edges.
+// The executions that the program draws, each an element with its title.
 function readDrawings(text) {
-  return text.split(/^(?=digraph )/m).filter((it) => it.startsWith("digraph ")).map(readDrawing);
+  return text.split(/^(?=<svg )/m).filter((it) => it.startsWith("<svg ")).map(readDrawing);
 }
 
 function readDrawing(text) {
-  const title = unquoted(text.match(RegExp(`^digraph ${QUOTED}`))[1]);
-  const drawing = { title, initial: [], threads: [], edges: [] };
-  for (const line of text.split("\n")) {
-    const event = line.match(RegExp(`^(\\w+) \\[label=${QUOTED}`));
-    const edge = line.match(RegExp(`^(\\w+) -> (\\w+) \\[label=${QUOTED}`));
-    if (line.startsWith("subgraph ")) drawing.threads.push([]);
-    else if (event) (drawing.threads.at(-1) ?? drawing.initial).push(readEvent(event));
-    else if (edge) drawing.edges.push(readEdge(edge, line.includes("penwidth")));
-  }
-  return drawing;
-}
-
-// The steps of a reason are thick.
-function readEdge([, from, to, name], isStep) {
-  return { from, to, name: unquoted(name), isStep };
-}
-
-function readEvent([, name, label]) {
-  const [does, instruction = "initial"] = unquoted(label).split("\n");
-  return { name, does, instruction };
+  const drawn = new DOMParser().parseFromString(text, "image/svg+xml").documentElement;
+  drawn.querySelector("style")?.remove();
+  return { title: drawn.querySelector("title")?.textContent ?? "", drawn };
 }
 
 // The last field of the second line of a table, or nothing where the model has no column.

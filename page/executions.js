@@ -38,7 +38,7 @@ class Executions {
     this.which = this.chosen ?? (cell.log.positive > 0 ? "shown" : "forbidden");
     const texts = [cell.model.file, TEST_FILE];
     const why = await program.ask(["why", ...texts, "--forbidden", ...(this.isDeep ? ["--deep"] : [])], files);
-    const draw = await program.ask(["draw", ...texts, `--${this.which}`, "--most", String(MOST_DRAWINGS)], files);
+    const draw = await program.ask(["draw", "--svg", ...texts, `--${this.which}`, "--most", String(MOST_DRAWINGS)], files);
     const problem = why.problem ?? draw.problem;
     const reasons = problem || this.which === "shown" ? [] : readReasons(why.out);
     this.put(problem ? [] : readDrawings(draw.out));

@@ -94,41 +94,8 @@ function reasonOf({ count: number, check, lines }) {
   return make("div", { className: "reason" }, head, text("pre", lines.join("\n")));
 }
 
-// An execution as the page draws it. All drawings of the page are made here.
-function drawingOf({ title, initial, threads, edges }) {
-  const columns = threads.map((events, at) => columnOf(`P${at}`, events));
-  if (initial.length) columns.unshift(columnOf("initial", initial));
-  const steps = edges.filter((it) => it.isStep), others = edges.filter((it) => !it.isStep);
-  const names = [...new Set(others.map((it) => it.name))];
-  const relations = names.map((name) => relationOf(name, others.filter((it) => it.name === name)));
-  return make(
-    "figure",
-    {},
-    text("figcaption", title),
-    make("div", { className: "threads" }, columns),
-    make("div", { className: "relations" }, relations, steps.length ? stepsOf(steps) : null),
-  );
-}
-
-function columnOf(title, events) {
-  const boxes = events.map(({ does, instruction }) => {
-    return make("div", { className: "event" }, text("b", does), text("small", instruction));
-  });
-  return make("div", { className: "thread" }, text("h4", title), boxes);
-}
-
-function relationOf(name, edges) {
-  const pairs = edges.map((it) => `${it.from} → ${it.to}`).join(", ");
-  return make("p", { className: `relation ${classOf(name)}` }, text("b", name), ` ${pairs}`);
-}
-
-function stepsOf(steps) {
-  const parts = steps.map((it) => [text("b", ` ${it.name} `), `→ ${it.to}`]);
-  return make("p", { className: "steps" }, steps[0].from, parts);
-}
-
-function classOf(name) {
-  if (["po", "rf", "co", "fr"].includes(name)) return name;
-  if (["addr", "data", "ctrl"].includes(name)) return "dep";
-  return ["sync", "lwsync", "eieio", "isync"].includes(name) ? "fence" : "named";
+// An execution as the program draws it. All drawings of the page are made here.
+function drawingOf({ title, drawn }) {
+  const place = make("div", { className: "drawing", tabIndex: 0 }, document.importNode(drawn, true));
+  return make("figure", {}, text("figcaption", title), place);
 }
