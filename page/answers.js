@@ -73,9 +73,10 @@ function readDrawings(text) {
   return text.split(/^(?=<svg )/m).filter((it) => it.startsWith("<svg ")).map(readDrawing);
 }
 
+// A drawing has a style of its own, which the page does not allow, and has in its own.
 function readDrawing(text) {
-  const drawn = new DOMParser().parseFromString(text, "image/svg+xml").documentElement;
-  drawn.querySelector("style")?.remove();
+  const plain = text.replace(/<style>[^]*?<\/style>/, "");
+  const drawn = new DOMParser().parseFromString(plain, "image/svg+xml").documentElement;
   return { title: drawn.querySelector("title")?.textContent ?? "", drawn };
 }
 

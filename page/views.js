@@ -94,8 +94,10 @@ function reasonOf({ count: number, check, lines }) {
   return make("div", { className: "reason" }, head, text("pre", lines.join("\n")));
 }
 
-// An execution as the program draws it. All drawings of the page are made here.
+// An execution as the program draws it, as wide as there is room, and not too small to read. All drawings of the page
+// are made here.
 function drawingOf({ title, drawn }) {
   const place = make("div", { className: "drawing", tabIndex: 0 }, document.importNode(drawn, true));
+  place.style.setProperty("--width", `${drawn.getAttribute("width")}px`);
   return make("figure", {}, text("figcaption", title), place);
 }
