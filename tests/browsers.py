@@ -11,7 +11,8 @@ import tempfile
 import time
 
 WAIT = 120
-TAB = 9
+# The numbers of keys that are no letters.
+KEYS = {"Tab": 9, "ArrowUp": 38, "ArrowDown": 40}
 
 
 class Browser:
@@ -39,6 +40,10 @@ class Browser:
     def texts(self, selector):
         """Returns the texts of the elements that a selector finds."""
         return self.value(f"[...document.querySelectorAll({json.dumps(selector)})].map(it => it.textContent)")
+
+    def markup(self, selector):
+        """Returns the elements that a selector finds, as they are written."""
+        return self.value(f"[...document.querySelectorAll({json.dumps(selector)})].map(it => it.outerHTML)")
 
     def do(self, text):
         """Does something that is answered, as the choice of a test."""
@@ -125,7 +130,7 @@ class Chromium(Browser):
         self.call("Input.insertText", text=text)
 
     def press(self, key, code, modifiers=0):
-        number = ord(key.upper()) if len(key) == 1 else TAB
+        number = KEYS.get(key) or ord(key.upper())
         more = {"key": key, "code": code, "windowsVirtualKeyCode": number, "modifiers": modifiers}
         self.call("Input.dispatchKeyEvent", type="rawKeyDown", **more)
         if len(key) == 1:
