@@ -4,6 +4,7 @@
 
 const HEADER = 16, PAGE = 65536, PAGES_AT_ONCE = 16;
 const NO_SUCH_FILE = 2, CANNOT_SEEK = 29;
+const FAULTS = { [NO_SUCH_FILE]: "No such file or directory", [CANNOT_SEEK]: "Illegal seek" };
 const LOW = (1n << 64n) - 1n;
 const encoder = new TextEncoder(), decoder = new TextDecoder();
 
@@ -148,6 +149,10 @@ function functionsOfFiles(heap, streams) {
   return {
     rattle_errno: () => fault,
     rattle_set_errno: (number) => void (fault = number),
+    __xpg_strerror_r: (number, to) => {
+      heap.bytes.set(encoder.encode(`${FAULTS[number]}\0`), Number(to));
+      return 0;
+    },
     open: (name) => {
       const number = streams.open(heap.text(Number(name)));
       return number < 0 ? refused(NO_SUCH_FILE) : number;
