@@ -127,7 +127,7 @@ module _ {X Y : Type 0} (f : X → Y) (g : Y → X) (there : (x : X) → g (f x)
         (meanings (meaning_of all outer b.1) (meaning_of every beyond b.1)
         (meaning_same f g there back all every whole outer beyond same b.1)) h)
 
-    after_same : (c : Clause) (bs : Names X) (cs : Names Y) → SameNames f bs cs
+    pub after_same : (c : Clause) (bs : Names X) (cs : Names Y) → SameNames f bs cs
         → SameNames f (names_after all bs c) (names_after every cs c)
     after_same (Binding true group) bs cs h =
         group_same f (Least all bs group) (Least every cs group) (least_same group bs cs h) group
@@ -144,7 +144,7 @@ module _ {X Y : Type 0} (f : X → Y) (g : Y → X) (there : (x : X) → g (f x)
     after_same (Showing hidden shown) bs cs h = h
     after_same (Including path) bs cs h = h
 
-    met_same : (check : Checked) (bs : Names X) (cs : Names Y) → SameNames f bs cs
+    pub met_same : (check : Checked) (bs : Names X) (cs : Names Y) → SameNames f bs cs
         → IsMet all bs check ↔ IsMet every cs check
     met_same check bs cs h =
         negated_same check.negated (HasProperty check.word (meaning_of all bs check.body))

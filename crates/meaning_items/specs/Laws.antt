@@ -21,7 +21,8 @@ use Rattle.meaning_slots.specs.Slots.{candidate_value}
 
 -- The answers of the checks and the flags among the items, in the order of the text, are true for
 -- the candidate of that number just where the check is met.
-abbrev pub AreMeant : ℕ → Set ℕ → Names ℕ → List Clause → List (List Bool) → List Flag → Type 0
+abbrev pub AreMeant : {E : Type 0} → ℕ → Set E → Names E → List Clause → List (List Bool)
+    → List Flag → Type 0
 AreMeant k all names [] [] [] = Unit {0}
 AreMeant k all names [] _ _ = ⊥
 AreMeant k all names (Checking check label ∷ cs) [] fs = ⊥
