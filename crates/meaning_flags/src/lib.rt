@@ -1,6 +1,6 @@
 //! A law that ties `meaning` to the program: the flags of an evaluation are those that the
-//! definitions raise. Read in specs/: Flags, after `Listed` of `meaning_kept/specs` and `Outcome` of
-//! `meaning/specs`.
+//! definitions raise. Read in specs/: Flags, after `Listed` of `meaning_kept/specs` and `Outcome`
+//! of `meaning/specs`.
 #![tactic(auto)]
 
 ghost use Rattle.meaning_flags.specs.Flags.{FlagsAreRaised};
