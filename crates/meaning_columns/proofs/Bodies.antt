@@ -38,10 +38,10 @@ use Rattle.meaning_terms.specs.Formulas.{HasNames}
 use Rattle.meaning_terms.proofs.Items.{AreSound}
 use Rattle.meaning_cat.specs.Alike.{IsAs}
 use Rattle.meaning_cat.specs.Groups.{term_at}
-use Rattle.meaning_columns.specs.Slots.{AreSlotsMeant}
-use Rattle.meaning_columns.proofs.Naming.{AreNamedSenses, AreUsedNames, formula_named}
-use Rattle.meaning_columns.proofs.Seen.{column_as, seen_as}
-use Rattle.meaning_columns.proofs.Used.{Extends, IsCovered, AllCover, values_extend, covered}
+use Rattle.meaning_slots.specs.Slots.{AreSlotsMeant}
+use Rattle.meaning_slots.proofs.Naming.{AreNamedSenses, AreUsedNames, formula_named}
+use Rattle.meaning_slots.proofs.Seen.{column_as, seen_as}
+use Rattle.meaning_slots.proofs.Used.{Extends, IsCovered, AllCover, values_extend, covered}
 
 -- ---- which names the bodies use
 

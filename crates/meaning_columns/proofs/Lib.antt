@@ -1,7 +1,3 @@
-pub mod Used
-pub mod Naming
-pub mod Seen
-pub mod Growing
 pub mod Bodies
 pub mod Recursive
 pub mod State

@@ -44,12 +44,12 @@ use Rattle.meaning_cat.specs.Alike.{IsAs, HasSource, HasOuterSources}
 use Rattle.meaning_cat.specs.Groups.{name_at, term_at}
 use Rattle.meaning_cat.specs.Laws.{AreTrees}
 use Rattle.meaning_cat.proofs.Laws.{group_least}
-use Rattle.meaning_columns.specs.Slots.{naming_in, AreSlotsMeant}
+use Rattle.meaning_slots.specs.Slots.{naming_in, AreSlotsMeant}
 use Rattle.meaning_columns.proofs.Bodies.{used_at, at_extends, at_covered, code_at, as_many_bodies, one_tree, column_at}
-use Rattle.meaning_columns.proofs.Growing.{Grows, senses_grown}
-use Rattle.meaning_columns.proofs.Naming.{IsNamed, naming_more, AreNamedSenses, AreUsedNames, formula_named}
-use Rattle.meaning_columns.proofs.Seen.{source_meant}
-use Rattle.meaning_columns.proofs.Used.{Extends, IsCovered, AllCover, covered}
+use Rattle.meaning_slots.proofs.Growing.{Grows, senses_grown}
+use Rattle.meaning_slots.proofs.Naming.{IsNamed, naming_more, AreNamedSenses, AreUsedNames, formula_named}
+use Rattle.meaning_slots.proofs.Seen.{source_meant}
+use Rattle.meaning_slots.proofs.Used.{Extends, IsCovered, AllCover, covered}
 
 -- ---- the names of the group stand behind those before it
 

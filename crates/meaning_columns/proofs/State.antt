@@ -26,10 +26,10 @@ use Rattle.meaning_terms.specs.Bound.{value_at}
 use Rattle.meaning_terms.proofs.Items.{AreSound}
 use Rattle.meaning_terms.proofs.Slots.{names_more, names_both, formula_below}
 use Rattle.meaning_cat.specs.Groups.{name_at, term_at}
-use Rattle.meaning_columns.specs.Slots.{IsSlotMeant, AreSlotsMeant}
-use Rattle.meaning_columns.proofs.Growing.{Grows, senses_grown, usages_grown, named_grown, used_grown, slots_more}
-use Rattle.meaning_columns.proofs.Naming.{IsNamed, naming_more, AreNamedSenses, AreUsedNames, IsUsedName, AreNamedUsages, formula_named, values_named}
-use Rattle.meaning_columns.proofs.Used.{HasSlot, IsCovered, Covers, AllCover, used_slot, slot_reversed, covered}
+use Rattle.meaning_slots.specs.Slots.{IsSlotMeant, AreSlotsMeant}
+use Rattle.meaning_slots.proofs.Growing.{Grows, senses_grown, usages_grown, named_grown, used_grown, slots_more}
+use Rattle.meaning_slots.proofs.Naming.{IsNamed, naming_more, AreNamedSenses, AreUsedNames, IsUsedName, AreNamedUsages, formula_named, values_named}
+use Rattle.meaning_slots.proofs.Used.{HasSlot, IsCovered, Covers, AllCover, used_slot, slot_reversed, covered}
 
 -- what is known behind items, of which the latest is the first
 pub record IsState (space : Space) (k : ℕ) (one : Candidate) (ss : List Sense)

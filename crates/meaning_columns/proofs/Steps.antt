@@ -40,10 +40,10 @@ use Rattle.meaning_terms.proofs.Items.{item_sound}
 use Rattle.meaning_cat.specs.Alike.{IsAs}
 use Rattle.meaning_cat.specs.Groups.{name_at, term_at}
 use Rattle.meaning_cat.proofs.Own.{AreFaultless, faultless_group}
-use Rattle.meaning_columns.specs.Slots.{IsSlotMeant}
+use Rattle.meaning_slots.specs.Slots.{IsSlotMeant}
 use Rattle.meaning_columns.proofs.Bodies.{plain_column}
-use Rattle.meaning_columns.proofs.Growing.{Grows, senses_grown, usages_grown, columns_below, slots_later, slots_more}
-use Rattle.meaning_columns.proofs.Naming.{AreUsedNames, AreNamedUsages, values_named}
+use Rattle.meaning_slots.proofs.Growing.{Grows, senses_grown, usages_grown, columns_below, slots_later, slots_more}
+use Rattle.meaning_slots.proofs.Naming.{AreUsedNames, AreNamedUsages, values_named}
 use Rattle.meaning_columns.proofs.Recursive.{own_grows, own_column}
 use Rattle.meaning_columns.proofs.State.{IsState, all_grow, group_meant, bodies_meant, all_cover, senses_named, usages_named, one_longer}
 

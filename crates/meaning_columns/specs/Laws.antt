@@ -10,7 +10,7 @@ use Rattle.candidates.specs.Space.{Candidate, candidates_in}
 use Rattle.cat_eval.specs.Executions.{events_of}
 use Rattle.meaning_terms.specs.Behind.{namings_of, bound_of_items}
 use Rattle.meaning_terms.specs.Laws.{AreFaultless}
-use Rattle.meaning_columns.specs.Slots.{candidate_value, AreSlotsMeant}
+use Rattle.meaning_slots.specs.Slots.{candidate_value, AreSlotsMeant}
 
 -- Behind the items of a model without fault each column of a name has, for the candidate of that
 -- number, what the definitions bind; and so it is for the predefined names.

@@ -1,6 +1,5 @@
 //! A law of the names of a model: over the candidates of a space their columns have what the
-//! definitions bind. Read in specs/: Slots, Laws, after `Answers` of `from_scratch/specs` and `Cat`
-//! of `meaning/specs`.
+//! definitions bind. Read in specs/: Laws, after `Slots` of `meaning_slots/specs`.
 #![tactic(auto)]
 
 ghost use Rattle.std.specs.Prelude.{List};

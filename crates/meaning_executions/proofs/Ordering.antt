@@ -135,7 +135,7 @@ has_each xs ys once to long y there = go (has_store xs y) refl
 
 -- ---- Stores of a location
 
-store_action : (k : ℕ) (a : numbered_action.Action) → is_store_to k a ≡ true
+pub store_action : (k : ℕ) (a : numbered_action.Action) → is_store_to k a ≡ true
     → (v : _) × (a ≡ actions.Store k v)
 store_action k (actions.Load l v) h = absurd (true≢false (sym h))
 store_action k (actions.Store l v) h =

@@ -116,7 +116,7 @@ module _ (es : List Event) (R : ℕ → ℕ → Type 0) (S : Event → Event →
 
 -- ---- Reads-from
 
-zip_there : {X Y : Type 0} (xs : List X) (ys : List Y) (k : ℕ) (x : X) (y : Y)
+pub zip_there : {X Y : Type 0} (xs : List X) (ys : List Y) (k : ℕ) (x : X) (y : Y)
     → slice_get xs k ≡ Some x → slice_get ys k ≡ Some y → Contains (zip xs ys) (x, y)
 zip_there [] ys k x y at there = absurd cc
 zip_there (z ∷ xs) [] k x y at there = absurd cc
@@ -130,7 +130,7 @@ zip_there (z ∷ xs) (w ∷ ys) (suc k) x y at there =
 nothing_in : {X : Type 0} (x : X) → Contains [] x → ⊥
 nothing_in x (k, lt, eq) = omega arith
 
-zip_from : {X Y : Type 0} (xs : List X) (ys : List Y) (x : X) (y : Y) → Contains (zip xs ys) (x, y)
+pub zip_from : {X Y : Type 0} (xs : List X) (ys : List Y) (x : X) (y : Y) → Contains (zip xs ys) (x, y)
     → (k : ℕ) × (slice_get xs k ≡ Some x) × (slice_get ys k ≡ Some y)
 zip_from [] ys x y h = absurd (nothing_in (x, y) h)
 zip_from (z ∷ xs) [] x y h = absurd (nothing_in (x, y) h)
@@ -145,7 +145,7 @@ zip_from {X} {Y} (z ∷ xs) (w ∷ ys) x y h = elim (head_or_tail (z, w) (zip xs
 
 module _ (es : List Event) (loads xs : List ℕ) (ls ys : List Event)
     (loads_are : AllZip (IsNumbered es) loads ls) (reads_are : AllZip (IsNumbered es) xs ys) where
-  reads_by_name : (m n : ℕ) → numbered.ReadsFrom loads xs m n
+  pub reads_by_name : (m n : ℕ) → numbered.ReadsFrom loads xs m n
       → ByName es (λ a b. Contains (zip ys ls) (a, b)) m n
   reads_by_name m n (i, lt, below, is, of) =
       let store : _ = at_left (IsNumbered es) xs ys reads_are i m
@@ -160,7 +160,7 @@ module _ (es : List Event) (loads xs : List ℕ) (ls ys : List Event)
         related = zip_there ys ls i store.0 load.0 store.1 load.1;
       }
 
-  reads_by_number : (a b : Event) → Contains (zip ys ls) (a, b)
+  pub reads_by_number : (a b : Event) → Contains (zip ys ls) (a, b)
       → ByNumber es (numbered.ReadsFrom loads xs) a b
   reads_by_number a b h =
       let at : _ = zip_from ys ls a b h in
@@ -191,7 +191,7 @@ pub record IsKind (R : chains.Executed → ℕ → ℕ → Type 0) (Q : Instruct
   pub second : (at : chains.Executed) (i j : ℕ) → R at i j → chains.is_event (at j) ≡ true
   pub load : (at : Instructions) (i j : ℕ) → Q at i j → IsTrue (is_load (at i))
 
-loads_are_events : (i : numbered_instruction.Instruction) → IsTrue (machine.is_load i)
+pub loads_are_events : (i : numbered_instruction.Instruction) → IsTrue (machine.is_load i)
     → chains.is_event i ≡ true
 loads_are_events (does.Immediate d n) h = absurd (true≢false (sym h))
 loads_are_events (does.Move d a) h = absurd (true≢false (sym h))
@@ -207,7 +207,7 @@ loads_are_events (does.Branch c l) h = absurd (true≢false (sym h))
 loads_are_events (does.Jump l) h = absurd (true≢false (sym h))
 loads_are_events (does.Fence f) h = refl
 
-stores_are_events : (i : numbered_instruction.Instruction) (p : chains.Resource)
+pub stores_are_events : (i : numbered_instruction.Instruction) (p : chains.Resource)
     → chains.IsStoredRegister i p → chains.is_event i ≡ true
 stores_are_events (does.Immediate d n) p h = absurd h
 stores_are_events (does.Move d a) p h = absurd h

@@ -17,11 +17,12 @@ use Rattle.meaning.specs.Sets.{Set}
 use Rattle.meaning.specs.Cat.{Names, names_after, IsMet, AreMet}
 use Rattle.meaning_terms.specs.Behind.{outer_bound}
 use Rattle.meaning_terms.specs.Laws.{AreFaultless}
-use Rattle.meaning_columns.specs.Slots.{candidate_value}
+use Rattle.meaning_slots.specs.Slots.{candidate_value}
 
 -- The answers of the checks and the flags among the items, in the order of the text, are true for
 -- the candidate of that number just where the check is met.
-abbrev pub AreMeant : ℕ → Set ℕ → Names ℕ → List Clause → List (List Bool) → List Flag → Type 0
+abbrev pub AreMeant : {E : Type 0} → ℕ → Set E → Names E → List Clause → List (List Bool)
+    → List Flag → Type 0
 AreMeant k all names [] [] [] = Unit {0}
 AreMeant k all names [] _ _ = ⊥
 AreMeant k all names (Checking check label ∷ cs) [] fs = ⊥

@@ -53,7 +53,7 @@ module _ (t : Test) (initial : List Value) (xs : List numbered.Execution)
   alike : AreSameExecutions content p V
   alike = same_executions t p are.of_test V are.domain.last
 
-  is_one : (x : numbered.Execution) → Contains xs x → IsProgramExecution p V x
+  pub is_one : (x : numbered.Execution) → Contains xs x → IsProgramExecution p V x
   is_one x there =
       subst (λ (vs : List Value). numbered.IsExecution vs (threads_of p) (Contains V) x) are.starts
       (filtered_holds (numbered.IsExecution initial (threads_of p) (Contains V))

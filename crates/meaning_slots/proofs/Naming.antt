@@ -22,7 +22,7 @@ use Rattle.binding_graph.specs.Inputs.{index_of, with_used, with_binder, with_na
 use Rattle.binding_graph.specs.Usages.{Usage, with_all_used, values_of, usage_at, usage_seen, with_meaning, with_values, with_values_among}
 use Rattle.meaning.specs.Names.{Name}
 use Rattle.meaning_terms.specs.Formulas.{HasNames}
-use Rattle.meaning_columns.specs.Slots.{naming_in}
+use Rattle.meaning_slots.specs.Slots.{naming_in}
 use Rattle.meaning_terms.proofs.Slots.{formula_names}
 
 -- ---- the naming in a slot

@@ -1,5 +1,5 @@
 -- What the names that an item sees stand for in a candidate: the columns have, for the candidate of
--- that number, what the definitions bind. Read next: Laws.
+-- that number, what the definitions bind.
 use Rattle.std.specs.Prelude.{ℕ, ◌≡◌, ◌<◌, List, [], ◌∷◌, length, nat_eq, if◌then◌else◌, Option, Some, None, slice_get}
 use Rattle.text_values.specs.declared.predefined.Predefined.{Predefined}
 use Rattle.text_values.specs.PredefinedNames.{is_set}

@@ -22,8 +22,8 @@ use Rattle.meaning.specs.Names.{Name}
 use Rattle.meaning.specs.Cat.{Meaning, Bound, Names, of_name}
 use Rattle.meaning_terms.specs.Bound.{value_at}
 use Rattle.meaning_terms.proofs.Slots.{names_more, older_values, latest_value}
-use Rattle.meaning_columns.specs.Slots.{naming_in, IsSlotMeant, AreSlotsMeant}
-use Rattle.meaning_columns.proofs.Naming.{naming_below, IsNamed, AreNamedSenses, AreUsedNames, AreNamedUsages}
+use Rattle.meaning_slots.specs.Slots.{naming_in, IsSlotMeant, AreSlotsMeant}
+use Rattle.meaning_slots.proofs.Naming.{naming_below, IsNamed, AreNamedSenses, AreUsedNames, AreNamedUsages}
 
 -- ---- more names
 

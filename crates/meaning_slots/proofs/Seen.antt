@@ -43,9 +43,9 @@ use Rattle.meaning_terms.proofs.Slots.{names_more, names_both, formula_below}
 use Rattle.meaning_cat.specs.Alike.{IsAs, HasSource}
 use Rattle.meaning_cat.proofs.Own.{outer_pairs}
 use Rattle.meaning_cat.proofs.Terms.{term_as}
-use Rattle.meaning_columns.specs.Slots.{naming_in, IsInputMeant, IsSlotMeant, AreSlotsMeant}
-use Rattle.meaning_columns.proofs.Naming.{IsNamed, IsUsedName, AreUsedNames, input_at}
-use Rattle.meaning_columns.proofs.Used.{Extends, IsUsed, IsCovered}
+use Rattle.meaning_slots.specs.Slots.{naming_in, IsInputMeant, IsSlotMeant, AreSlotsMeant}
+use Rattle.meaning_slots.proofs.Naming.{IsNamed, IsUsedName, AreUsedNames, input_at}
+use Rattle.meaning_slots.proofs.Used.{Extends, IsUsed, IsCovered}
 
 zip_at : {X Y : Type 0} (R : X → Y → Type 0) (xs : List X) (ys : List Y) → AllZip R xs ys
     → (i : ℕ) (x : X) → slice_get xs i ≡ Some x → (y : Y) × (slice_get ys i ≡ Some y) × R x y

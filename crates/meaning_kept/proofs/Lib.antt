@@ -1,0 +1,4 @@
+pub mod Coding
+pub mod Extending
+pub mod Carrying
+pub mod Listing

@@ -1,0 +1,4 @@
+pub mod Used
+pub mod Naming
+pub mod Seen
+pub mod Growing
