@@ -1,0 +1,16 @@
+use Rattle.std.proofs.Common.{◌≡◌, Contains, true}
+use Rattle.meaning_plain.proofs.Growing.{grows_if, grows_unless}
+use Rattle.meaning_plain.proofs.relations.add_other.Goals as goal
+
+pub returns-then-has_pair : goal.returns-then-has_pair
+returns-then-has_pair c =
+    grows_unless (Contains c.args.others.now c.args.pair → ⊥) c.args.pair
+    c.args.pairs.now.items (λ lacks. lacks (c.has_pair.ensures.0 c.if-has_pair.true))
+
+pub returns : goal.returns
+returns c =
+    grows_if (Contains c.args.others.now c.args.pair → ⊥) c.args.pair c.args.pairs.now.items _
+    (λ is.
+    let t : c.has_pair.result ≡ true = c.has_pair.ensures.1 is in
+    let f = c.if-has_pair.false in cc)
+    c.in_ok-add_pair.ensures

@@ -1,0 +1,16 @@
+use Rattle.std.proofs.Common.{arith, ◌≡◌, ℕ}
+use Rattle.meaning_plain.specs.Lists.{Given}
+use Rattle.meaning_plain.proofs.Growing.{grows_begin, grows_more, grows_all}
+use Rattle.meaning_plain.proofs.relations.add_product.Goals as goal
+
+pub loop-event-init : goal.loop-event-init
+loop-event-init c = grows_begin (λ (x : ℕ). Given (λ (y : ℕ) (p : ℕ × ℕ). p ≡ (x, y)) c.args.second.now) c.args.pairs.now.items
+
+pub loop-event-preserved : goal.loop-event-preserved
+loop-event-preserved c =
+    grows_more (λ (x : ℕ). Given (λ (y : ℕ) (p : ℕ × ℕ). p ≡ (x, y)) c.args.second.now) c.args.first.now c.loop-event.event-index _ _ _ _ (omega arith)
+    c.loop-event.invariant c.in_ok-add_from.ensures
+
+pub returns : goal.returns
+returns c =
+    grows_all (λ (x : ℕ). Given (λ (y : ℕ) (p : ℕ × ℕ). p ≡ (x, y)) c.args.second.now) c.args.first.now c.loop-event.event-index _ _ (omega arith) c.loop-event.invariant

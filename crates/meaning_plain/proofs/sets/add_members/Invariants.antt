@@ -1,0 +1,7 @@
+use Rattle.std.proofs.Common.{◌≡◌, ℕ, take}
+use Rattle.meaning_plain.specs.Lists.{Grows, Given}
+use Rattle.meaning_plain.proofs.sets.add_members.Given as goal
+
+abbrev pub invariant-loop-event : goal.invariant-loop-event
+invariant-loop-event l =
+    Grows (Given (λ (x e : ℕ). e ≡ x) (take l.event-index l.more)) l.initial.set.items l.set.items
