@@ -1,7 +1,7 @@
 //! Examples of the bench, one thread and many: lists of edits, claims, returns and reads with the
 //! answers that were written by hand, a walk by events that are drawn, and desks whose author,
 //! workers and viewers are threads of their own. Then what stands over it: sessions, and the
-//! watching of files, and the library, each part behind a line that names it.
+//! watching of files, each part behind a line that names it.
 #![tactic(auto)]
 
 mod benches;
@@ -9,7 +9,6 @@ mod claimed;
 mod claimed_desk;
 mod desks;
 mod jobs;
-mod library;
 mod meeting;
 mod numbered;
 mod played;
@@ -36,8 +35,7 @@ where
     stress::show(rt)?;
     sessions::show_all(rt)?;
     println!(rt; "# Watching")?;
-    watching::show_all(rt)?;
-    library::show(rt)
+    watching::show_all(rt)
 }
 
 /// Plays all examples; with words, the lists of those files alone.
