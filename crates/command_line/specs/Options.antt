@@ -112,7 +112,6 @@ takes commands.Diff Json = true
 takes commands.Session Workers = true
 takes commands.Why Forbidden = true
 takes commands.Why Deep = true
-takes commands.Watch Dashes = true
 takes commands.Watch Workers = true
 takes commands.Watch Poll = true
 takes commands.Draw name = is_of_draw name

@@ -193,12 +193,7 @@ pub(crate) fn takes(command: Command, name: OptionName) -> bool
         Command::Diff => matches!(name, OptionName::Tab | OptionName::Json),
         Command::Session => matches!(name, OptionName::Workers),
         Command::Why => matches!(name, OptionName::Forbidden | OptionName::Deep),
-        Command::Watch => {
-            matches!(
-                name,
-                OptionName::Dashes | OptionName::Workers | OptionName::Poll
-            )
-        }
+        Command::Watch => matches!(name, OptionName::Workers | OptionName::Poll),
         Command::Draw => is_of_draw(name),
     }
 }

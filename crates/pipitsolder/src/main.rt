@@ -557,14 +557,11 @@ where
         Form::Stream => stream(rt, errors),
         Form::Session { script, workers } => session_of(rt, errors, script, workers),
         Form::Watch {
-            models,
+            model,
             tests,
             workers,
             poll,
-        } => match models.get(0) {
-            Some(model) => watch_files(rt, errors, model, &tests, workers, poll),
-            None => Ok(false),
-        },
+        } => watch_files(rt, errors, model, &tests, workers, poll),
         Form::Eval {
             model,
             test,
@@ -616,13 +613,6 @@ where
     }
 }
 
-fn watches_several(form: &Form<'_>) -> bool {
-    match form {
-        Form::Watch { models, .. } => models.len() > 1,
-        _ => false,
-    }
-}
-
 fn answer<R, E: Print + IsTerminal + Sync>(rt: &R, errors: &E, words: &[&str]) -> RunEnd
 where
     R: AllocGlobal
@@ -641,10 +631,6 @@ where
     R::Reader: Send + Sync + 'static,
 {
     match form_of(rt.alloc(), words) {
-        Ok(form) if watches_several(&form) => {
-            let _ = rt.eprintln("error: one model is watched at a time");
-            RunEnd::Usage
-        }
         Ok(form) => tell_done(rt, answer_form(rt, errors, form)),
         Err(error) => tell_usage(rt, &error),
     }
