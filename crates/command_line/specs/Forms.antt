@@ -22,16 +22,18 @@ use Rattle.command_line.specs.Options.{number_given, has_option, takes_all}
 use Rattle.command_line.specs.Words.{Words, borrowed_words, words_given}
 
 -- a model and a test on standard input; a model and a test in files, and whether their outcome is
--- told as JSON; a table of tests under models; where two models tell tests apart; a session of a
--- file's script, or of standard input's, with so many workers; why a model forbids what a test asks
--- for, by a forbidden execution and in depth where these are asked for; the tests of files under a
--- model as the files change, with so many workers, and looks so far apart; pictures of these
--- executions
+-- told as JSON; a table of tests under models; where two models tell tests apart; a page of tests
+-- under models, with drawings of all tests or of those that tell models apart, so many at most; a
+-- session of a file's script, or of standard input's, with so many workers; why a model forbids what
+-- a test asks for, by a forbidden execution and in depth where these are asked for; the tests of
+-- files under a model as the files change, with so many workers, and looks so far apart; pictures of
+-- these executions
 pub data CommandAsked : Type 0 where
   Stream : CommandAsked
   Eval : List ℕ → List ℕ → Bool → CommandAsked
   Table : List (List ℕ) → List (List ℕ) → ResultFormat → CommandAsked
   Diff : List ℕ → List ℕ → List (List ℕ) → ResultFormat → CommandAsked
+  Report : List (List ℕ) → List (List ℕ) → Bool → ℕ → CommandAsked
   Session : Option (List ℕ) → ℕ → CommandAsked
   Why : List ℕ → List ℕ → Bool → Bool → CommandAsked
   Watch : List ℕ → List (List ℕ) → ℕ → ℕ → CommandAsked
@@ -47,6 +49,8 @@ asked_by_form (forms.Table models tests format) =
     Table (borrowed_words models.items) (borrowed_words tests.items) format
 asked_by_form (forms.Diff first second tests format) =
     Diff first.now second.now (borrowed_words tests.items) format
+asked_by_form (forms.Report models tests is_all most) =
+    Report (borrowed_words models.items) (borrowed_words tests.items) is_all most
 asked_by_form (forms.Session script workers) = Session (borrowed_word script) workers
 asked_by_form (forms.Why model test is_forbidden is_deep) =
     Why model.now test.now is_forbidden is_deep
@@ -144,6 +148,18 @@ diff_with g (Some format) =
 abbrev pub diff_of : Words → Option CommandAsked
 diff_of g = diff_with g (format_in g.options)
 
+abbrev pub most_in : List GivenOption → Option ℕ
+most_in options = number_within names.Most 200 1 4096 options
+
+-- MODEL .. -- TEST ..
+abbrev pub report_with : Words → Option ℕ → Option CommandAsked
+report_with g None = None
+report_with g (Some most) =
+    asked_if (has_both g) (Report g.paths g.last_paths (has_option names.All g.options) most)
+
+abbrev pub report_of : Words → Option CommandAsked
+report_of g = report_with g (most_in g.options)
+
 abbrev pub script_in : List (List ℕ) → Option (List ℕ)
 script_in paths = if length paths == 0 then None else Some (word_at paths 0)
 
@@ -190,16 +206,18 @@ command_of word =
     if is_word word (codes "eval") then Some commands.Eval
     else (if is_word word (codes "table") then Some commands.Table
     else (if is_word word (codes "diff") then Some commands.Diff
+    else (if is_word word (codes "report") then Some commands.Report
     else (if is_word word (codes "session") then Some commands.Session
     else (if is_word word (codes "why") then Some commands.Why
     else (if is_word word (codes "watch") then Some commands.Watch
-    else (if is_word word (codes "draw") then Some commands.Draw else None))))))
+    else (if is_word word (codes "draw") then Some commands.Draw else None)))))))
 
 -- what a command asks for, each of whose options it has
 abbrev pub taken : Command → Words → Option CommandAsked
 taken commands.Eval g = eval_of g
 taken commands.Table g = table_of g
 taken commands.Diff g = diff_of g
+taken commands.Report g = report_of g
 taken commands.Session g = session_of g
 taken commands.Why g = why_of g
 taken commands.Watch g = watch_of g

@@ -4,7 +4,7 @@ ghost use Rattle.std.specs.Prelude.{◌≡◌, IfOk, IfErr, option_map, drop};
 ghost use Rattle.session_script.specs.Requests.{word_at};
 ghost use Rattle.command_line.specs.declared.option.OptionName.TheVariants as names;
 ghost use Rattle.command_line.specs.Words.{words_of, borrowed_words, words_given};
-ghost use Rattle.command_line.specs.Forms.{borrowed_word, asked_by_form, IsFormOf, IsNoForm, command_of, format_by, format_in, number_within, drawn_by, drawn_in, one_picture, more_pictures, pictures_by, pictures_in, workers_in, eval_of, table_of, diff_of, script_in, session_of, why_of, poll_in, watch_of, draw_of, taken, by_words, asked_by_words};
+ghost use Rattle.command_line.specs.Forms.{borrowed_word, asked_by_form, IsFormOf, IsNoForm, command_of, format_by, format_in, number_within, drawn_by, drawn_in, one_picture, more_pictures, pictures_by, pictures_in, workers_in, eval_of, table_of, diff_of, most_in, report_of, script_in, session_of, why_of, poll_in, watch_of, draw_of, taken, by_words, asked_by_words};
 
 use crate::option::{Command, GivenOption, OptionName, has_option, number_given, takes_all};
 use crate::words::{GivenWords, words_given};
@@ -18,6 +18,11 @@ const MOST_WORKERS: u64 = 32;
 const MOST_GRAPHS: u64 = 64;
 
 const USUAL_GRAPHS: u64 = 16;
+
+/// The most drawings of a page, and how many there are at most where no number is asked for.
+const MOST_DRAWINGS: u64 = 4_096;
+
+const USUAL_DRAWINGS: u64 = 200;
 
 /// The most executions of a test.
 const MOST_EXECUTIONS: u64 = 16_384;
@@ -85,6 +90,14 @@ pub enum Form<'a> {
         second: &'a str,
         tests: Vec<&'a str>,
         format: ResultFormat,
+    },
+    /// A page of the tests of some files under the models of others, with so many drawings at most,
+    /// of all tests or of those that tell models apart.
+    Report {
+        models: Vec<&'a str>,
+        tests: Vec<&'a str>,
+        is_all: bool,
+        most: u64,
     },
     /// A script stands in a file, or on standard input: its commands are answered one after
     /// another, with so many workers.
@@ -285,6 +298,29 @@ fn diff_form<'a>(alloc: Global, words: &GivenWords<'a>) -> Result<Option<Form<'a
     }
 }
 
+fn most_in(options: &[GivenOption]) -> Option<u64>
+    ensures { result ≡ most_in options.now }
+{
+    number_within(options, OptionName::Most, USUAL_DRAWINGS, 1, MOST_DRAWINGS)
+}
+
+fn report_form<'a>(words: GivenWords<'a>) -> Option<Form<'a>>
+    ensures { option_map asked_by_form result ≡ report_of (words_of words.entry) }
+{
+    let is_all = has_option(&words.options, OptionName::All);
+    match most_in(&words.options) {
+        Some(most) if !words.paths.is_empty() && !words.last_paths.is_empty() => {
+            Some(Form::Report {
+                models: words.paths,
+                tests: words.last_paths,
+                is_all,
+                most,
+            })
+        }
+        _ => None,
+    }
+}
+
 fn workers_in(options: &[GivenOption]) -> Option<u64>
     ensures { result ≡ workers_in options.now }
 {
@@ -373,6 +409,8 @@ fn command_of(word: &str) -> Option<Command>
         Some(Command::Table)
     } else if word == "diff" {
         Some(Command::Diff)
+    } else if word == "report" {
+        Some(Command::Report)
     } else if word == "session" {
         Some(Command::Session)
     } else if word == "why" {
@@ -398,6 +436,7 @@ fn taken_form<'a>(
         Command::Eval => Ok(eval_form(&words)),
         Command::Table => Ok(table_form(words)),
         Command::Diff => diff_form(alloc, &words),
+        Command::Report => Ok(report_form(words)),
         Command::Session => Ok(session_form(&words)),
         Command::Why => Ok(why_form(&words)),
         Command::Watch => watch_form(alloc, &words),

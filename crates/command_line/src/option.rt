@@ -54,6 +54,8 @@ pub enum Command {
     Table,
     /// `diff`
     Diff,
+    /// `report`
+    Report,
     /// `session`
     Session,
     /// `why`
@@ -191,6 +193,12 @@ pub(crate) fn takes(command: Command, name: OptionName) -> bool
             OptionName::Dashes | OptionName::Tab | OptionName::Json
         ),
         Command::Diff => matches!(name, OptionName::Tab | OptionName::Json),
+        Command::Report => {
+            matches!(
+                name,
+                OptionName::Dashes | OptionName::All | OptionName::Most
+            )
+        }
         Command::Session => matches!(name, OptionName::Workers),
         Command::Why => matches!(name, OptionName::Forbidden | OptionName::Deep),
         Command::Watch => matches!(name, OptionName::Workers | OptionName::Poll),

@@ -156,6 +156,26 @@ const DIFF: Form = Form {
     after: "Example: pipitsolder diff sc.cat power.cat MP.litmus CoWR.litmus",
 };
 
+const REPORT: Form = Form {
+    name: "report",
+    about: "A page of the tests of some files under the models of others, for a browser",
+    arguments: &[
+        MODELS,
+        LAST_TESTS,
+        Argument {
+            name: "all",
+            help: "Drawings of all tests, not of those alone that tell models apart",
+            kind: Kind::Flag(&[]),
+        },
+        Argument {
+            name: "N",
+            help: "At most so many drawings, 1 to 4096: otherwise 200",
+            kind: Kind::Number("most"),
+        },
+    ],
+    after: "Example: pipitsolder report sc.cat power.cat -- MP.litmus CoWR.litmus > page.html",
+};
+
 const SESSION: Form = Form {
     name: "session",
     about: "Answers the commands of a script: edits of tests and models, and questions",
@@ -256,7 +276,7 @@ const WATCH: Form = Form {
 };
 
 // In the order of the usage.
-const FORMS: [Form; 7] = [EVAL, TABLE, DIFF, SESSION, WHY, DRAW, WATCH];
+const FORMS: [Form; 8] = [EVAL, TABLE, DIFF, REPORT, SESSION, WHY, DRAW, WATCH];
 
 // How many values a positional argument takes.
 fn values_of(kind: Kind) -> ValueRange {
@@ -339,6 +359,7 @@ fn program<'a>(alloc: Global) -> Result<Command<'a>, AllocError> {
 fn no_form(subcommand: Option<&str>) -> &'static str {
     match subcommand {
         Some("session") => "no form has these words; `--workers` takes a number from 0 to 32",
+        Some("report") => "no form has these words; `--most` takes a number from 1 to 4096",
         Some("watch") => {
             "no form has these words; `--workers` takes a number from 0 to 32, and `--poll` one \
             from 0 to 60000"
