@@ -23,18 +23,20 @@ use Rattle.command_line.specs.Words.{Words, borrowed_words, words_given}
 
 -- a model and a test on standard input; a model and a test in files, and whether their outcome is
 -- told as JSON; a table of tests under models; where two models tell tests apart; a page of tests
--- under models, with so many drawings at most; a session of a file's script, or of standard
--- input's, with so many workers; why a model forbids what a test asks for, by a forbidden execution
--- and in depth where these are asked for; the tests of files under models as the files change, with
--- so many workers, and looks so far apart; pictures of these executions
+-- under models, with drawings of all tests or of those that tell models apart, so many at most; a
+-- session of a file's script, or of standard input's, with so many workers; why a model forbids what
+-- a test asks for, by a forbidden execution and in depth where these are asked for; the tests of
+-- files under a model as the files change, with so many workers, and looks so far apart; pictures of
+-- these executions
 pub data CommandAsked : Type 0 where
   Stream : CommandAsked
   Eval : List ℕ → List ℕ → Bool → CommandAsked
   Table : List (List ℕ) → List (List ℕ) → ResultFormat → CommandAsked
   Diff : List ℕ → List ℕ → List (List ℕ) → ResultFormat → CommandAsked
+  Report : List (List ℕ) → List (List ℕ) → Bool → ℕ → CommandAsked
   Session : Option (List ℕ) → ℕ → CommandAsked
   Why : List ℕ → List ℕ → Bool → Bool → CommandAsked
-  Watch : List (List ℕ) → List (List ℕ) → ℕ → ℕ → CommandAsked
+  Watch : List ℕ → List (List ℕ) → ℕ → ℕ → CommandAsked
   Draw : List ℕ → List ℕ → Drawn → Pictures → CommandAsked
 
 abbrev pub borrowed_word : Option (Bor (List ℕ)) → Option (List ℕ)
@@ -47,11 +49,13 @@ asked_by_form (forms.Table models tests format) =
     Table (borrowed_words models.items) (borrowed_words tests.items) format
 asked_by_form (forms.Diff first second tests format) =
     Diff first.now second.now (borrowed_words tests.items) format
+asked_by_form (forms.Report models tests is_all most) =
+    Report (borrowed_words models.items) (borrowed_words tests.items) is_all most
 asked_by_form (forms.Session script workers) = Session (borrowed_word script) workers
 asked_by_form (forms.Why model test is_forbidden is_deep) =
     Why model.now test.now is_forbidden is_deep
-asked_by_form (forms.Watch models tests workers poll) =
-    Watch (borrowed_words models.items) (borrowed_words tests.items) workers poll
+asked_by_form (forms.Watch model tests workers poll) =
+    Watch model.now (borrowed_words tests.items) workers poll
 asked_by_form (forms.Draw model test drawn pictures) = Draw model.now test.now drawn pictures
 
 abbrev pub asked_if : Bool → CommandAsked → Option CommandAsked
@@ -144,6 +148,18 @@ diff_with g (Some format) =
 abbrev pub diff_of : Words → Option CommandAsked
 diff_of g = diff_with g (format_in g.options)
 
+abbrev pub most_in : List GivenOption → Option ℕ
+most_in options = number_within names.Most 200 1 4096 options
+
+-- MODEL .. -- TEST ..
+abbrev pub report_with : Words → Option ℕ → Option CommandAsked
+report_with g None = None
+report_with g (Some most) =
+    asked_if (has_both g) (Report g.paths g.last_paths (has_option names.All g.options) most)
+
+abbrev pub report_of : Words → Option CommandAsked
+report_of g = report_with g (most_in g.options)
+
 abbrev pub script_in : List (List ℕ) → Option (List ℕ)
 script_in paths = if length paths == 0 then None else Some (word_at paths 0)
 
@@ -163,24 +179,18 @@ why_of g =
     (Why (word_at g.paths 0) (word_at g.paths 1) (has_option names.Forbidden g.options)
     (has_option names.Deep g.options))
 
--- the paths before `--`, or else the first
-abbrev pub watched_models : Words → List (List ℕ)
-watched_models g = if has_option names.Dashes g.options then g.paths else take 1 g.paths
+abbrev pub poll_in : List GivenOption → Option ℕ
+poll_in options = number_within names.Poll 500 0 60000 options
 
--- the paths behind `--`, or else all but the first
-abbrev pub watched_tests : Words → List (List ℕ)
-watched_tests g = if has_option names.Dashes g.options then g.last_paths else drop 1 g.paths
-
--- MODEL .. -- TEST .., or MODEL TEST ..
+-- MODEL TEST ..
 abbrev pub watch_with : Words → Option ℕ → Option ℕ → Option CommandAsked
 watch_with g (Some workers) (Some poll) =
-    asked_if (nat_lt 0 (length (watched_models g)) && nat_lt 0 (length (watched_tests g)))
-    (Watch (watched_models g) (watched_tests g) workers poll)
+    asked_if (nat_lt 1 (length g.paths))
+    (Watch (word_at g.paths 0) (drop 1 g.paths) workers poll)
 watch_with g workers poll = None
 
 abbrev pub watch_of : Words → Option CommandAsked
-watch_of g =
-    watch_with g (workers_in g.options) (number_within names.Poll 500 0 60000 g.options)
+watch_of g = watch_with g (workers_in g.options) (poll_in g.options)
 
 -- MODEL TEST
 abbrev pub draw_with : Words → Option Drawn → Option Pictures → Option CommandAsked
@@ -196,16 +206,18 @@ command_of word =
     if is_word word (codes "eval") then Some commands.Eval
     else (if is_word word (codes "table") then Some commands.Table
     else (if is_word word (codes "diff") then Some commands.Diff
+    else (if is_word word (codes "report") then Some commands.Report
     else (if is_word word (codes "session") then Some commands.Session
     else (if is_word word (codes "why") then Some commands.Why
     else (if is_word word (codes "watch") then Some commands.Watch
-    else (if is_word word (codes "draw") then Some commands.Draw else None))))))
+    else (if is_word word (codes "draw") then Some commands.Draw else None)))))))
 
 -- what a command asks for, each of whose options it has
 abbrev pub taken : Command → Words → Option CommandAsked
 taken commands.Eval g = eval_of g
 taken commands.Table g = table_of g
 taken commands.Diff g = diff_of g
+taken commands.Report g = report_of g
 taken commands.Session g = session_of g
 taken commands.Why g = why_of g
 taken commands.Watch g = watch_of g

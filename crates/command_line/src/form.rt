@@ -4,7 +4,7 @@ ghost use Rattle.std.specs.Prelude.{◌≡◌, IfOk, IfErr, option_map, drop};
 ghost use Rattle.session_script.specs.Requests.{word_at};
 ghost use Rattle.command_line.specs.declared.option.OptionName.TheVariants as names;
 ghost use Rattle.command_line.specs.Words.{words_of, borrowed_words, words_given};
-ghost use Rattle.command_line.specs.Forms.{borrowed_word, asked_by_form, IsFormOf, IsNoForm, command_of, format_by, format_in, number_within, drawn_by, drawn_in, one_picture, more_pictures, pictures_by, pictures_in, workers_in, eval_of, table_of, diff_of, script_in, session_of, why_of, watched_models, watched_tests, watch_of, draw_of, taken, by_words, asked_by_words};
+ghost use Rattle.command_line.specs.Forms.{borrowed_word, asked_by_form, IsFormOf, IsNoForm, command_of, format_by, format_in, number_within, drawn_by, drawn_in, one_picture, more_pictures, pictures_by, pictures_in, workers_in, eval_of, table_of, diff_of, most_in, report_of, script_in, session_of, why_of, poll_in, watch_of, draw_of, taken, by_words, asked_by_words};
 
 use crate::option::{Command, GivenOption, OptionName, has_option, number_given, takes_all};
 use crate::words::{GivenWords, words_given};
@@ -18,6 +18,11 @@ const MOST_WORKERS: u64 = 32;
 const MOST_GRAPHS: u64 = 64;
 
 const USUAL_GRAPHS: u64 = 16;
+
+/// The most drawings of a page, and how many there are at most where no number is asked for.
+const MOST_DRAWINGS: u64 = 4_096;
+
+const USUAL_DRAWINGS: u64 = 200;
 
 /// The most executions of a test.
 const MOST_EXECUTIONS: u64 = 16_384;
@@ -86,6 +91,14 @@ pub enum Form<'a> {
         tests: Vec<&'a str>,
         format: ResultFormat,
     },
+    /// A page of the tests of some files under the models of others, with so many drawings at most,
+    /// of all tests or of those that tell models apart.
+    Report {
+        models: Vec<&'a str>,
+        tests: Vec<&'a str>,
+        is_all: bool,
+        most: u64,
+    },
     /// A script stands in a file, or on standard input: its commands are answered one after
     /// another, with so many workers.
     Session {
@@ -100,10 +113,10 @@ pub enum Form<'a> {
         is_forbidden: bool,
         is_deep: bool,
     },
-    /// The tests of some files under the models of others, again whenever a file changes, with so
+    /// The tests of some files under the model of another, again whenever a file changes, with so
     /// many workers. The files are looked at so often, in milliseconds, and not at all by 0.
     Watch {
-        models: Vec<&'a str>,
+        model: &'a str,
         tests: Vec<&'a str>,
         workers: u64,
         poll: u64,
@@ -285,6 +298,29 @@ fn diff_form<'a>(alloc: Global, words: &GivenWords<'a>) -> Result<Option<Form<'a
     }
 }
 
+fn most_in(options: &[GivenOption]) -> Option<u64>
+    ensures { result ≡ most_in options.now }
+{
+    number_within(options, OptionName::Most, USUAL_DRAWINGS, 1, MOST_DRAWINGS)
+}
+
+fn report_form<'a>(words: GivenWords<'a>) -> Option<Form<'a>>
+    ensures { option_map asked_by_form result ≡ report_of (words_of words.entry) }
+{
+    let is_all = has_option(&words.options, OptionName::All);
+    match most_in(&words.options) {
+        Some(most) if !words.paths.is_empty() && !words.last_paths.is_empty() => {
+            Some(Form::Report {
+                models: words.paths,
+                tests: words.last_paths,
+                is_all,
+                most,
+            })
+        }
+        _ => None,
+    }
+}
+
 fn workers_in(options: &[GivenOption]) -> Option<u64>
     ensures { result ≡ workers_in options.now }
 {
@@ -327,51 +363,19 @@ fn why_form<'a>(words: &GivenWords<'a>) -> Option<Form<'a>>
     })
 }
 
-// The models and the tests of files that are watched.
-#[derive(Drop)]
-struct WatchedPaths<'a> {
-    models: Vec<&'a str>,
-    tests: Vec<&'a str>,
+fn poll_in(options: &[GivenOption]) -> Option<u64>
+    ensures { result ≡ poll_in options.now }
+{
+    number_within(options, OptionName::Poll, USUAL_POLL, 0, LONGEST_POLL)
 }
 
-// All before `--` are models, and the first where there is no `--`.
-fn watched_paths<'a>(alloc: Global, words: GivenWords<'a>) -> Result<WatchedPaths<'a>, AllocError>
-    ensures models { IfOk result (λ w.
-        borrowed_words w.models.items ≡ watched_models (words_of words.entry)) }
-    ensures tests { IfOk result (λ w.
-        borrowed_words w.tests.items ≡ watched_tests (words_of words.entry)) }
+fn watch_form<'a>(alloc: Global, words: &GivenWords<'a>) -> Result<Option<Form<'a>>, AllocError>
+    ensures { IfOk result (λ f. option_map asked_by_form f ≡ watch_of (words_of words.now)) }
 {
-    if has_option(&words.options, OptionName::Dashes) {
-        return Ok(WatchedPaths {
-            models: words.paths,
-            tests: words.last_paths,
-        });
-    }
-    let tests = words_from(alloc, &words.paths, 1)?;
-    let mut models = words.paths;
-    models.truncate(1);
-    Ok(WatchedPaths { models, tests })
-}
-
-fn watch_form<'a>(alloc: Global, words: GivenWords<'a>) -> Result<Option<Form<'a>>, AllocError>
-    ensures { IfOk result (λ f. option_map asked_by_form f ≡ watch_of (words_of words.entry)) }
-{
-    let workers = workers_in(&words.options);
-    let poll = number_within(
-        &words.options,
-        OptionName::Poll,
-        USUAL_POLL,
-        0,
-        LONGEST_POLL,
-    );
-    let watched = watched_paths(alloc, words)?;
-    if watched.models.is_empty() || watched.tests.is_empty() {
-        return Ok(None);
-    }
-    match (workers, poll) {
-        (Some(workers), Some(poll)) => Ok(Some(Form::Watch {
-            models: watched.models,
-            tests: watched.tests,
+    match (workers_in(&words.options), poll_in(&words.options)) {
+        (Some(workers), Some(poll)) if words.paths.len() > 1 => Ok(Some(Form::Watch {
+            model: word_at(&words.paths, 0),
+            tests: words_from(alloc, &words.paths, 1)?,
             workers,
             poll,
         })),
@@ -405,6 +409,8 @@ fn command_of(word: &str) -> Option<Command>
         Some(Command::Table)
     } else if word == "diff" {
         Some(Command::Diff)
+    } else if word == "report" {
+        Some(Command::Report)
     } else if word == "session" {
         Some(Command::Session)
     } else if word == "why" {
@@ -430,9 +436,10 @@ fn taken_form<'a>(
         Command::Eval => Ok(eval_form(&words)),
         Command::Table => Ok(table_form(words)),
         Command::Diff => diff_form(alloc, &words),
+        Command::Report => Ok(report_form(words)),
         Command::Session => Ok(session_form(&words)),
         Command::Why => Ok(why_form(&words)),
-        Command::Watch => watch_form(alloc, words),
+        Command::Watch => watch_form(alloc, &words),
         Command::Draw => Ok(draw_form(&words)),
     }
 }

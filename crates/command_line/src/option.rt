@@ -54,6 +54,8 @@ pub enum Command {
     Table,
     /// `diff`
     Diff,
+    /// `report`
+    Report,
     /// `session`
     Session,
     /// `why`
@@ -191,14 +193,15 @@ pub(crate) fn takes(command: Command, name: OptionName) -> bool
             OptionName::Dashes | OptionName::Tab | OptionName::Json
         ),
         Command::Diff => matches!(name, OptionName::Tab | OptionName::Json),
-        Command::Session => matches!(name, OptionName::Workers),
-        Command::Why => matches!(name, OptionName::Forbidden | OptionName::Deep),
-        Command::Watch => {
+        Command::Report => {
             matches!(
                 name,
-                OptionName::Dashes | OptionName::Workers | OptionName::Poll
+                OptionName::Dashes | OptionName::All | OptionName::Most
             )
         }
+        Command::Session => matches!(name, OptionName::Workers),
+        Command::Why => matches!(name, OptionName::Forbidden | OptionName::Deep),
+        Command::Watch => matches!(name, OptionName::Workers | OptionName::Poll),
         Command::Draw => is_of_draw(name),
     }
 }

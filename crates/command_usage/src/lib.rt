@@ -31,9 +31,6 @@ const SESSION_AFTER: &str =
 const DRAW_AFTER: &str = "Example: pipitsolder draw power.cat MP.litmus | dot -Tsvg -O\n\
     Example: pipitsolder draw --svg --forbidden power.cat MP+lwsync+addr.litmus > forbidden.svg";
 
-const WATCH_AFTER: &str = "Example: pipitsolder watch power.cat MP.litmus\n\
-    Example: pipitsolder watch sc.cat power.cat -- MP.litmus CoWR.litmus";
-
 // What an argument is.
 #[derive(Clone, Copy)]
 enum Kind {
@@ -43,8 +40,6 @@ enum Kind {
     Files,
     // One file or more, behind `--`.
     LastFiles,
-    // The same, or none.
-    OptionalLastFiles,
     // A file that need not be named.
     OptionalFile,
     // A number, behind two dashes and this word.
@@ -161,6 +156,26 @@ const DIFF: Form = Form {
     after: "Example: pipitsolder diff sc.cat power.cat MP.litmus CoWR.litmus",
 };
 
+const REPORT: Form = Form {
+    name: "report",
+    about: "A page of the tests of some files under the models of others, for a browser",
+    arguments: &[
+        MODELS,
+        LAST_TESTS,
+        Argument {
+            name: "all",
+            help: "Drawings of all tests, not of those alone that tell models apart",
+            kind: Kind::Flag(&[]),
+        },
+        Argument {
+            name: "N",
+            help: "At most so many drawings, 1 to 4096: otherwise 200",
+            kind: Kind::Number("most"),
+        },
+    ],
+    after: "Example: pipitsolder report sc.cat power.cat -- MP.litmus CoWR.litmus > page.html",
+};
+
 const SESSION: Form = Form {
     name: "session",
     about: "Answers the commands of a script: edits of tests and models, and questions",
@@ -241,19 +256,10 @@ const DRAW: Form = Form {
 
 const WATCH: Form = Form {
     name: "watch",
-    about: "Tests under models, and what changes with each later version of a file",
+    about: "Tests under a model, and what changes with each later version of a file",
     arguments: &[
-        Argument {
-            name: "FILE",
-            help: "The file of a model, and files of tests, or `@FILE`; behind `--` tests alone, and \
-                models before it",
-            kind: Kind::Files,
-        },
-        Argument {
-            name: "TEST",
-            help: "Files of tests, or `@FILE`",
-            kind: Kind::OptionalLastFiles,
-        },
+        MODEL,
+        TESTS,
         Argument {
             name: "N",
             help: "How many threads run the jobs, 0 to 32: 0 is the program itself",
@@ -266,16 +272,16 @@ const WATCH: Form = Form {
             kind: Kind::Number("poll"),
         },
     ],
-    after: WATCH_AFTER,
+    after: "Example: pipitsolder watch power.cat MP.litmus CoWR.litmus",
 };
 
 // In the order of the usage.
-const FORMS: [Form; 7] = [EVAL, TABLE, DIFF, SESSION, WHY, DRAW, WATCH];
+const FORMS: [Form; 8] = [EVAL, TABLE, DIFF, REPORT, SESSION, WHY, DRAW, WATCH];
 
 // How many values a positional argument takes.
 fn values_of(kind: Kind) -> ValueRange {
     match kind {
-        Kind::Files | Kind::LastFiles | Kind::OptionalLastFiles => ValueRange::new(1..),
+        Kind::Files | Kind::LastFiles => ValueRange::new(1..),
         _ => ValueRange::SINGLE,
     }
 }
@@ -285,9 +291,9 @@ fn file_argument<'a>(alloc: Global, argument: Argument) -> Arg<'a> {
     let kind = argument.kind;
     Arg::new(alloc, argument.name)
         .help(argument.help)
-        .required(!matches!(kind, Kind::OptionalFile | Kind::OptionalLastFiles))
+        .required(!matches!(kind, Kind::OptionalFile))
         .num_args(values_of(kind))
-        .last(matches!(kind, Kind::LastFiles | Kind::OptionalLastFiles))
+        .last(matches!(kind, Kind::LastFiles))
         .action(ArgAction::Set)
 }
 
@@ -353,6 +359,7 @@ fn program<'a>(alloc: Global) -> Result<Command<'a>, AllocError> {
 fn no_form(subcommand: Option<&str>) -> &'static str {
     match subcommand {
         Some("session") => "no form has these words; `--workers` takes a number from 0 to 32",
+        Some("report") => "no form has these words; `--most` takes a number from 1 to 4096",
         Some("watch") => {
             "no form has these words; `--workers` takes a number from 0 to 32, and `--poll` one \
             from 0 to 60000"

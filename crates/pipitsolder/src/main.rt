@@ -3,11 +3,12 @@
 
 use litmusbench::{
     Asked, DrawRequest, Form, Format, Lines, ListEntry, NoGate, NoProgress, OfRead, OfWrite,
-    ProgressTeller, ReadFault, RefusalTeller, Report, ResultFormat, RunEnd, SessionFault, TextFile,
-    UsageFault, difference_report, draw_report, draw_request, eval_report, eval_stream_heard,
-    exit_status, form_of, line_report, list_entries, model_fault, model_refusal_lines, read_prefix,
-    read_text, refusal_lines, session_heard, table_report, test_refusal_lines, watch_files,
-    write_answer, write_drawings, write_report, write_why,
+    PageRequest, ProgressTeller, ReadFault, RefusalTeller, Report, ResultFormat, RunEnd,
+    SessionFault, TextFile, UsageFault, difference_report, draw_report, draw_request, eval_report,
+    eval_stream_heard, exit_status, form_of, line_report, list_entries, model_fault,
+    model_refusal_lines, page_report, read_prefix, read_text, refusal_lines, session_heard,
+    table_report, test_refusal_lines, watch_files, write_answer, write_drawings, write_report,
+    write_why,
 };
 use std::alloc::{AllocError, Global};
 use std::fmt::Display;
@@ -436,6 +437,7 @@ enum GridQuestion {
     Table,
     Differences,
     Lines(Lines),
+    Page(PageRequest),
 }
 
 fn table_question(format: ResultFormat) -> GridQuestion {
@@ -492,6 +494,9 @@ fn grid_report<R: AllocGlobal + Clock, E: Print + IsTerminal>(
         GridQuestion::Table => table_report(rt.alloc(), models, tests, &mut progress),
         GridQuestion::Differences => difference_report(rt.alloc(), models, tests, &mut progress),
         GridQuestion::Lines(lines) => line_report(rt.alloc(), lines, models, tests, &mut progress),
+        GridQuestion::Page(request) => {
+            page_report(rt.alloc(), request, models, tests, &mut progress)
+        }
     }
 }
 
@@ -557,14 +562,11 @@ where
         Form::Stream => stream(rt, errors),
         Form::Session { script, workers } => session_of(rt, errors, script, workers),
         Form::Watch {
-            models,
+            model,
             tests,
             workers,
             poll,
-        } => match models.get(0) {
-            Some(model) => watch_files(rt, errors, model, &tests, workers, poll),
-            None => Ok(false),
-        },
+        } => watch_files(rt, errors, model, &tests, workers, poll),
         Form::Eval {
             model,
             test,
@@ -604,6 +606,16 @@ where
             let models = wanted_files(rt, &models)?;
             answer_grid(rt, errors, table_question(format), &models, &tests)
         }
+        Form::Report {
+            models,
+            tests,
+            is_all,
+            most,
+        } => {
+            let models = wanted_files(rt, &models)?;
+            let question = GridQuestion::Page(PageRequest { is_all, most });
+            answer_grid(rt, errors, question, &models, &tests)
+        }
         Form::Diff {
             first,
             second,
@@ -613,13 +625,6 @@ where
             let models = two_files(rt, first, second)?;
             answer_grid(rt, errors, difference_question(format), &models, &tests)
         }
-    }
-}
-
-fn watches_several(form: &Form<'_>) -> bool {
-    match form {
-        Form::Watch { models, .. } => models.len() > 1,
-        _ => false,
     }
 }
 
@@ -641,10 +646,6 @@ where
     R::Reader: Send + Sync + 'static,
 {
     match form_of(rt.alloc(), words) {
-        Ok(form) if watches_several(&form) => {
-            let _ = rt.eprintln("error: one model is watched at a time");
-            RunEnd::Usage
-        }
         Ok(form) => tell_done(rt, answer_form(rt, errors, form)),
         Err(error) => tell_usage(rt, &error),
     }

@@ -181,6 +181,16 @@ fn put_asked(answer: &mut Vec<u8>, form: Form<'_>) -> Result<(), AllocError> {
             put_files(answer, b"diff", &[first, second], &tests)?;
             put_format(answer, format)
         }
+        Form::Report {
+            models,
+            tests,
+            is_all,
+            most,
+        } => {
+            put_files(answer, b"report", &models, &tests)?;
+            put_flag(answer, is_all, b", all")?;
+            put_numbered(answer, b", up to ", most)
+        }
         Form::Session { script, workers } => {
             put_bytes(answer, b"session ")?;
             put_script(answer, script)?;
@@ -197,12 +207,12 @@ fn put_asked(answer: &mut Vec<u8>, form: Form<'_>) -> Result<(), AllocError> {
             put_flag(answer, is_deep, b", deep")
         }
         Form::Watch {
-            models,
+            model,
             tests,
             workers,
             poll,
         } => {
-            put_files(answer, b"watch", &models, &tests)?;
+            put_files(answer, b"watch", &[model], &tests)?;
             put_numbered(answer, b" with ", workers)?;
             put_numbered(answer, b" by ", poll)
         }

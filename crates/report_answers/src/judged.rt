@@ -1,0 +1,129 @@
+//! The tests of some files, judged and drawn.
+
+use crate::drawings::{DrawingBudget, drawings_of};
+use crate::models::KnownModel;
+use binding_graph::{ModelFault, Resolved};
+use command_answers::{TextFile, put_fault};
+use litmus_ppc::{LitmusFault, Test, read_test};
+use report_page::{ReportedTest, is_told_apart};
+use session_answers::{ProgressListener, TestOutcomes, outcomes_of, tell_rows};
+use std::alloc::{AllocError, Global};
+
+/// A test that is judged, and its file.
+#[derive(Drop)]
+pub struct KnownTest<'a> {
+    /// The file.
+    pub file: &'a TextFile<'a>,
+    /// Its outcomes, in the order of the models.
+    pub row: TestOutcomes,
+    /// Its drawings, in the order of the models.
+    pub drawings: Vec<Vec<u8>>,
+}
+
+/// What a test is judged by, and whether each is drawn.
+#[derive(Clone, Copy)]
+pub struct Judges<'a> {
+    /// The models.
+    pub models: &'a [KnownModel<'a>],
+    /// The same as steps.
+    pub resolved: &'a [Result<Resolved, ModelFault>],
+    /// Whether tests on which the models agree are drawn too.
+    pub is_all: bool,
+}
+
+/// What is known of the tests so far.
+#[derive(Drop)]
+pub struct KnownTests<'a> {
+    /// The tests.
+    pub tests: Vec<KnownTest<'a>>,
+    /// How many drawings may still be made.
+    pub budget: DrawingBudget,
+}
+
+fn drawings_if(
+    alloc: Global,
+    judges: &Judges<'_>,
+    test: &Test,
+    row: &TestOutcomes,
+    budget: &mut DrawingBudget,
+) -> Result<Vec<Vec<u8>>, AllocError> {
+    if judges.is_all || is_told_apart(alloc, &row.outcomes)? {
+        return drawings_of(alloc, test, judges.models, &row.outcomes, budget);
+    }
+    Ok(Vec::new(alloc))
+}
+
+fn add_judged<'a>(
+    alloc: Global,
+    judges: &Judges<'_>,
+    file: &'a TextFile<'a>,
+    test: &Test,
+    known: &mut KnownTests<'a>,
+) -> Result<(), AllocError> {
+    let row = outcomes_of(alloc, test, judges.resolved)?;
+    let drawings = drawings_if(alloc, judges, test, &row, &mut known.budget)?;
+    known.tests.push(KnownTest {
+        file,
+        row,
+        drawings,
+    })?;
+    Ok(())
+}
+
+fn add_test<'a>(
+    alloc: Global,
+    judges: &Judges<'_>,
+    file: &'a TextFile<'a>,
+    known: &mut KnownTests<'a>,
+    faults: &mut Vec<u8>,
+) -> Result<(), AllocError> {
+    match read_test(alloc, &file.text) {
+        Ok(test) => add_judged(alloc, judges, file, &test, known),
+        Err(LitmusFault::OutOfMemory(e)) => Err(e),
+        Err(LitmusFault::Refused { rule, offset }) => {
+            put_fault(faults, file, b'L', rule.number(), offset)
+        }
+    }
+}
+
+/// What is known of the tests of files whose texts read; what is told of the others goes behind
+/// these lines. A listener hears how far it is. Errors: want of memory.
+pub fn known_tests<'a, L: ProgressListener>(
+    alloc: Global,
+    judges: &Judges<'_>,
+    files: &'a [TextFile<'a>],
+    most: u64,
+    faults: &mut Vec<u8>,
+    listener: &mut L,
+) -> Result<KnownTests<'a>, AllocError> {
+    let count = judges.models.len();
+    let budget = DrawingBudget {
+        left: most,
+        left_out: 0,
+    };
+    let tests = Vec::new(alloc);
+    let mut known = KnownTests { tests, budget };
+    tell_rows(listener, 0, files.len(), count);
+    for (index, file) in files.iter().enumerate() {
+        add_test(alloc, judges, file, &mut known, faults)?;
+        tell_rows(listener, index + 1, files.len(), count);
+    }
+    Ok(known)
+}
+
+/// The tests as the page shows them. Errors: want of memory.
+pub fn reported_tests<'a>(
+    alloc: Global,
+    tests: &'a [KnownTest<'a>],
+) -> Result<Vec<ReportedTest<'a>>, AllocError> {
+    let mut reported = Vec::with_capacity(alloc, tests.len())?;
+    for test in tests {
+        reported.push(ReportedTest {
+            name: test.row.name.as_bytes(),
+            text: &test.file.text,
+            outcomes: &test.row.outcomes,
+            drawings: &test.drawings,
+        })?;
+    }
+    Ok(reported)
+}

@@ -1,0 +1,10 @@
+//! The page of the tests of some files under the models of others. `report_page` says what the page
+//! is of what is known of each test; this crate reads the files, judges the tests and draws.
+#![tactic(auto)]
+
+mod drawings;
+mod judged;
+mod models;
+mod report;
+
+pub use report::{PageRequest, page_report};

@@ -1,0 +1,74 @@
+//! The models of some files.
+
+use cat_syntax::{CatFault, ModelText, read_model};
+use command_answers::{TextFile, model_stem, put_fault};
+use report_page::ReportedModel;
+use std::alloc::{AllocError, Global};
+
+/// A model, and its file.
+#[derive(Drop)]
+pub struct KnownModel<'a> {
+    /// The file.
+    pub file: &'a TextFile<'a>,
+    /// The model that its text means.
+    pub model: ModelText,
+}
+
+fn add_model<'a>(
+    alloc: Global,
+    file: &'a TextFile<'a>,
+    models: &mut Vec<KnownModel<'a>>,
+    faults: &mut Vec<u8>,
+) -> Result<(), AllocError> {
+    match read_model(alloc, &file.text) {
+        Ok(model) => {
+            models.push(KnownModel { file, model })?;
+            Ok(())
+        }
+        Err(CatFault::OutOfMemory(e)) => Err(e),
+        Err(CatFault::Refused { rule, offset }) => {
+            put_fault(faults, file, b'C', rule.number(), offset)
+        }
+    }
+}
+
+/// The models of the files whose texts read; what is told of the others goes behind these lines.
+/// Errors: want of memory.
+pub fn known_models<'a>(
+    alloc: Global,
+    files: &'a [TextFile<'a>],
+    faults: &mut Vec<u8>,
+) -> Result<Vec<KnownModel<'a>>, AllocError> {
+    let mut models = Vec::new(alloc);
+    for file in files {
+        add_model(alloc, file, &mut models, faults)?;
+    }
+    Ok(models)
+}
+
+/// The models alone. Errors: want of memory.
+pub fn model_texts<'a>(
+    alloc: Global,
+    models: &'a [KnownModel<'a>],
+) -> Result<Vec<&'a ModelText>, AllocError> {
+    let mut texts = Vec::with_capacity(alloc, models.len())?;
+    for model in models {
+        texts.push(&model.model)?;
+    }
+    Ok(texts)
+}
+
+/// The models as the page shows them. Errors: want of memory.
+pub fn reported_models<'a>(
+    alloc: Global,
+    models: &'a [KnownModel<'a>],
+) -> Result<Vec<ReportedModel<'a>>, AllocError> {
+    let mut reported = Vec::with_capacity(alloc, models.len())?;
+    for model in models {
+        reported.push(ReportedModel {
+            name: model_stem(model.file.path.as_bytes()),
+            text: &model.file.text,
+        })?;
+    }
+    Ok(reported)
+}
