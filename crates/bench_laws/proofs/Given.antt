@@ -21,7 +21,7 @@ use Rattle.memo_core.proofs.Honest.{step_goes}
 use Rattle.memo_core.proofs.Progress.{unmatched}
 use Rattle.memo_core.proofs.Runs.{run_since}
 use Rattle.memo_core.proofs.Tests.{same_node_exact, same_node_refl}
-use Rattle.bench_laws.specs.Jobs.{UnsettledIsGiven, lost_by, lost_count, GivenIsBounded, EditBoundsGiven}
+use Rattle.bench_laws.specs.Jobs.{UnsettledIsGiven, given_count, lost_by, lost_count, GivenIsBounded, EditBoundsGiven}
 use Rattle.cells.proofs.Listed.{runs_on}
 use Rattle.bench_laws.proofs.Ready.{found_in, IsReady, IsReadyAbove, AreReadyAbove, not_stale, above_none, accept_stays, net_stays, step_apart, step_above, apart_after}
 
@@ -330,10 +330,11 @@ module _ {T E V G : Type 0} (means : Meaning T E V G) (keeps : IsLawfulMeaning m
       let two = rest.balance in
       record { balance = omega (arith, one, two, both); apart = rest.apart; all = rest.all }
 
-  pub given_bounded : GivenIsBounded means
-  given_bounded earlier es first start end p s run more jobs before =
-      let valid = valid_on earlier first start s.valid run in
-      let apart = apart_after means earlier first start s run in
+  pub bounded_from : (es : List (Event E V G)) (start end : Bench T V) (p : Node → Bool)
+      → means.is_valid start.texts → AreApart (state_in means start) → Run means start es end
+      → Each IsJobEvent es → DecidesSettled (state_in means start) p
+      → given_count es ≤ count_unsettled p (means.net start.texts).used + lost_count es
+  bounded_from es start end p valid apart more jobs before =
       let all = above_none (state_in means start) start.claims apart.numbered in
       let b = run_balances start.taken es start end p valid jobs (omega arith) apart all more before in
       let now = decision_is end (valid_on es start end valid more) in
@@ -342,6 +343,11 @@ module _ {T E V G : Type 0} (means : Meaning T E V G) (keeps : IsLawfulMeaning m
       let none = count_none start.taken start.claims apart.numbered in
       let balance = b.balance in
       omega (arith, balance, few, none)
+
+  pub given_bounded : GivenIsBounded means
+  given_bounded earlier es first start end p s run more jobs before =
+      bounded_from es start end p (valid_on earlier first start s.valid run)
+      (apart_after means earlier first start s run) more jobs before
 
   pub edit_bounds_given : EditBoundsGiven means
   edit_bounds_given earlier es first old start end e is_open s run step settled more jobs =

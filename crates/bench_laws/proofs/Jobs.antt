@@ -12,8 +12,8 @@ use Rattle.memo_core.specs.Work.{IsJobEvent, is_accepted}
 use Rattle.memo_core.proofs.Exact.{AreApart}
 use Rattle.memo_core.proofs.Honest.{step_goes}
 use Rattle.memo_core.proofs.Progress.{each_closed}
-use Rattle.cells.specs.Views.{Task}
-use Rattle.bench_laws.specs.Jobs.{JobsAreAccepted}
+use Rattle.cells.specs.Views.{Task, task_of, task_answered}
+use Rattle.bench_laws.specs.Jobs.{IsClaimOut, JobsAreAccepted}
 use Rattle.bench_laws.proofs.Ready.{each_last, found_in, IsJobNow, IsReadyAbove, AreReadyAbove, not_stale, above_given, above_none, accept_job, step_apart, step_above, apart_after}
 
 -- ---- claims of one number
@@ -204,11 +204,16 @@ module _ {T E V G : Type 0} (means : Meaning T E V G) where
             now h;
       }
 
-  pub jobs_accepted : JobsAreAccepted means
-  jobs_accepted earlier later first old start end new number n given keys values r answer s run
-      claimed more jobs out task step =
+  pub accepted_from : (later : List (Event E V G)) (old start end new : Bench T V) (number : ℕ)
+      (n : Node) (given : G) (keys : List Key) (values : List V) (r : Return V G) (answer : Finish)
+      → AreApart (state_in means old) → Step means old (Claim number n given keys values) start
+      → Run means start later end → Each IsJobEvent later → IsClaimOut end number
+      → task_answered r ≡ task_of number n given keys values
+      → Step means end (Returned r answer) new → is_accepted answer ≡ true
+  accepted_from later old start end new number n given keys values r answer apart claimed more jobs
+      out task step =
       let is : number ≡ old.taken + 1 = (claimed.1).number_is in
-      let held = run_out old.taken number n given keys values later start end jobs (given_out old start number n given keys values (apart_after means earlier first old s run) claimed) more in
+      let held = run_out old.taken number n given keys values later start end jobs (given_out old start number n given keys values apart claimed) more in
       let claim : r.claim ≡ number = ap (λ (t : Task V G). t.claim) task in
       let node : r.node ≡ n = ap (λ (t : Task V G). t.node) task in
       let one = found_in (λ c. c.number ≡ number → c.node ≡ n) number end.claims out.0 held.one out.1 in
@@ -217,3 +222,9 @@ module _ {T E V G : Type 0} (means : Meaning T E V G) where
       let job : IsJobNow (state_in means end) r.node r.given r.keys r.values = subst (λ (t : Task V G). IsJobNow (state_in means end) t.node t.given t.keys t.values) (sym task) held.now in
       job_accepted old.taken (state_in means end) (state_in means new) r answer out.0 n held.all
       (omega (arith, claim, is)) found same job step.2
+
+  pub jobs_accepted : JobsAreAccepted means
+  jobs_accepted earlier later first old start end new number n given keys values r answer s run
+      claimed more jobs out task step =
+      accepted_from later old start end new number n given keys values r answer
+      (apart_after means earlier first old s run) claimed more jobs out task step

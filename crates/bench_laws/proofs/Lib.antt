@@ -22,3 +22,4 @@ pub mod ReachedCells
 pub mod NewCells
 pub mod Openings
 pub mod StaysSettled
+pub mod Locked

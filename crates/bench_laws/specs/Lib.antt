@@ -10,3 +10,4 @@ pub mod Refusals
 pub mod OutputNames
 pub mod ToldOutputs
 pub mod Openings
+pub mod Locked

@@ -21,6 +21,7 @@ ghost use Rattle.bench_laws.specs.Refusals.{RefusedChangesNothing, RefusedEditCh
 ghost use Rattle.bench_laws.specs.OutputNames.{OutputsHaveTheirNames, OthersHaveOneOutput};
 ghost use Rattle.bench_laws.specs.ToldOutputs.{ReturnsTellOutputs, ReturnsNameOutputs};
 ghost use Rattle.bench_laws.specs.Unreached.{UnreachedNeedsNoJob};
+ghost use Rattle.bench_laws.specs.Locked.{HoldsOfRight, EditsKeepUnreached, GivesNeeded, HasNoneOutTwice, HasLowMemos, AcceptsJobs, BoundsGiven};
 ghost use Rattle.bench_laws.specs.OnlyReached.{OnlyReachedIsGiven, ReachedBoundsGiven};
 ghost use Rattle.bench_laws.specs.UsedOnce.{ListsEachNodeOnce, HasEachNodeOnce};
 ghost use Rattle.bench_laws.specs.Openings.{with_edit, KeepsUnreached, OpensReached, StaysSettled};
@@ -188,4 +189,28 @@ pub fn boards_keep_unreached_cells()
     ensures opened { (ops : List BoardOp) (edit : BoardEdit) → IsHistory (with_edit ops edit)
         → OpensReached ops edit }
     ensures lasting { (ops more : List BoardOp) → IsHistory (ops ++ more) → StaysSettled ops more }
+{}
+
+/// Of a bench behind a lock, of which that is known which holds of a bench at all times
+/// (`Bench::taken` and `DeskState::is_closed` say it), whatever came before: its cells are those of
+/// its texts and show what is right for them. An edit that does not reach a settled cell leaves it
+/// settled with the same outcome. No stamp that it keeps is above the last number taken.
+pub fn locked_benches_are_right()
+    ensures there { HoldsOfRight HasJustItsCells }
+    ensures shown { HoldsOfRight ShowsRight }
+    ensures kept { HoldsOfRight EditsKeepUnreached }
+    ensures low { HoldsOfRight HasLowMemos }
+{
+    cells::laws::right_benches::<StampedTexts>();
+}
+
+/// Of such a bench, whatever came before: only what some cell needs and is not settled is given
+/// out, and no two claims that are out are of one node with the same inputs and stamps. While no
+/// edit and no renewal comes, a job that is out is accepted when it is returned, and no more jobs
+/// are given than nodes are to be settled and claims are lost.
+pub fn locked_work_is_exact()
+    ensures needed { HoldsOfRight GivesNeeded }
+    ensures apart { HoldsOfRight HasNoneOutTwice }
+    ensures accepted { HoldsOfRight AcceptsJobs }
+    ensures bounded { HoldsOfRight BoundsGiven }
 {}
