@@ -22,9 +22,9 @@ pub struct KnownTest<'a> {
 
 /// What a test is judged by, and whether each is drawn.
 #[derive(Clone, Copy)]
-pub struct Judges<'a> {
+pub struct Judges<'a, 'b> {
     /// The models.
-    pub models: &'a [KnownModel<'a>],
+    pub models: &'a [KnownModel<'b>],
     /// The same as steps.
     pub resolved: &'a [Result<Resolved, ModelFault>],
     /// Whether tests on which the models agree are drawn too.
@@ -42,7 +42,7 @@ pub struct KnownTests<'a> {
 
 fn drawings_if(
     alloc: Global,
-    judges: &Judges<'_>,
+    judges: &Judges<'_, '_>,
     test: &Test,
     row: &TestOutcomes,
     budget: &mut DrawingBudget,
@@ -55,7 +55,7 @@ fn drawings_if(
 
 fn add_judged<'a>(
     alloc: Global,
-    judges: &Judges<'_>,
+    judges: &Judges<'_, '_>,
     file: &'a TextFile<'a>,
     test: &Test,
     known: &mut KnownTests<'a>,
@@ -72,7 +72,7 @@ fn add_judged<'a>(
 
 fn add_test<'a>(
     alloc: Global,
-    judges: &Judges<'_>,
+    judges: &Judges<'_, '_>,
     file: &'a TextFile<'a>,
     known: &mut KnownTests<'a>,
     faults: &mut Vec<u8>,
@@ -90,7 +90,7 @@ fn add_test<'a>(
 /// these lines. A listener hears how far it is. Errors: want of memory.
 pub fn known_tests<'a, L: ProgressListener>(
     alloc: Global,
-    judges: &Judges<'_>,
+    judges: &Judges<'_, '_>,
     files: &'a [TextFile<'a>],
     most: u64,
     faults: &mut Vec<u8>,
@@ -114,7 +114,7 @@ pub fn known_tests<'a, L: ProgressListener>(
 /// The tests as the page shows them. Errors: want of memory.
 pub fn reported_tests<'a>(
     alloc: Global,
-    tests: &'a [KnownTest<'a>],
+    tests: &'a [KnownTest<'_>],
 ) -> Result<Vec<ReportedTest<'a>>, AllocError> {
     let mut reported = Vec::with_capacity(alloc, tests.len())?;
     for test in tests {

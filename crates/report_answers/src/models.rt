@@ -49,7 +49,7 @@ pub fn known_models<'a>(
 /// The models alone. Errors: want of memory.
 pub fn model_texts<'a>(
     alloc: Global,
-    models: &'a [KnownModel<'a>],
+    models: &'a [KnownModel<'_>],
 ) -> Result<Vec<&'a ModelText>, AllocError> {
     let mut texts = Vec::with_capacity(alloc, models.len())?;
     for model in models {
@@ -61,7 +61,7 @@ pub fn model_texts<'a>(
 /// The models as the page shows them. Errors: want of memory.
 pub fn reported_models<'a>(
     alloc: Global,
-    models: &'a [KnownModel<'a>],
+    models: &'a [KnownModel<'_>],
 ) -> Result<Vec<ReportedModel<'a>>, AllocError> {
     let mut reported = Vec::with_capacity(alloc, models.len())?;
     for model in models {
