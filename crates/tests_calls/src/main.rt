@@ -1143,7 +1143,8 @@ fn show_form<R: Print>(rt: &R, form: Result<Form<'_>, UsageFault>) -> io::Result
     match form {
         Ok(Form::Session { script: _, workers }) => tell_number(rt, "form_of", workers),
         Ok(_) => tell(rt, "form_of", b"another form"),
-        Err(_) => tell(rt, "form_of", b"usage"),
+        Err(UsageFault::Words(_)) => tell(rt, "form_of", b"usage"),
+        Err(UsageFault::Memory(_)) => tell(rt, "form_of", b"out of memory"),
     }
 }
 
