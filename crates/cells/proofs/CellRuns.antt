@@ -5,7 +5,7 @@ use Rattle.memo_core.specs.Graph.{stored_output}
 use Rattle.memo_core.specs.Laws.{IsUsedClosed}
 use Rattle.memo_core.specs.Right.{IsSoundNet}
 use Rattle.memo_core.specs.Run as core
-use Rattle.memo_core.specs.Run.{Bench, Meaning, state_in, Run, IsNewBench, IsLawfulMeaning}
+use Rattle.memo_core.specs.Run.{Bench, TextsMeaning, state_in, MemoRun, IsNewBench, IsLawfulMeaning}
 use Rattle.memo_core.specs.Step.{Has}
 use Rattle.memo_core.specs.Work.{WorkIsBounded, SettledIsDecided, QuietRunIsSettled}
 use Rattle.memo_core.proofs.Runs.{run_right}
@@ -18,23 +18,23 @@ use Rattle.cells.proofs.Solved.{bench_solved, carries_one}
 use Rattle.cells.proofs.Listed.{runs_on}
 
 -- what texts owe of runs and of nodes
-pub record Owes {T E V G : Type 0} (means : Meaning T E V G) (is_there : T → Node → Type 0)
+pub record Owes {T E V G : Type 0} (means : TextsMeaning T E V G) (is_there : T → Node → Type 0)
     : Type 0 where
   pub kept : IsLawfulMeaning means
   pub sound : (t : T) → means.is_valid t → IsSoundNet means.makes (means.net t) (is_there t)
   pub there : (t : T) → means.is_valid t → Each (is_there t) ((means.net t).used)
   pub closed : (t : T) → means.is_valid t → IsUsedClosed (means.net t)
 
-module _ {T E V G O : Type 0} (means : Meaning T E V G) (of : Cells T E V O)
+module _ {T E V G O : Type 0} (means : TextsMeaning T E V G) (of : Cells T E V O)
     (is_there : T → Node → Type 0) (owes : Owes means is_there) where
-  valid_after : (es : List (core.Event E V G)) (start end : Bench T V)
-      → IsNewBench means.is_valid means.net start → Run means start es end → means.is_valid end.texts
+  valid_after : (es : List (core.MemoEvent E V G)) (start end : Bench T V)
+      → IsNewBench means.is_valid means.net start → MemoRun means start es end → means.is_valid end.texts
   valid_after es start end s run =
       (run_right means owes.kept es start end
       (s.valid, record { each = rw s.no_memos tt; parts = s.parts }) run).0
 
-  solved_after : (es : List (core.Event E V G)) (start end : Bench T V)
-      → IsNewBench means.is_valid means.net start → Run means start es end
+  solved_after : (es : List (core.MemoEvent E V G)) (start end : Bench T V)
+      → IsNewBench means.is_valid means.net start → MemoRun means start es end
       → AreSolved means.makes (means.net end.texts) end.memos
   solved_after es start end s run =
       let last = run_right means owes.kept es start end (s.valid, record { each = rw s.no_memos tt; parts = s.parts }) run in

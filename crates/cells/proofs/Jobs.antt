@@ -6,7 +6,7 @@ use Rattle.cells.specs.Views.{Task, task_answered}
 use Rattle.memo_core.specs.declared.claims.Finish.{Finish}
 use Rattle.memo_core.specs.Step.{Return as Returning}
 use Rattle.memo_core.specs.Run as core
-use Rattle.memo_core.specs.Run.{Bench, Meaning, Step}
+use Rattle.memo_core.specs.Run.{Bench, TextsMeaning, Step}
 use Rattle.cells.specs.declared.events.Event.{Event}
 use Rattle.cells.specs.declared.events.Reply.{Reply}
 use Rattle.cells.specs.Events.{Refusing, task_given, has_claim, IsReturned, IsEventAnswered, AreEventsAnswered}
@@ -109,7 +109,7 @@ made_given (Ok d) ts t o one is made = is ∙ ap Some (some_task t (task_answere
 made_given (Err f) ts t o one is made = tt
 
 -- a return that is offered is one event
-pub returned : {T E V G F : Type 0} (means : Meaning T E V G) (refuses : Refusing T E F)
+pub returned : {T E V G F : Type 0} (means : TextsMeaning T E V G) (refuses : Refusing T E F)
     (last : T → ℕ) (old new : Bench T V) (o : Option (Task V G)) (answer : Finish)
     (r : Returning V G) → o ≡ Some (task_answered r)
     → Step means old (core.Returned r answer) new
@@ -117,7 +117,7 @@ pub returned : {T E V G F : Type 0} (means : Meaning T E V G) (refuses : Refusin
 returned means refuses last old new o answer r h step = rw h (r, refl, step)
 
 -- one event more, with its reply
-pub answered_last : {T E V G F : Type 0} (means : Meaning T E V G) (refuses : Refusing T E F)
+pub answered_last : {T E V G F : Type 0} (means : TextsMeaning T E V G) (refuses : Refusing T E F)
     (last : T → ℕ) (old mid new : Bench T V) (given later after : List (Task V G))
     (es : List (Event E)) (rs : List (Reply F)) (e : Event E) (r : Reply F)
     → AreEventsAnswered means refuses last old given es rs mid later

@@ -7,7 +7,7 @@ use Rattle.memo_core.specs.declared.claims.ClaimFault.{ClaimFault}
 use Rattle.memo_core.specs.declared.claims.Finish.{Finish}
 use Rattle.memo_core.specs.declared.claims.Finish.TheVariants.{Unknown, Stale, Same, Stored}
 use Rattle.memo_core.specs.Run as core
-use Rattle.memo_core.specs.Run.{Bench, Meaning, Step, Run}
+use Rattle.memo_core.specs.Run.{Bench, TextsMeaning, Step, MemoRun}
 use Rattle.memo_core.specs.Work.{IsJobEvent, number_given, numbers_given, has_number, is_accepted, accepted_by, accepted_count, WorkIsBounded}
 use Rattle.cells.specs.declared.events.Event.{Event}
 use Rattle.cells.specs.declared.events.Event.TheVariants.{Edit, Claim, Return, Lose, Renew}
@@ -17,11 +17,11 @@ use Rattle.cells.specs.Views.{Task}
 use Rattle.cells.specs.Events.{Refusing, IsEdited, IsClaimed, IsReturned, IsEventAnswered, AreEventsAnswered, IsJob, accepted_in, accepted_among, task_given}
 use Rattle.cells.specs.CellLaws.{ListBoundsWork}
 
-module _ {T E V G : Type 0} (means : Meaning T E V G) where
+module _ {T E V G : Type 0} (means : TextsMeaning T E V G) where
   -- two runs are one
-  pub runs_on : (es fs : List (core.Event E V G)) (old mid new : Bench T V) → Run means old es mid
-      → Run means mid fs new → Run means old (es ++ fs) new
-  runs_on [] fs old mid new h k = subst (λ (b : Bench T V). Run means b fs new) h k
+  pub runs_on : (es fs : List (core.MemoEvent E V G)) (old mid new : Bench T V) → MemoRun means old es mid
+      → MemoRun means mid fs new → MemoRun means old (es ++ fs) new
+  runs_on [] fs old mid new h k = subst (λ (b : Bench T V). MemoRun means b fs new) h k
   runs_on (e ∷ es) fs old mid new h k = (h.0, h.1, runs_on es fs h.0 mid new h.2 k)
 
 -- the claims of the jobs that a list was given are among these numbers
@@ -32,10 +32,10 @@ abbrev HasAll : List ℕ → List ℕ → Type 0
 HasAll ns ms = (n : ℕ) → has_number n ms ≡ true → has_number n ns ≡ true
 
 -- the run of an event with its reply, or of a list of them
-pub record HasRun {T E V G : Type 0} (means : Meaning T E V G) (jobs : Type 0)
+pub record HasRun {T E V G : Type 0} (means : TextsMeaning T E V G) (jobs : Type 0)
     (given after : List (Task V G)) (accepted : ℕ) (old new : Bench T V) : Type 0 where
-  pub run : List (core.Event E V G)
-  pub is : Run means old run new
+  pub run : List (core.MemoEvent E V G)
+  pub is : MemoRun means old run new
   pub are_jobs : jobs → Each IsJobEvent run
   pub after_in : (ns : List ℕ) → AreGivenIn ns given → HasAll ns (numbers_given run)
       → AreGivenIn ns after
@@ -76,19 +76,19 @@ each_append P [] ys a b = b
 each_append P (x ∷ xs) ys a b = (a.0, each_append P xs ys a.1 b)
 
 module _ {E V G : Type 0} where
-  numbers_on : (es fs : List (core.Event E V G))
+  numbers_on : (es fs : List (core.MemoEvent E V G))
       → numbers_given (es ++ fs) ≡ numbers_given es ++ numbers_given fs
   numbers_on [] fs = refl
   numbers_on (e ∷ es) fs =
       ap (λ (ns : List ℕ). number_given e ++ ns) (numbers_on es fs)
       ∙ sym (append_assoc (number_given e) (numbers_given es) (numbers_given fs))
 
-  count_on : (ns : List ℕ) (es fs : List (core.Event E V G))
+  count_on : (ns : List ℕ) (es fs : List (core.MemoEvent E V G))
       → accepted_count ns (es ++ fs) ≡ accepted_count ns es + accepted_count ns fs
   count_on ns [] fs = omega arith
   count_on ns (e ∷ es) fs = omega (arith, count_on ns es fs)
 
-module _ {T E V G : Type 0} (means : Meaning T E V G) where
+module _ {T E V G : Type 0} (means : TextsMeaning T E V G) where
   -- nothing happens
   none_run : (jobs : Type 0) (given after : List (Task V G)) (old new : Bench T V) → new ≡ old
       → after ≡ given → HasRun means jobs given after 0 old new
@@ -102,7 +102,7 @@ module _ {T E V G : Type 0} (means : Meaning T E V G) where
 
   -- one event happens, which gives no job
   step_run : (jobs : Type 0) (given after : List (Task V G)) (accepted : ℕ) (old new : Bench T V)
-      (e : core.Event E V G) → Step means old e new → after ≡ given → (jobs → IsJobEvent e)
+      (e : core.MemoEvent E V G) → Step means old e new → after ≡ given → (jobs → IsJobEvent e)
       → ((ns : List ℕ) → AreGivenIn ns given → accepted_by ns e ≡ accepted)
       → HasRun means jobs given after accepted old new
   step_run jobs given after accepted old new e step same job count = record {
@@ -134,7 +134,7 @@ module _ {T E V G : Type 0} (means : Meaning T E V G) where
             let z = count_on ns one.run rest.run in omega (arith, x, y, z);
       }
 
-module _ {T E V G F : Type 0} (means : Meaning T E V G) (refuses : Refusing T E F) (last : T → ℕ)
+module _ {T E V G F : Type 0} (means : TextsMeaning T E V G) (refuses : Refusing T E F) (last : T → ℕ)
   where
     edited_run : (old new : Bench T V) (given after : List (Task V G)) (e : E) (r : Result ℕ F)
         → IsEdited means refuses last old e r new → after ≡ given

@@ -1,7 +1,7 @@
 use Rattle.std.proofs.Common.{ℕ, ◌+◌, Bool, List, [], ◌∷◌, ◌++◌, sym, subst}
 use Rattle.std.specs.Prelude.{Result, Ok, Err}
 use Rattle.std.specs.List.{AllZip}
-use Rattle.memo_core.specs.Run.{Bench, Meaning}
+use Rattle.memo_core.specs.Run.{Bench, TextsMeaning}
 use Rattle.cells.specs.declared.events.Event.{Event}
 use Rattle.cells.specs.declared.events.Event.TheVariants.{Edit, Claim, Return, Lose, Renew}
 use Rattle.cells.specs.declared.events.Reply.{Reply}
@@ -18,7 +18,7 @@ zip_last R (a ∷ xs) [] x y z r = absurd z
 zip_last R (a ∷ xs) (b ∷ ys) x y z r = (z.0, zip_last R xs ys x y z.1 r)
 
 -- what is said of copies of events is said of the events
-module _ {T E V G F : Type 0} (means : Meaning T E V G) (refuses : Refusing T E F) (last : T → ℕ)
+module _ {T E V G F : Type 0} (means : TextsMeaning T E V G) (refuses : Refusing T E F) (last : T → ℕ)
     (same : E → E → Type 0)
     (edited_same : (t u : T) (e f : E) (number : ℕ) → same e f → means.edited t e number u
     → means.edited t f number u)

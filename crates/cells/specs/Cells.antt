@@ -66,6 +66,10 @@ UnreachedIsUntouched keep old new before after =
 
 -- ---- cells
 
+-- the node is the verdict of some cell
+abbrev pub IsVerdict : (List ℕ → List ℕ → Option Node) → Node → Type 0
+IsVerdict verdict_of n = (test model : List ℕ) × (verdict_of test model ≡ Some n)
+
 -- what texts say of cells: their verdicts, the outcomes in values, what evaluation from nothing
 -- gives, which edits reach them
 pub record Cells (T E V O : Type 0) : Type 1 where

@@ -8,7 +8,7 @@ use Rattle.memo_core.specs.declared.claims.Finish.{Finish}
 use Rattle.memo_core.specs.declared.claims.Finish.TheVariants.{Unknown}
 use Rattle.memo_core.specs.Step.{Return as Returning}
 use Rattle.memo_core.specs.Run as core
-use Rattle.memo_core.specs.Run.{Bench, Meaning, Step}
+use Rattle.memo_core.specs.Run.{Bench, TextsMeaning, Step}
 use Rattle.memo_core.specs.Work.{is_accepted}
 use Rattle.memo_engine.specs.declared.graph.TheConstants.{LAST}
 use Rattle.cells.specs.declared.events.Event.{Event}
@@ -61,7 +61,7 @@ accepted_among (r ∷ rs) = accepted_in r + accepted_among rs
 abbrev pub Refusing : Type 0 → Type 0 → Type 0 → Type 1
 Refusing T E F = T → E → Bool → F → Type 0
 
-module _ {T E V G F : Type 0} (means : Meaning T E V G) (refuses : Refusing T E F) (last : T → ℕ)
+module _ {T E V G F : Type 0} (means : TextsMeaning T E V G) (refuses : Refusing T E F) (last : T → ℕ)
   where
     -- an edit takes the next number, where the numbers are not spent, or is refused: then the last
     -- edit of the texts is the one that it was

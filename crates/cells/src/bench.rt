@@ -1,16 +1,17 @@
 //! The calls of a bench of cells.
 
-ghost use Rattle.std.specs.Prelude.{◌≡◌, ◌<◌, ◌≤◌, ◌+◌, leb, [], ℕ, IsTrue, IsFalse, IfOk, OnOk, OnErr, IfErr, IfSome, IfNone, Err};
+ghost use Rattle.std.specs.Prelude.{◌≡◌, ◌<◌, ◌≤◌, ◌+◌, leb, [], ℕ, List, IsTrue, IsFalse, IfOk, OnOk, OnErr, IfErr, IfSome, IfNone, Some, Err};
 ghost use Rattle.memo_core.specs.Laws.{meaning};
 ghost use Rattle.memo_core.specs.Run.{Edit as Edited, Claim as Claimed, NoClaim, Returned, Lose as Lost, Renew as Renewed, Refused, Step};
 ghost use Rattle.memo_engine.specs.Told.{IsEditTold, OnNone};
-ghost use Rattle.cells.specs.Cells.{cells, IsCellShown, ShowsFromScratch, AllAreSettled};
+ghost use Rattle.cells.specs.Cells.{cells, IsVerdict, IsCellShown, ShowsFromScratch, AllAreSettled};
 ghost use Rattle.cells.specs.Views.{IsRightBench};
 
 use crate::job::{Done, Job};
 use crate::shown::Shown;
 use crate::texts::CellTexts;
 use memo_core::claims::{ClaimFault, Finish};
+use memo_core::keys::Node;
 use memo_core::table::output_token;
 use memo_engine::graph::{Graph, LAST};
 use memo_engine::witness::Witness;
@@ -206,10 +207,24 @@ impl<K: StoreName, T: CellTexts> Bench<K, T> {
             (cells T.verdict_of T.outcome_in T.from_scratch T.reaches) self.now.texts test.now
             model.now result }
     {
-        let verdict = match self.graph.texts.verdict_of(test, model) {
-            Some(verdict) => verdict,
-            None => return Shown::NoCell,
-        };
+        match self.graph.texts.verdict_of(test, model) {
+            Some(verdict) => self.shown_at(verdict),
+            None => Shown::NoCell,
+        }
+    }
+
+    /// What is shown of the cell of a verdict. It takes no memory.
+    pub fn shown_at(&self, verdict: Node) -> Shown<'_, T::Outcome>
+        requires { IsVerdict (T.verdict_of self.now.texts) verdict }
+        ensures shown { (test model : List ℕ)
+            → T.verdict_of self.now.texts test model ≡ Some verdict
+            → IsCellShown T.net (cells T.verdict_of T.outcome_in T.from_scratch T.reaches)
+            self.now test model result }
+        ensures from_scratch { (test model : List ℕ)
+            → T.verdict_of self.now.texts test model ≡ Some verdict
+            → ShowsFromScratch (cells T.verdict_of T.outcome_in T.from_scratch T.reaches)
+            self.now.texts test model result }
+    {
         let outputs = match self.graph.shown(verdict) {
             Some(outputs) => outputs,
             None => return Shown::Open,
