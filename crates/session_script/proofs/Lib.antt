@@ -1,4 +1,5 @@
 pub mod Broken
+pub mod Calls
 pub mod Prefixes
 pub mod Joined
 pub mod Parted

@@ -3,7 +3,7 @@ use Rattle.std.specs.Prelude.{ℕ, List, [], Bool, true, false, ◌==◌, ◌||�
 use Rattle.std.specs.Cmp.Lexicographic.{pointwise}
 use Rattle.session_script.specs.declared.request.Request.{Request}
 use Rattle.session_script.specs.declared.request.Request.TheVariants.{PutTest, PutModel, SetInit, SetThread, SetCondition, SetLocations, SetItem, InsertItem, RemoveItem, DropTest, DropModel, Items, Show, Counts, Table, Difference}
-use Rattle.session_script.specs.Words.{number_of}
+use Rattle.session_script.specs.Words.{word_number}
 
 -- these requests have a text
 abbrev pub has_text : Request → Bool
@@ -59,7 +59,7 @@ dropped kind name =
 -- a word and two words more
 abbrev pub with_two : List ℕ → List ℕ → List ℕ → Option Request
 with_two command first second =
-    if takes_number command then with_number command first (number_of second) else (
+    if takes_number command then with_number command first (word_number second) else (
     if is_word command (codes "drop") then dropped first second else (
     if is_word command (codes "show") then Some (Show first second) else (
     if is_word command (codes "counts") then Some (Counts first second) else (

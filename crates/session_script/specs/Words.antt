@@ -29,5 +29,5 @@ number_from (Some n) [] = Some n
 number_from (Some n) (d ∷ ds) = number_from (with_digit n d) ds
 
 -- the number below 2^64 that the digits of a word make
-abbrev pub number_of : List ℕ → Option ℕ
-number_of word = number_from (Some 0) word
+abbrev pub word_number : List ℕ → Option ℕ
+word_number word = number_from (Some 0) word

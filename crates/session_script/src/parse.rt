@@ -2,7 +2,7 @@
 
 ghost use Rattle.std.specs.Prelude.{◌≡◌, IfOk, Some};
 ghost use Rattle.session_script.specs.Requests.{is_word, word_at, alone, with_name, takes_number, with_number, dropped, with_two, by_count, request_of};
-ghost use Rattle.session_script.specs.Words.{number_of};
+ghost use Rattle.session_script.specs.Words.{word_number};
 
 use crate::request::{Names, Request, ScriptText};
 use crate::words::number_of;

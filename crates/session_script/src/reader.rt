@@ -2,6 +2,7 @@
 
 ghost use Rattle.std.specs.Prelude.{◌≡◌, ◌≢◌, ◌+◌, ◌-◌, ◌<◌, ◌≤◌, ◌^◌, ◌++◌, ◌∷◌, [], true, false, length, take, IfOk, IfSome, OnOk, option_map};
 ghost use Rattle.std.specs.Io.KnownBytes.{Consumes, IsAtEnd};
+ghost use Rattle.session_script.specs.Calls.{HasCalled, AreTurnsCalled};
 ghost use Rattle.session_script.specs.Commands.{is_dot, skips};
 ghost use Rattle.session_script.specs.Lines.{without_return};
 ghost use Rattle.session_script.specs.Reading.{waiting_in, left_to, turns_of, work_of, ReadsFewAhead, IsPart, IsPaid, IsNextLine, IsNextText, HasText, IsCommandOfWords, IsNextCommand};
@@ -151,7 +152,11 @@ impl ScriptReader {
         ensures less { result ≡ Ok true → work_of self.new < work_of self.old }
         ensures paid { IfOk result (λ some. IsPaid (turns_of self.old) (turns_of self.new)
             (S.remaining source.old) (S.remaining source.new)) }
+        ensures called { IfOk result (λ some. AreTurnsCalled (turns_of self.old) (turns_of self.new)
+            (S.calls source.old) (S.calls source.new)) }
         ensures endless { result ≡ Err ReadFault.Endless → turns_of self.old ≡ 0 }
+        ensures endless_called { result ≡ Err ReadFault.Endless
+            → HasCalled (turns_of self.old) (S.calls source.old) (S.calls source.new) }
         ensures read { result ≡ Err ReadFault.Read
             → S.failed_calls source.new ≡ S.failed_calls source.old + 1 }
         ensures same { result ≢ Err ReadFault.Read
@@ -186,6 +191,10 @@ impl ScriptReader {
             IfSome line (λ some. work_of self.new < work_of self.old)) }
         ensures paid { IfOk result (λ line. IsPaid (turns_of self.old) (turns_of self.new)
             (S.remaining source.old) (S.remaining source.new)) }
+        ensures called { IfOk result (λ line. AreTurnsCalled (turns_of self.old) (turns_of self.new)
+            (S.calls source.old) (S.calls source.new)) }
+        ensures endless_called { result ≡ Err ReadFault.Endless
+            → HasCalled (turns_of self.old) (S.calls source.old) (S.calls source.new) }
         ensures endless { result ≡ Err ReadFault.Endless
             → IfSome (S.remaining source.old) (λ all. turns_of self.old ≤ length all) }
         ensures read { result ≡ Err ReadFault.Read
@@ -221,6 +230,10 @@ impl ScriptReader {
             IfSome text (λ some. work_of self.new < work_of self.old)) }
         ensures paid { IfOk result (λ text. IsPaid (turns_of self.old) (turns_of self.new)
             (S.remaining source.old) (S.remaining source.new)) }
+        ensures called { IfOk result (λ text. AreTurnsCalled (turns_of self.old) (turns_of self.new)
+            (S.calls source.old) (S.calls source.new)) }
+        ensures endless_called { result ≡ Err ReadFault.Endless
+            → HasCalled (turns_of self.old) (S.calls source.old) (S.calls source.new) }
         ensures endless { result ≡ Err ReadFault.Endless
             → IfSome (S.remaining source.old) (λ all. turns_of self.old ≤ length all) }
         ensures read { result ≡ Err ReadFault.Read
@@ -257,6 +270,10 @@ impl ScriptReader {
         ensures work { IfOk result (λ c. work_of self.new ≤ work_of self.old) }
         ensures paid { IfOk result (λ c. IsPaid (turns_of self.old) (turns_of self.new)
             (S.remaining source.old) (S.remaining source.new)) }
+        ensures called { IfOk result (λ c. AreTurnsCalled (turns_of self.old) (turns_of self.new)
+            (S.calls source.old) (S.calls source.new)) }
+        ensures endless_called { result ≡ Err ReadFault.Endless
+            → HasCalled (turns_of self.old) (S.calls source.old) (S.calls source.new) }
         ensures endless { result ≡ Err ReadFault.Endless
             → IfSome (S.remaining source.old) (λ all. turns_of self.old ≤ length all) }
         ensures read { result ≡ Err ReadFault.Read
@@ -295,6 +312,10 @@ impl ScriptReader {
         ensures work { IfOk result (λ c. work_of self.new ≤ work_of self.old) }
         ensures paid { IfOk result (λ c. IsPaid (turns_of self.old) (turns_of self.new)
             (S.remaining source.old) (S.remaining source.new)) }
+        ensures called { IfOk result (λ c. AreTurnsCalled (turns_of self.old) (turns_of self.new)
+            (S.calls source.old) (S.calls source.new)) }
+        ensures endless_called { result ≡ Err ReadFault.Endless
+            → HasCalled (turns_of self.old) (S.calls source.old) (S.calls source.new) }
         ensures endless { result ≡ Err ReadFault.Endless
             → IfSome (S.remaining source.old) (λ all. turns_of self.old ≤ length all) }
         ensures read { result ≡ Err ReadFault.Read
@@ -332,9 +353,14 @@ impl ScriptReader {
         // Each command takes some of the work that is left, so that asking until there is no
         // command ends.
         ensures work { IfOk result (λ c. IfSome c (λ some. work_of self.new < work_of self.old)) }
-        // Each turn that is taken gave a byte at least, and `Endless` comes where no turn is left.
+        // Each turn that is taken was a call that gave a byte at least, and `Endless` comes where
+        // no turn is left.
         ensures paid { IfOk result (λ c. IsPaid (turns_of self.old) (turns_of self.new)
             (S.remaining source.old) (S.remaining source.new)) }
+        ensures called { IfOk result (λ c. AreTurnsCalled (turns_of self.old) (turns_of self.new)
+            (S.calls source.old) (S.calls source.new)) }
+        ensures endless_called { result ≡ Err ReadFault.Endless
+            → HasCalled (turns_of self.old) (S.calls source.old) (S.calls source.new) }
         ensures endless { result ≡ Err ReadFault.Endless
             → IfSome (S.remaining source.old) (λ all. turns_of self.old ≤ length all) }
         // `Read` comes after one failed call, and all else after none.

@@ -1,8 +1,9 @@
 //! Where bytes come from.
 
-ghost use Rattle.std.specs.Prelude.{◌≡◌, ◌≢◌, ◌+◌, ◌-◌, ◌<◌, ◌≤◌, ◌^◌, ◌++◌, List, ℕ, Option, Some, OnOk, OnErr, IfOk, IfSome, length, take};
+ghost use Rattle.std.specs.Prelude.{◌≡◌, ◌≢◌, ◌+◌, ◌-◌, ◌<◌, ◌≤◌, ◌^◌, ◌++◌, List, ℕ, Option, Some, OnOk, OnErr, IfOk, IfSome, length, min, take};
 ghost use Rattle.std.specs.Io.{ReadsAtMost};
 ghost use Rattle.std.specs.Io.KnownBytes.{IsAtEnd, ReadConsumes};
+ghost use Rattle.session_script.specs.Calls.{HasCalled};
 ghost use Rattle.session_script.specs.declared.source.ReadFault.TheVariants.{Memory};
 
 use std::alloc::{AllocError, Global};
@@ -12,10 +13,13 @@ use std::io::Read;
 #[derive(Clone, Copy, Debug, PartialEq, Eq)]
 pub struct CallFailed;
 
-/// A source of bytes, which counts its failed calls.
+/// A source of bytes, which counts its calls, and those that failed.
 pub trait ByteSource {
     // The bytes that calls will give from here on, where they are known.
     ghost remaining: { Self → Option (List ℕ) };
+
+    // How many calls were made. The count stops at 2^64 - 1.
+    ghost calls: { Self → ℕ };
 
     // How many calls have failed.
     ghost failed_calls: { Self → ℕ };
@@ -26,6 +30,7 @@ pub trait ByteSource {
         requires { failed_calls self.old < 2 ^ 64 - 1 }
         ensures bound { ReadsAtMost result buffer.new }
         ensures bytes { ReadConsumes (remaining self.old) (remaining self.new) result buffer.new }
+        ensures call { calls self.new ≡ min (calls self.old + 1) (2 ^ 64 - 1) }
         ensures ok { OnOk result (failed_calls self.new ≡ failed_calls self.old) }
         ensures err { OnErr result (failed_calls self.new ≡ failed_calls self.old + 1) };
 }
@@ -34,24 +39,32 @@ pub trait ByteSource {
 #[derive(Drop)]
 pub struct OfRead<R> {
     reader: R,
+    calls: u64,
     failed: u64,
 }
 
 impl<R: Read> OfRead<R> {
-    /// The reader, of which no call has failed.
+    /// The reader, of which no call was made.
     pub fn new(reader: R) -> Self
-        ensures { result ≡ record { reader = reader; failed = 0 } }
+        ensures { result ≡ record { reader = reader; calls = 0; failed = 0 } }
     {
-        OfRead { reader, failed: 0 }
+        OfRead {
+            reader,
+            calls: 0,
+            failed: 0,
+        }
     }
 }
 
 impl<R: Read> ByteSource for OfRead<R> {
     ghost remaining = { λ s. R.remaining s.reader };
 
+    ghost calls = { λ s. s.calls };
+
     ghost failed_calls = { λ s. s.failed };
 
     fn read_some(&mut self, buffer: &mut [u8]) -> Result<usize, CallFailed> {
+        self.calls = self.calls.saturating_add(1);
         match self.reader.read(buffer) {
             Ok(n) => Ok(n),
             Err(_) => {
@@ -67,17 +80,24 @@ impl<R: Read> ByteSource for OfRead<R> {
 pub struct MemorySource<'a> {
     rest: &'a [u8],
     until_failure: Option<u64>,
+    calls: u64,
     failed: u64,
 }
 
 impl<'a> MemorySource<'a> {
     /// The bytes, where the call of this number, from 0, fails.
     pub fn failing_at(bytes: &'a [u8], call: Option<u64>) -> Self
-        ensures { result ≡ record { rest = bytes.entry; until_failure = call; failed = 0 } }
+        ensures { result ≡ record {
+          rest = bytes.entry;
+          until_failure = call;
+          calls = 0;
+          failed = 0;
+        } }
     {
         MemorySource {
             rest: bytes,
             until_failure: call,
+            calls: 0,
             failed: 0,
         }
     }
@@ -86,16 +106,19 @@ impl<'a> MemorySource<'a> {
 impl<'a> ByteSource for MemorySource<'a> {
     ghost remaining = { λ s. Some s.rest.now };
 
+    ghost calls = { λ s. s.calls };
+
     ghost failed_calls = { λ s. s.failed };
 
     fn read_some(&mut self, buffer: &mut [u8]) -> Result<usize, CallFailed> {
-        if let Some(calls) = self.until_failure {
-            if calls == 0 {
+        self.calls = self.calls.saturating_add(1);
+        if let Some(before) = self.until_failure {
+            if before == 0 {
                 self.until_failure = None;
                 self.failed += 1;
                 return Err(CallFailed);
             }
-            self.until_failure = Some(calls - 1);
+            self.until_failure = Some(before - 1);
         }
         let mut rest = self.rest;
         let given = rest.read(buffer);
@@ -158,7 +181,9 @@ pub fn read_prefix<S: ByteSource>(
         → S.failed_calls source.new ≡ S.failed_calls source.old + 1 }
     ensures same { result ≢ Err ReadFault.Read
         → S.failed_calls source.new ≡ S.failed_calls source.old }
-    // `Endless` comes only where each of so many calls gave a byte at least.
+    // `Endless` comes only after so many calls, each of which gave a byte at least.
+    ensures called { result ≡ Err ReadFault.Endless
+        → HasCalled 16777216 (S.calls source.old) (S.calls source.new) }
     ensures endless { result ≡ Err ReadFault.Endless
         → IfSome (S.remaining source.old) (λ all. 16777216 ≤ length all) }
 {

@@ -3,7 +3,7 @@
 ghost use Rattle.std.specs.Prelude.{◌≡◌, ◌≤◌, ◌++◌, ◌∷◌, [], length, IfOk, OnOk, Some, None};
 ghost use Rattle.std.specs.List.{position_or_len};
 ghost use Rattle.text_values.specs.Letters.{is_digit};
-ghost use Rattle.session_script.specs.Words.{is_gap, words_of, with_digit, number_of};
+ghost use Rattle.session_script.specs.Words.{is_gap, words_of, with_digit, word_number};
 
 use crate::request::ScriptText;
 use std::alloc::{AllocError, Global};
@@ -83,7 +83,7 @@ fn with_digit(number: u64, byte: u8) -> Option<u64>
 /// The number below 2^64 that the digits of a word make, 0 where it has none; none where it has
 /// other bytes or makes more.
 pub fn number_of(word: &[u8]) -> Option<u64>
-    ensures { result ≡ number_of word.now }
+    ensures { result ≡ word_number word.now }
 {
     let mut number = 0;
     for byte in word {

@@ -57,7 +57,7 @@ where
     R: AllocGlobal + Print + Threads + Wait + Copy + Drop + Send + Sync + 'static,
 {
     let setting = with_workers(workers);
-    let ending = run_over(rt, &mut Endless, setting, &NoGate, &mut NoListener)?;
+    let ending = run_over(rt, &mut Endless::new(), setting, &NoGate, &mut NoListener)?;
     println!(rt;
         "a script that does not end, {workers} workers: {}, {} bytes",
         word_of(ending.end),

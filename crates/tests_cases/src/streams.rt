@@ -7,14 +7,26 @@ use session_script::{ByteSource, CallFailed};
 
 /// A source that gives one byte at each call, and does not end.
 #[derive(Clone, Copy)]
-pub struct Endless;
+pub struct Endless {
+    calls: u64,
+}
+
+impl Endless {
+    /// No call was made.
+    pub fn new() -> Endless {
+        Endless { calls: 0 }
+    }
+}
 
 impl ByteSource for Endless {
     ghost remaining = { λ _. None };
 
+    ghost calls = { λ s. s.calls };
+
     ghost failed_calls = { λ _. 0 };
 
     fn read_some(&mut self, buffer: &mut [u8]) -> Result<usize, CallFailed> {
+        self.calls = self.calls.saturating_add(1);
         if buffer.is_empty() {
             return Ok(0);
         }

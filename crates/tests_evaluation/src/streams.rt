@@ -134,7 +134,7 @@ fn show_ends<R: Print + AllocGlobal>(rt: &R) -> io::Result<()> {
     show_fronts(rt)?;
     show_lengths(rt)?;
     let mut sink = MemorySink::failing_at(Vec::new(alloc), None);
-    let word = word_of(eval_stream(rt, &mut Endless, &mut sink));
+    let word = word_of(eval_stream(rt, &mut Endless::new(), &mut sink));
     let head = format!(in alloc; "source that does not end: {word}")?;
     show_written(rt, head.as_str(), sink.as_bytes())
 }

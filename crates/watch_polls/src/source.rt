@@ -30,6 +30,7 @@ const NEVER: u64 = 3600;
 #[derive(Drop)]
 pub struct PolledSource<'a, R> {
     lines: PolledLines<'a, R>,
+    calls: u64,
     failed: u64,
 }
 
@@ -92,7 +93,7 @@ where
     /// or never where that is 0. A thread reads the input, and stays where a read waits. Errors:
     /// out of memory, or no thread can be started.
     pub fn new(rt: &'a R, paths: &[&'a str], pause: u64) -> Result<Self, AllocError>
-        ensures { IfOk result (λ s. s.failed ≡ 0) }
+        ensures { IfOk result (λ s. (s.calls ≡ 0) × (s.failed ≡ 0)) }
     {
         let alloc = rt.alloc();
         let lines = PolledLines {
@@ -104,7 +105,11 @@ where
             given: 0,
             line: Vec::new(alloc),
         };
-        Ok(PolledSource { lines, failed: 0 })
+        Ok(PolledSource {
+            lines,
+            calls: 0,
+            failed: 0,
+        })
     }
 }
 
@@ -223,9 +228,12 @@ fn put_line(text: &mut Vec<u8>, line: &str) -> bool {
 impl<'a, R: Clock + Files + Wait> ByteSource for PolledSource<'a, R> {
     ghost remaining = { λ s. None };
 
+    ghost calls = { λ s. s.calls };
+
     ghost failed_calls = { λ s. s.failed };
 
     fn read_some(&mut self, buffer: &mut [u8]) -> Result<usize, CallFailed> {
+        self.calls = self.calls.saturating_add(1);
         match self.lines.read_on(buffer) {
             Ok(count) => Ok(count),
             Err(e) => {

@@ -3,6 +3,7 @@ use Rattle.session_script.specs.Commands.{skips}
 use Rattle.session_script.specs.Reading.{left_to, turns_of, IsCommandOfWords}
 use Rattle.session_script.specs.Words.{words_of}
 use Rattle.session_script.proofs.Steps.{line_answered, paid_on, read_one}
+use Rattle.session_script.proofs.Calls.{called_on}
 use Rattle.session_script.proofs.state.ScriptReader.next.Goals as goal
 
 pub returns-then-not-skipped-clause-next : goal.returns-then-not-skipped-clause-next
@@ -32,3 +33,12 @@ returns-then-not-skipped-clause-paid g c =
     let so_far = paid_on (turns_of c.args.self.now) (turns_of c.lines.self) (turns_of c.read_line.new.self) first (g.S.ByteSource.remaining c.lines.source) line c.lines.invariant.paid c.in_ok-read.ensures.paid in
     paid_on (turns_of c.args.self.now) (turns_of c.read_line.new.self) (turns_of c.command.new.self)
     first line last so_far c.in_ok-command-in-Some.ensures.paid
+
+pub returns-then-not-skipped-clause-called : goal.returns-then-not-skipped-clause-called
+returns-then-not-skipped-clause-called g c =
+    let first = g.S.ByteSource.calls c.args.source.now in
+    let line = g.S.ByteSource.calls c.read_line.new.source in
+    let last = g.S.ByteSource.calls c.command.new.source in
+    let so_far = called_on (turns_of c.args.self.now) (turns_of c.lines.self) (turns_of c.read_line.new.self) first (g.S.ByteSource.calls c.lines.source) line c.lines.invariant.called c.in_ok-read.ensures.called in
+    called_on (turns_of c.args.self.now) (turns_of c.read_line.new.self) (turns_of c.command.new.self)
+    first line last so_far c.in_ok-command-in-Some.ensures.called

@@ -2,6 +2,7 @@ use Rattle.std.proofs.Common.{rules, arith}
 use Rattle.std.proofs.lemmas.Grind.{common_steps}
 use Rattle.session_script.specs.Reading.{waiting_in, left_to, turns_of}
 use Rattle.session_script.proofs.Steps.{line_ended_if, part_is_open, line_goes_on, line_is_unbroken, line_is_last, paid_after}
+use Rattle.session_script.proofs.Calls.{called_after}
 use Rattle.session_script.proofs.state.ScriptReader.read_line.Goals as goal
 
 pub returns-then-ends-clause-line : goal.returns-then-ends-clause-line
@@ -36,6 +37,12 @@ parts-preserved g c =
             c.in_ok-ends.ensures.whole,
             c.parts.invariant.work,
           );
+      called =
+          called_after (turns_of c.args.self.now) (turns_of c.parts.self)
+          (turns_of c.take_part.new.self) (turns_of c.fill.new.self)
+          (g.S.ByteSource.calls c.args.source.now) (g.S.ByteSource.calls c.parts.source)
+          (g.S.ByteSource.calls c.fill.new.source) c.parts.invariant.called
+          c.in_ok-ends.ensures.turns c.in_ok-more.ensures.called;
       paid =
           paid_after (turns_of c.args.self.now) (turns_of c.parts.self)
           (turns_of c.take_part.new.self) (turns_of c.fill.new.self)

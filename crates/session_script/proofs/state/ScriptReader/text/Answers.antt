@@ -3,12 +3,14 @@ use Rattle.session_script.specs.Commands.{is_dot}
 use Rattle.session_script.specs.Reading.{left_to, turns_of}
 use Rattle.session_script.proofs.Prefixes.{prefix_is_short}
 use Rattle.session_script.proofs.Steps.{paid_none, paid_on, text_begins, text_goes_on, text_given, text_is_cut_off, read_nothing, read_one}
+use Rattle.session_script.proofs.Calls.{called_none, called_on}
 use Rattle.session_script.proofs.state.ScriptReader.text.Goals as goal
 
 pub lines-init : goal.lines-init
 lines-init g c = record {
   ahead = λ few. few;
   work = omega arith;
+  called = called_none (turns_of c.args.self.now) (g.S.ByteSource.calls c.args.source.now);
   paid = paid_none (turns_of c.args.self.now) (g.S.ByteSource.remaining c.args.source.now);
   same = refl;
   short = rw c.new-text.ensures.items (omega arith);
@@ -46,6 +48,11 @@ lines-preserved g c =
     record {
       ahead = λ few. c.in_ok-read.ensures.ahead (c.lines.invariant.ahead few);
       work = omega (arith, c.in_ok-read.ensures.work);
+      called =
+          called_on (turns_of c.args.self.now) (turns_of c.lines.self) (turns_of c.read_line.new.self)
+          (g.S.ByteSource.calls c.args.source.now) (g.S.ByteSource.calls c.lines.source)
+          (g.S.ByteSource.calls c.read_line.new.source) c.lines.invariant.called
+          c.in_ok-read.ensures.called;
       paid =
           paid_on (turns_of c.args.self.now) (turns_of c.lines.self) (turns_of c.read_line.new.self)
           (g.S.ByteSource.remaining c.args.source.now) (g.S.ByteSource.remaining c.lines.source)

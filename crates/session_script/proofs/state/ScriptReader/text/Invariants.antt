@@ -1,4 +1,5 @@
 use Rattle.std.proofs.Common.{◌≡◌, ◌≤◌, length}
+use Rattle.session_script.specs.Calls.{AreTurnsCalled}
 use Rattle.session_script.specs.Reading.{left_to, turns_of, work_of, ReadsFewAhead, IsPaid}
 use Rattle.session_script.specs.declared.request.Request.{Request}
 use Rattle.session_script.proofs.Steps.{InText}
@@ -9,6 +10,8 @@ abbrev pub invariant-lines : goal.invariant-lines
 invariant-lines g l = record {
   ahead : ReadsFewAhead l.initial.self l.self;
   work : work_of l.self ≤ work_of l.initial.self;
+  called : AreTurnsCalled (turns_of l.initial.self) (turns_of l.self)
+      (g.S.ByteSource.calls l.initial.source) (g.S.ByteSource.calls l.source);
   paid : IsPaid (turns_of l.initial.self) (turns_of l.self)
       (g.S.ByteSource.remaining l.initial.source) (g.S.ByteSource.remaining l.source);
   same : g.S.ByteSource.failed_calls l.source ≡ g.S.ByteSource.failed_calls l.initial.source;
