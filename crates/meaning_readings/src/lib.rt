@@ -1,0 +1,10 @@
+//! A law of tests that are read: what evaluating such a test from nothing gives is what it says.
+//! Read in specs/: Readings, after `Outcomes` of `meaning_outcomes/specs`.
+#![tactic(auto)]
+
+ghost use Rattle.meaning_readings.specs.Readings.{ReadingsAreMeant};
+
+/// What evaluating the test of a text from nothing gives is what the test says under the model.
+pub fn readings_are_meant()
+    ensures { ReadingsAreMeant }
+{}

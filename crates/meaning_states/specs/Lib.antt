@@ -1,0 +1,3 @@
+pub mod ByName
+pub mod States
+pub mod Texts

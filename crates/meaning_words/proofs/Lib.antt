@@ -1,0 +1,3 @@
+pub mod Machines
+pub mod Running
+pub mod Ending
