@@ -319,6 +319,7 @@ fn answer_next<'a>(
 /// uses names of earlier items alone, and that the bodies of recursive groups grow with their
 /// names: what `binding_graph::resolve` ensures of a model without fault gives the first
 /// (`resolved_ordered`), and `evaluation_laws::items_are_coded` the second. Errors: want of memory.
+#[inline(never)]
 pub fn answers<'a>(
     alloc: Global,
     space: &Space,
@@ -432,6 +433,7 @@ pub(crate) fn refused(alloc: Global, test: &Test, refusal: Refusal) -> Result<Ou
 }
 
 // What the test says over its candidates, by an evaluator of its own.
+#[inline(never)]
 fn over_space_alone(
     alloc: Global,
     test: &Test,

@@ -19,6 +19,7 @@ use text_values::{ModelText, Test};
 use verdict::{Outcome, Refusal};
 
 /// The candidates of a test, or why it has none. Errors: want of memory.
+#[inline(never)]
 pub(crate) fn space_for(
     alloc: Global,
     test: &Test,
@@ -103,6 +104,7 @@ fn under_model(
 }
 
 /// What the test says over its space under each model.
+#[inline(never)]
 fn each_model(
     alloc: Global,
     test: &Test,

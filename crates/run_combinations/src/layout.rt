@@ -92,6 +92,7 @@ fn served_runs(
 }
 
 /// The runs of each thread, but for some with a load of what its location never holds.
+#[inline(never)]
 fn all_runs(alloc: Global, program: &Program, domain: &Domain) -> Result<Vec<Vec<Run>>, AllocError>
     requires { IsValueSet domain.now.values.items }
     ensures { IfOk result (λ v. AreServedRuns program.now domain.now.values.items v.items) }
@@ -137,6 +138,7 @@ fn thread_parts(
 }
 
 /// The runs of each thread that may be part of a candidate.
+#[inline(never)]
 fn all_parts(
     alloc: Global,
     runs: &[Vec<Run>],
