@@ -5,7 +5,7 @@ ghost use Rattle.bit_relations.specs.Relation.{IsRelation};
 ghost use Rattle.text_values.specs.PredefinedNames.{is_set};
 ghost use Rattle.candidates.specs.Space.{IsCandidateOf};
 ghost use Rattle.base_names.specs.Known.{set_names};
-ghost use Rattle.base_names.specs.Candidate.{IsEntered, HasReadsFrom, HasCoherence, Gives, RelationIn};
+ghost use Rattle.base_names.specs.Candidate.{IsEntered, HasReadsFrom, HasCoherence, SuppliesName, RelationIn};
 ghost use Rattle.base_env.specs.Environment.{HasFacts, IsEnvironment};
 
 use base_names::Base;
@@ -92,7 +92,7 @@ pub struct BaseEnv {
 fn relation(base: &Base, name: Predefined) -> Rel
     ensures { (c : _) (reads_from coherence : _) → IsEntered base.now c
         → HasReadsFrom base.now c reads_from → HasCoherence base.now c coherence
-        → Gives base.now name
+        → SuppliesName base.now name
         → IsRelation result base.now.count (RelationIn name base.now.count c reads_from coherence) }
 {
     let mut made = Rel::empty(base.count());
@@ -119,7 +119,7 @@ fn env_of(base: &Base) -> BaseEnv
         → HasReadsFrom base.now c reads_from
         → HasCoherence base.now c coherence
         → ((name : _) → IsTrue (is_set name) → Contains (set_names base.now.sets) name)
-        → ((name : _) → is_set name ≡ false → Gives base.now name)
+        → ((name : _) → is_set name ≡ false → SuppliesName base.now name)
         → IsEnvironment result base.now.count c reads_from coherence }
 {
     BaseEnv {

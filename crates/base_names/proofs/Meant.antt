@@ -5,7 +5,7 @@ use Rattle.text_values.specs.declared.predefined.Predefined.{Predefined}
 use Rattle.text_values.specs.declared.predefined.Predefined.TheVariants as names
 use Rattle.run_combinations.specs.declared.combination.Combination.{Combination}
 use Rattle.base_names.specs.Known.{Known, AreMatching, KnownPairs}
-use Rattle.base_names.specs.Candidate.{IsEntered, HasReadsFrom, HasCoherence, Gives, RelationIn, FromReadsIn}
+use Rattle.base_names.specs.Candidate.{IsEntered, HasReadsFrom, HasCoherence, SuppliesName, RelationIn, FromReadsIn}
 
 pub both : {A B C D : Type 0} → (A ↔ C) → (B ↔ D) → (A × B) ↔ (C × D)
 both p q = ((λ h. (p.0 h.0, q.0 h.1)), (λ h. (p.1 h.0, q.1 h.1)))
@@ -34,7 +34,7 @@ from_reads_meant known c reads_from coherence are reads ordered a b = (
 pub relation_meant : (known : Known) (c : Combination) (reads_from coherence : List ℕ)
     → AreMatching known.count known.reads_from known.read_by known.coherence known.from_reads
     → IsEntered known c → HasReadsFrom known c reads_from → HasCoherence known c coherence → (name : Predefined)
-    → Gives known name → (a b : ℕ)
+    → SuppliesName known name → (a b : ℕ)
     → KnownPairs known name a b ↔ RelationIn name known.count c reads_from coherence a b
 relation_meant known c reads_from coherence are entered reads ordered names.Loads given a b =
     entered.shared names.Loads given a b

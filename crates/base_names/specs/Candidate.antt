@@ -106,8 +106,8 @@ HoldsName names None = Unit {0}
 HoldsName names (Some name) = Contains names name
 
 -- what a relation needs of those that are held
-abbrev pub Gives : Known → Predefined → Type 0
-Gives known name = HoldsName (shared_names known.shared) (shared_for name)
+abbrev pub SuppliesName : Known → Predefined → Type 0
+SuppliesName known name = HoldsName (shared_names known.shared) (shared_for name)
 
 -- what the relations among these names need is held
 abbrev pub AreCovered : List Predefined → List Predefined → Type 0

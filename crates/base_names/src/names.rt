@@ -6,7 +6,7 @@ ghost use Rattle.bit_relations.specs.Relation.{Has, IsRelation, IsEvents};
 ghost use Rattle.bit_relations.specs.Pairs.{Inter};
 ghost use Rattle.text_values.specs.declared.predefined.Predefined.TheVariants as names;
 ghost use Rattle.base_names.specs.Known.{AreMatching, IsConsistent, EventsUnder, PairsUnder, KnownEvents, KnownPairs, SharedPairs, EventsFound, set_names, shared_names};
-ghost use Rattle.base_names.specs.Candidate.{AreNamedSets, AreNamedRelations, IsEntered, HasReadsFrom, HasCoherence, Gives, AreCovered, shared_for, SetIn, RelationIn};
+ghost use Rattle.base_names.specs.Candidate.{AreNamedSets, AreNamedRelations, IsEntered, HasReadsFrom, HasCoherence, SuppliesName, AreCovered, shared_for, SetIn, RelationIn};
 
 use crate::changing::{write_order, write_reads};
 use crate::fixed::write_fixed;
@@ -208,7 +208,7 @@ impl Base {
         ensures sets { IfOk result (λ base. (name : _) → IsTrue (is_set name)
             → Contains (set_names base.sets) name) }
         ensures relations { IfOk result
-            (λ base. (name : _) → is_set name ≡ false → Gives base name) }
+            (λ base. (name : _) → is_set name ≡ false → SuppliesName base name) }
     {
         let mut base = Base::of_names(alloc, &PREDEFINED)?;
         base.enter(combination);
@@ -221,7 +221,7 @@ impl Base {
         ensures known { IfOk result (λ base. IsConsistent base) }
         ensures sets { IfOk result (λ base. set_names base.sets ≡ filter is_set names.now) }
         ensures relations { IfOk result (λ base. (name : _) → Contains names.now name
-            → is_set name ≡ false → Gives base name) }
+            → is_set name ≡ false → SuppliesName base name) }
     {
         Ok(Base {
             count: 0,
@@ -255,7 +255,7 @@ impl Base {
         ensures known { IsConsistent self.new }
         ensures sets { OnOk result (set_names self.new.sets ≡ filter is_set names.now) }
         ensures relations { OnOk result ((name : _) → Contains names.now name → is_set name ≡ false
-            → Gives self.new name) }
+            → SuppliesName self.new name) }
     {
         let _count = self.count();
         self.sets = sets_of(alloc, names)?;
@@ -424,7 +424,7 @@ impl Base {
         ensures held { IsRelation target.new self.now.count (KnownPairs self.now name) }
         ensures meant { (c : _) → (reads_from coherence : _) → IsEntered self.now c
             → HasReadsFrom self.now c reads_from → HasCoherence self.now c coherence
-            → Gives self.now name
+            → SuppliesName self.now name
             → IsRelation target.new self.now.count
             (RelationIn name self.now.count c reads_from coherence) }
     {

@@ -6,7 +6,7 @@ use Rattle.candidates.specs.declared.candidate.Space.{Space}
 use Rattle.cat_eval.specs.declared.column.Column.{Column}
 use Rattle.cat_eval.specs.Columns.{ColumnsOf}
 use Rattle.cat_eval.specs.Values.{AnswersOf}
-use Rattle.cat_eval_laws.specs.Laws.{AreSame}
+use Rattle.cat_eval_laws.specs.Laws.{AreSameItems}
 use Rattle.cat_eval_laws.proofs.Keeping.{columns_kept, answers_kept}
 use Rattle.bench_items.specs.Items.{role_content}
 use Rattle.bench_values.specs.Makes.{HasGroupColumns, HasCheckAnswers}
@@ -14,7 +14,7 @@ use Rattle.bench_values.specs.Spaces.{SpaceContent, space_content}
 
 same_items : (role read : Role) (space over : Space) (inputs found : List (Bor Column))
     → role_content read ≡ role_content role → space_content over ≡ space_content space
-    → map (λ c. c.now) found ≡ map (λ c. c.now) inputs → AreSame read role over space found inputs
+    → map (λ c. c.now) found ≡ map (λ c. c.now) inputs → AreSameItems read role over space found inputs
 same_items role read space over inputs found reading shown are = record {
   roles = reading;
   candidates = ap (λ (s : SpaceContent). s.executions) shown;

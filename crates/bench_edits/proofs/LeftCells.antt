@@ -12,7 +12,7 @@ use Rattle.bench_texts.specs.declared.reading.Reading.TheVariants as readings
 use Rattle.bench_texts.specs.declared.replacement.Replacement.{Replacement}
 use Rattle.bench_nodes.specs.declared.table.ModelRow.{ModelRow}
 use Rattle.bench_nodes.specs.declared.table.TestRow.{TestRow}
-use Rattle.bench_nodes.specs.Nodes.{test_stamp, space_parts, space_keys, has_test}
+use Rattle.bench_nodes.specs.Nodes.{test_stamp, space_parts, space_keys, has_test_row}
 use Rattle.bench_parts.specs.declared.parts.Parts.{Parts}
 use Rattle.bench_parts.specs.Contents.{PartContent, OfCondition, parts_state, test_part}
 use Rattle.bench_parts.specs.Written.{KeepsStamp}
@@ -197,7 +197,7 @@ module _ (p q : Parts) (tests : List Test) (models : List NamedModel) (r : Repla
       items = items_left p q tests models r number e next later o.edit (o.after).parts_are;
       names = names_left p q tests models r number e o.edit;
       faults = faults_left p q tests models r number e next later o.edit (o.after).parts_are;
-      has_test = ap (has_test q.table.tests.items) after_id ∙ found_after.is_there;
+      has_test = ap (has_test_row q.table.tests.items) after_id ∙ found_after.is_there;
       test_left = left_for a.model_row.id a.model.numbers.items a.model.reading same.said;
       may_keep = (parts_kept q after (models_with r models) o.after).may_keep;
     };

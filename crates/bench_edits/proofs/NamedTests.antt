@@ -9,7 +9,7 @@ use Rattle.text_values.specs.TestValue.{formula_of}
 use Rattle.ppc_semantics.specs.Lowering.{AreNamesOf, place_names, entry_names, formula_names, test_names}
 use Rattle.memo_core.specs.Step.{Has}
 use Rattle.bench_nodes.specs.declared.table.TestRow.{TestRow}
-use Rattle.bench_nodes.specs.Nodes.{has_test}
+use Rattle.bench_nodes.specs.Nodes.{has_test_row}
 use Rattle.bench_values.specs.Parts.{parts_of, HasParts}
 use Rattle.bench_parts.specs.Built.{IsTestRow, AreTestRows}
 use Rattle.bench_parts.specs.Views.{view_of}
@@ -23,7 +23,7 @@ pub record IsFound (last : ℕ) (rs : List TestRow) (ts : List Test) (ls : List 
       ≡ Some (record { row = row; test = test; locations = locations })
   pub row_is : IsTestRow last row test
   pub names : AreNamesOf (test_names test) locations
-  pub there : has_test rs row.id ≡ true
+  pub there : has_test_row rs row.id ≡ true
 
 abbrev IsOther : TestRow → TestRow → Type 0
 IsOther a b = a.id ≡ b.id → ⊥
@@ -63,7 +63,7 @@ find_test last (r ∷ rs) (t ∷ ts) (l ∷ ls) (suc i) row test h apart names a
       found = rw (ne_eqb r.id row.id unlike) f.found;
       row_is = f.row_is;
       names = f.names;
-      there = or_right (row.id == r.id) (has_test rs row.id) f.there;
+      there = or_right (row.id == r.id) (has_test_row rs row.id) f.there;
     }
   where
     or_right : (a b : Bool) → b ≡ true → a || b ≡ true

@@ -6,7 +6,7 @@ use Rattle.binding_kinds.specs.declared.fault.ModelFault.TheVariants as faults
 use Rattle.binding_kinds.specs.declared.scope.Used.{Used}
 use Rattle.binding_kinds.specs.Value.{Naming, Bound, BareItem, Group, Check, Mute, Defined}
 use Rattle.binding_kinds.specs.Senses.{Sense}
-use Rattle.binding_kinds.specs.Faults.{width, IsAmong, IsFaultIn, IsFaultOfItem, IsFault, with_own, names_after, senses_after}
+use Rattle.binding_kinds.specs.Faults.{width, IsAmong, IsFaultIn, IsFaultOfItem, IsFaultBehind, with_own, names_after, senses_after}
 use Rattle.binding_graph.specs.declared.resolved.Body.{Body}
 use Rattle.binding_graph.specs.declared.resolved.ResolvedItem.{ResolvedItem}
 use Rattle.binding_graph.specs.declared.resolved.Role.{Role}
@@ -108,7 +108,7 @@ item_once ss us names own item (Defined n ps b) r none h = check_once r.role (ap
 -- each item of a model without fault
 pub names_once : (ss : List Sense) (us : List Usage) (names : List Naming) (at : ℕ)
     (cs : List BareItem) (rs : List ResolvedItem)
-    → ((i p : ℕ) (l : ModelFault) → IsFault ss names at cs i p l → ⊥)
+    → ((i p : ℕ) (l : ModelFault) → IsFaultBehind ss names at cs i p l → ⊥)
     → AreResolved ss us names at cs rs
     → (index : ℕ) (r : ResolvedItem) → slice_get rs index ≡ Some r → StandsOnce (bound_names r.role)
 names_once ss us names at [] [] none h index r found = absurd (none-some r found)

@@ -14,7 +14,7 @@ use Rattle.binding_graph.specs.Reach.{is_check, AreReached}
 use Rattle.bench_nodes.specs.declared.table.Slot.{Slot}
 use Rattle.bench_nodes.specs.declared.table.SlotKey.{SlotKey}
 use Rattle.bench_nodes.specs.declared.table.SlotKey.TheVariants as slots
-use Rattle.bench_nodes.specs.Nodes.{used, keys_at, has_slot, slot_keys, inputs_of}
+use Rattle.bench_nodes.specs.Nodes.{used, keys_at, has_slot, slot_keys, node_inputs}
 use Rattle.bench_nodes.proofs.Laws.{used_slot}
 use Rattle.bench_items.specs.Naming.{SeenName}
 use Rattle.bench_slots.specs.Slots.{number_at, function_key, name_key, space_key, item_keys, flag_key, answer_key, key_by, keys_by, verdict_keys}
@@ -199,16 +199,16 @@ module _ (s : PartsState) (models : List ModelReading) (kept : IsKeptState s mod
             kept.built.slots id numbers items us there i r kind inside found is)) h)
 
         at_kind : (other : Kind)
-            → (inputs_of s.parts.table other test (number_at numbers i)
+            → (node_inputs s.parts.table other test (number_at numbers i)
             ≡ keys_at test (slot_keys ss other (number_at numbers i))) → kind ≡ other
             → Has (input_nodes (keys_at test (slot_keys ss kind (number_at numbers i))))
             (record { kind = k; test = test; of = of })
-            → Has (input_nodes (inputs_of s.parts.table kind test (number_at numbers i)))
+            → Has (input_nodes (node_inputs s.parts.table kind test (number_at numbers i)))
             (record { kind = k; test = test; of = of })
         at_kind other same e g =
             subst
             (λ (x : Kind). Has
-            (input_nodes (inputs_of s.parts.table x test (number_at numbers i)))
+            (input_nodes (node_inputs s.parts.table x test (number_at numbers i)))
             (record { kind = k; test = test; of = of }))
             (sym e)
             (subst
@@ -222,7 +222,7 @@ module _ (s : PartsState) (models : List ModelReading) (kept : IsKeptState s mod
         by_role : (role : Role) → HasKind role kind
             → Has (input_nodes (keys_at test (slot_keys ss kind (number_at numbers i))))
             (record { kind = k; test = test; of = of })
-            → Has (input_nodes (inputs_of s.parts.table kind test (number_at numbers i)))
+            → Has (input_nodes (node_inputs s.parts.table kind test (number_at numbers i)))
             (record { kind = k; test = test; of = of })
         by_role (roles.Group recursive bodies) e g = at_kind kinds.Group refl e g
         by_role (roles.Check check) e g = at_kind kinds.Check refl e g

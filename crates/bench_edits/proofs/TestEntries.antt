@@ -8,7 +8,7 @@ use Rattle.candidates.proofs.OneProgram.{names_one}
 use Rattle.memo_core.specs.Step.{Has}
 use Rattle.bench_texts.specs.BenchTexts.{put_at}
 use Rattle.bench_nodes.specs.declared.table.TestRow.{TestRow}
-use Rattle.bench_nodes.specs.Nodes.{stamp_in, test_stamp, space_parts, space_keys, has_test}
+use Rattle.bench_nodes.specs.Nodes.{stamp_in, test_stamp, space_parts, space_keys, has_test_row}
 use Rattle.bench_parts.specs.Built.{IsTestRow, AreTestRows}
 use Rattle.bench_parts.specs.Contents.{test_part, test_content}
 use Rattle.bench_parts.specs.Tests.{TestEntry}
@@ -116,7 +116,7 @@ pub record IsFound (rs : List TestRow) (ts : List Test) (ls : List Names) (e : T
       → test_content rs ts ls part e.row.id ≡ test_part e.test e.locations part
   pub stamps : (part : ℕ) → test_stamp rs part e.row.id ≡ stamp_in e.row part
   pub keys : space_keys rs e.row.id ≡ space_parts e.row
-  pub is_there : has_test rs e.row.id ≡ true
+  pub is_there : has_test_row rs e.row.id ≡ true
 
 id_there : (rs : List TestRow) (ts : List Test) (ls : List Names) (e : TestEntry)
     → Has (entries rs ts ls) e → Has (map (λ r. r.id) rs) e.row.id

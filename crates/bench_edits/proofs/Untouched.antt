@@ -30,7 +30,7 @@ use Rattle.bench_parts.specs.States.{keeps, net_in}
 use Rattle.bench_parts.specs.Written.{WrittenModel, WrittenState, KeepsStamp, EqualPartsKeepStamps}
 use Rattle.bench_edits.specs.Kept.{IsKeptState, id_in, space_node, verdict_node}
 use Rattle.bench_edits.proofs.Origin.{verdict_keys_are, verdict_there}
-use Rattle.bench_edits.specs.BenchCells.{CellItem, cell_items, EqualItemsKeepNames, IsTestLeft, HoldsText, LeavesCell, IsVerdictUntouched}
+use Rattle.bench_edits.specs.BenchCells.{CellItem, cell_items, EqualItemsKeepNames, IsTestLeft, HoldsText, LeavesWrittenCell, IsVerdictUntouched}
 use Rattle.bench_edits.proofs.Stable.{IsCertain, nat_stable, untouched_stable}
 use Rattle.bench_edits.proofs.Items.{IsOfKind, number_in, used_key, keys_of, flag_keys, answer_keys, by_items, cell_keys, IsAmong, IsGroupAmong, IsCellIn, cell_in}
 
@@ -363,7 +363,7 @@ module _ (w v : WrittenState) (test : ℕ) where
   written ns texts r = record { numbers = ns; items = texts; reading = r }
 
   by_readings : (ks ls : List ℕ) (texts others : List Item) (r q : ModelReading)
-      → LeavesCell w v (written ks texts r) (written ls others q) test
+      → LeavesWrittenCell w v (written ks texts r) (written ls others q) test
       → IsVerdictUntouched w v (written ks texts r) (written ls others q) test
   by_readings ks ls texts others (Sound id numbers items used) (Sound jd ns is us) h = (
     sym h.same.0,
@@ -391,13 +391,13 @@ module _ (w v : WrittenState) (test : ℕ) where
         (record { kind = kind; test = test; of = of }) h.has_test has)),
   )
 
-pub left_untouched : (w v : WrittenState) (m n : WrittenModel) (test : ℕ) → LeavesCell w v m n test
+pub left_untouched : (w v : WrittenState) (m n : WrittenModel) (test : ℕ) → LeavesWrittenCell w v m n test
     → IsVerdictUntouched w v m n test
 left_untouched w v m n test h =
     by_readings w v test m.numbers n.numbers m.items n.items m.reading n.reading h
 
 pub unreached_untouched : (w v : WrittenState) (m n : WrittenModel) (test : ℕ)
-    → IsCertain (LeavesCell w v m n test) → IsVerdictUntouched w v m n test
+    → IsCertain (LeavesWrittenCell w v m n test) → IsVerdictUntouched w v m n test
 unreached_untouched w v m n test h = (
   nat_stable (id_in n.reading) (id_in m.reading)
       (λ no. h (λ l. no (left_untouched w v m n test l).0)),

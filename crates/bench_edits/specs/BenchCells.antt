@@ -1,4 +1,4 @@
--- What a cell has of its model (`HaveSameCells`), and an edit that leaves it (`LeavesCell`). Read
+-- What a cell has of its model (`HaveSameCells`), and an edit that leaves it (`LeavesWrittenCell`). Read
 -- it after bench_parts' specs/Written and `Kept`.
 use Rattle.std.specs.Prelude.{◌≡◌, ℕ, ◌<◌, true, List, length, map, Option, Some, option_map, slice_get}
 use Rattle.text_values.specs.declared.model.Item.{Item}
@@ -10,7 +10,7 @@ use Rattle.binding_kinds.specs.declared.scope.Input.{Input}
 use Rattle.binding_graph.specs.declared.resolved.ResolvedItem.{ResolvedItem}
 use Rattle.bench_items.specs.Naming.{SeenName}
 use Rattle.bench_items.specs.Items.{RoleContent, role_content}
-use Rattle.bench_nodes.specs.Nodes.{used, has_test, space_keys}
+use Rattle.bench_nodes.specs.Nodes.{used, has_test_row, space_keys}
 use Rattle.bench_slots.specs.Slots.{number_at}
 use Rattle.bench_slots.specs.Tables.{ModelReading, Sound, Faulty}
 use Rattle.bench_slices.specs.Slices.{clause_at}
@@ -100,14 +100,14 @@ pub record HoldsModel (w : WrittenState) (m : WrittenModel) : Type 0 where
 
 -- The edit from `w` to `v` leaves the cell of a test under a model that is `m` before it and `n`
 -- after it.
-pub record LeavesCell (w v : WrittenState) (m n : WrittenModel) (test : ℕ) : Type 0 where
+pub record LeavesWrittenCell (w v : WrittenState) (m n : WrittenModel) (test : ℕ) : Type 0 where
   pub before : HoldsModel w m
   pub after : HoldsModel v n
   pub same : HaveSameCells m n
   pub items : EqualPartsKeepStamps w v 0
   pub names : EqualItemsKeepNames w.state v.state
   pub faults : EqualPartsKeepStamps w v 1
-  pub has_test : has_test v.state.parts.table.tests.items test ≡ true
+  pub has_test : has_test_row v.state.parts.table.tests.items test ≡ true
   pub test_left : IsLeftFor m.reading w.state v.state test
   pub may_keep : MayNodesKeep v.state
 
@@ -122,11 +122,11 @@ IsVerdictUntouched w v m n test =
 
 abbrev pub LeftCellsAreUntouched : Type 0
 LeftCellsAreUntouched =
-    (w v : WrittenState) (m n : WrittenModel) (test : ℕ) → LeavesCell w v m n test
+    (w v : WrittenState) (m n : WrittenModel) (test : ℕ) → LeavesWrittenCell w v m n test
     → IsVerdictUntouched w v m n test
 
 -- Likewise where it cannot be that the edit does not leave the cell.
 abbrev pub UnreachedCellsAreUntouched : Type 0
 UnreachedCellsAreUntouched =
-    (w v : WrittenState) (m n : WrittenModel) (test : ℕ) → ((LeavesCell w v m n test → ⊥) → ⊥)
+    (w v : WrittenState) (m n : WrittenModel) (test : ℕ) → ((LeavesWrittenCell w v m n test → ⊥) → ⊥)
     → IsVerdictUntouched w v m n test

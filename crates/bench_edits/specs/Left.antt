@@ -22,7 +22,7 @@ use Rattle.bench_edits.specs.Owed.{ArePartsOf, item_numbers}
 use Rattle.bench_text_laws.specs.Orderly.{AreApart}
 use Rattle.bench_edits.specs.Readings.{readings_of, written_model, written_state, all_facts}
 use Rattle.bench_edits.specs.Kept.{IsKeptState}
-use Rattle.bench_edits.specs.BenchCells.{HaveSameCells, LeavesCell, MayNodesKeep}
+use Rattle.bench_edits.specs.BenchCells.{HaveSameCells, LeavesWrittenCell, MayNodesKeep}
 
 -- ---- parts
 
@@ -108,7 +108,7 @@ pub record IsSameCell (a b : CellRows) : Type 0 where
 pub record IsLeft (w v : WrittenState) (a b : CellRows) : Type 0 where
   pub test : b.test_row.id ≡ a.test_row.id
   pub model : b.model_row.id ≡ a.model_row.id
-  pub left : LeavesCell w v (model_in a) (model_in b) a.test_row.id
+  pub left : LeavesWrittenCell w v (model_in a) (model_in b) a.test_row.id
 
 abbrev pub CellsAreLeft : Type 0
 CellsAreLeft =

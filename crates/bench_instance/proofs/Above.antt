@@ -16,7 +16,7 @@ use Rattle.bench_nodes.specs.declared.table.NodeTable.{NodeTable}
 use Rattle.bench_nodes.specs.declared.table.SlotKey.{SlotKey}
 use Rattle.bench_nodes.specs.declared.table.SlotKey.TheVariants as slots
 use Rattle.bench_nodes.specs.declared.table.TestRow.{TestRow}
-use Rattle.bench_nodes.specs.Nodes.{keys_at, slot_keys, thread_parts, row_parts, row_of, inputs_of}
+use Rattle.bench_nodes.specs.Nodes.{keys_at, slot_keys, thread_parts, row_parts, row_of, node_inputs}
 use Rattle.bench_texts.specs.BenchTexts.{test_index}
 use Rattle.bench_texts.specs.Held.{texts_of}
 use Rattle.bench_text_laws.specs.Orderly.{AreApart}
@@ -54,7 +54,7 @@ row_nodes None n h = h
 row_nodes (Some t) n h = thread_nodes t.id 6 t.threads.items _ n h
 
 input_test : (t : NodeTable) (kind : Kind) (test of : ℕ) (n : Node)
-    → Has (input_nodes (inputs_of t kind test of)) n → n.test ≡ test
+    → Has (input_nodes (node_inputs t kind test of)) n → n.test ≡ test
 input_test t Space test of n h = absurd (row_nodes (row_of t.tests.items test) n h)
 input_test t Group test of n h = key_test test (slot_keys t.slots.items Group of) n h
 input_test t Check test of n h = key_test test (slot_keys t.slots.items Check of) n h

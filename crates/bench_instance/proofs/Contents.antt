@@ -14,7 +14,7 @@ use Rattle.board.specs.declared.operation.BoardOp.{BoardOp}
 use Rattle.board.specs.declared.operation.BoardOp.TheVariants.{Edit, Settle}
 use Rattle.board.specs.Legal.{TestsAndModels, tests_and_models, texts_after}
 use Rattle.bench_instance.specs.declared.stamped_texts.StampedTexts.{StampedTexts}
-use Rattle.bench_instance.specs.StampedCells.{from_scratch, scratch_by, test_of as test_in, model_of as model_in}
+use Rattle.bench_instance.specs.StampedCells.{cell_from_scratch, scratch_by, test_of as test_in, model_of as model_in}
 use Rattle.board.specs.Histories.{contents_with, contents_after, IsEditOf, IsMadeOn, AreMadeFrom, IsHistory}
 use Rattle.bench_instance.specs.Texts.{AreAfter}
 use Rattle.bench_instance.specs.Lemmas.Laws.{made_few}
@@ -79,8 +79,8 @@ module _ (t u : StampedTexts) (same : tests_and_models u.texts ≡ tests_and_mod
       ap (λ (h : TestsAndModels). slice_get h.models (model_index name (texts_of u.texts).models)) same
       ∙ ap (λ (x : BenchTexts). slice_get t.texts.models.items (model_index name x.models)) contents
 
-  pub result_same : (test model : List ℕ) (o : Outcome) → from_scratch t test model o
-      → from_scratch u test model o
+  pub result_same : (test model : List ℕ) (o : Outcome) → cell_from_scratch t test model o
+      → cell_from_scratch u test model o
   result_same test model o h =
       subst (λ (c : Option Test). scratch_by c (model_in u model) o) (sym (test_same test))
       (subst (λ (m : Option NamedModel). scratch_by (test_in t test) m o) (sym (model_same model))

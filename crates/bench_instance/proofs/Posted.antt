@@ -20,7 +20,7 @@ use Rattle.board.specs.Legal.{TestsAndModels, no_tests_or_models, IsLegal, texts
 use Rattle.board.proofs.Names.{IsNamed, as_many, names_from}
 use Rattle.bench_instance.specs.declared.stamped_texts.StampedTexts.{StampedTexts}
 use Rattle.bench_instance.specs.StampedTexts.{AreSoundTexts}
-use Rattle.bench_instance.specs.StampedCells.{from_scratch, scratch_by, test_of, model_of as model_in}
+use Rattle.bench_instance.specs.StampedCells.{cell_from_scratch, scratch_by, test_of, model_of as model_in}
 use Rattle.bench_instance.specs.Lemmas.CellProofs.{stands_there, tests_apart, models_apart}
 use Rattle.bench_instance.specs.Cells.{cell_with, row_cells, all_cells, IsCountable, board_cells}
 use Rattle.bench_instance.specs.Lemmas.Listing.{are_all, all_get, outcome_at, row_cell, cell_of_row}
@@ -252,7 +252,7 @@ module _ (t : StampedTexts) (ops : List BoardOp) (sound : AreSoundTexts t) (afte
       ∙ found_alike (λ x. x.name) (λ m. m.name) model models (map plain_model models)
       (model_names models)
 
-  result_of : (test model : List ℕ) (o : Outcome) → from_scratch t test model o
+  result_of : (test model : List ℕ) (o : Outcome) → cell_from_scratch t test model o
       → IsResultIn held test model o
   result_of test model o right =
       result_by held test model o (test_of t test) (model_in t model)

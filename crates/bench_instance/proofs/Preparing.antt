@@ -15,7 +15,7 @@ use Rattle.bench_nodes.specs.declared.table.TestRow.{TestRow}
 use Rattle.bench_parts.specs.declared.parts.Parts.{Parts}
 use Rattle.bench_parts.specs.Built.{IsBuilt}
 use Rattle.bench_parts.specs.Contents as contents
-use Rattle.bench_parts.specs.States.{IsSameState}
+use Rattle.bench_parts.specs.States.{IsSamePartsState}
 use Rattle.bench_parts.proofs.Same as states
 use Rattle.bench_parts.proofs.SameWritten as written
 use Rattle.bench_parts.specs.Written.{IsSameWritten}
@@ -50,7 +50,7 @@ applies_unspent t new spent e h =
 -- ---- states that are the same
 
 pub same_state : (p q : Parts) (ts us : List Test) → us ≡ ts → AreTestsSame p q → AreModelsSame p q
-    → q.last ≡ p.last → IsSameState (contents.parts_state p ts) (contents.parts_state q us)
+    → q.last ≡ p.last → IsSamePartsState (contents.parts_state p ts) (contents.parts_state q us)
 same_state p q ts us e t m l = record {
   tests = e;
   test_rows = t.rows;
@@ -65,7 +65,7 @@ same_state p q ts us e t m l = record {
 }
 
 module _ (p q : Parts) (ts us : List Test) (ms : List NamedModel)
-    (same : IsSameState (contents.parts_state p ts) (contents.parts_state q us)) where
+    (same : IsSamePartsState (contents.parts_state p ts) (contents.parts_state q us)) where
   numbered_is : AreRowsNumbered p.last p.table.tests.items p.table.models.items
       → AreRowsNumbered q.last q.table.tests.items q.table.models.items
   numbered_is h =

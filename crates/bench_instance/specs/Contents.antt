@@ -7,7 +7,7 @@ use Rattle.bench_texts.specs.Held.{texts_of}
 use Rattle.board.specs.declared.operation.BoardOp.{BoardOp}
 use Rattle.board.specs.Legal.{TestsAndModels, tests_and_models}
 use Rattle.bench_instance.specs.declared.stamped_texts.StampedTexts.{StampedTexts}
-use Rattle.bench_instance.specs.StampedCells.{from_scratch}
+use Rattle.bench_instance.specs.StampedCells.{cell_from_scratch}
 use Rattle.board.specs.Histories.{contents_after, IsEditOf}
 
 -- with the operation of an edit the texts are those that the edit makes
@@ -26,5 +26,5 @@ pub record AreWithinLimits (h : TestsAndModels) : Type 0 where
 pub record SayTheSameTexts (t u : StampedTexts) : Type 0 where
   pub held : tests_and_models u.texts ≡ tests_and_models t.texts
   pub contents : texts_of u.texts ≡ texts_of t.texts
-  pub results : (test model : List ℕ) (o : Outcome) → from_scratch t test model o
-      → from_scratch u test model o
+  pub results : (test model : List ℕ) (o : Outcome) → cell_from_scratch t test model o
+      → cell_from_scratch u test model o

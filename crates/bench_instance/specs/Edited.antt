@@ -6,7 +6,7 @@ use Rattle.bench_texts.specs.Edits.{edit_of, is_whole, Applies}
 use Rattle.bench_texts.specs.Held.{texts_of, AreModelsRead}
 use Rattle.bench_texts.specs.Replacements.{texts_with, tests_with, models_with, IsPutBy, IsReplaceable}
 use Rattle.bench_parts.specs.declared.parts.Parts.{Parts}
-use Rattle.bench_parts.specs.States.{IsSameState}
+use Rattle.bench_parts.specs.States.{IsSamePartsState}
 use Rattle.bench_parts.specs.Written.{IsStamped}
 use Rattle.bench_edits.specs.declared.edited.EditedParts.{EditedParts}
 use Rattle.bench_edits.specs.declared.edited.EditedParts.TheVariants as edited
@@ -44,7 +44,7 @@ pub record AreSameTexts (t u : StampedTexts) : Type 0 where
   pub texts : texts_of u.texts ≡ texts_of t.texts
   pub models : u.texts.models.items ≡ t.texts.models.items
   pub read : AreModelsRead t.texts → AreModelsRead u.texts
-  pub state : IsSameState (stamped_state t) (stamped_state u)
+  pub state : IsSamePartsState (stamped_state t) (stamped_state u)
 
 -- the edit is accepted, it puts or drops the test or the model that it names, there is room for
 -- what it puts, its parts are made of that, and it is known whether it puts or drops a test or a

@@ -8,7 +8,7 @@ use Rattle.board.specs.Contents.{cell_named}
 use Rattle.board.specs.Operations.{board_after}
 use Rattle.board.specs.Legal.{texts_after}
 use Rattle.bench_instance.specs.declared.stamped_texts.StampedTexts.{StampedTexts}
-use Rattle.bench_instance.specs.StampedCells.{from_scratch}
+use Rattle.bench_instance.specs.StampedCells.{cell_from_scratch}
 use Rattle.bench_instance.specs.Cells.{IsCountable, board_cells}
 use Rattle.board.specs.Results.{HasBoth, IsResultIn}
 
@@ -28,6 +28,6 @@ SettledIsShown ops =
 -- a cell that the desk lists as settled is shown with what the texts of the bench give from nothing
 abbrev pub PostedIsShown : StampedTexts → List BoardOp → Type 0
 PostedIsShown t ops =
-    (test model : List ℕ) (o : Outcome) → from_scratch t test model o
+    (test model : List ℕ) (o : Outcome) → cell_from_scratch t test model o
     → IsSettledOn (board_cells (board_after ops)) test model
     → cell_named (board_after ops) test model ≡ Settled o

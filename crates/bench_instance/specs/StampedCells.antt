@@ -25,8 +25,8 @@ scratch_by (Some c) None o = ⊥
 scratch_by (Some c) (Some m) o = IsFromScratch c m.text o
 
 -- what evaluating the test under the model of these names from nothing gives
-abbrev pub from_scratch : StampedTexts → List ℕ → List ℕ → Outcome → Type 0
-from_scratch t test model o = scratch_by (test_of t test) (model_of t model) o
+abbrev pub cell_from_scratch : StampedTexts → List ℕ → List ℕ → Outcome → Type 0
+cell_from_scratch t test model o = scratch_by (test_of t test) (model_of t model) o
 
 -- what the verdict of the test under the model of these names depends on
 abbrev pub slice_by_names : StampedTexts → List ℕ → List ℕ → Option Slice

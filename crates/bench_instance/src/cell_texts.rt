@@ -82,7 +82,7 @@ impl CellTexts for StampedTexts {
     ghost use Rattle.bench_texts.specs.BenchTexts.{no_texts};
     ghost use Rattle.bench_values.specs.Values.{outcome_in};
     ghost use Rattle.bench_instance.specs.StampedTexts.{verdict_of};
-    ghost use Rattle.bench_instance.specs.StampedCells.{from_scratch, ReachesCellNamed};
+    ghost use Rattle.bench_instance.specs.StampedCells.{cell_from_scratch, ReachesCellNamed};
     ghost use Rattle.bench_instance.specs.Lemmas.CellProofs.{edited_alike, refused_alike, verdicts_used, all_needed, cells_solved};
     ghost use Rattle.bench_instance.specs.Lemmas.LeftCells.{cells_left};
 
@@ -90,7 +90,7 @@ impl CellTexts for StampedTexts {
 
     ghost outcome_in = { outcome_in };
 
-    ghost from_scratch = { from_scratch };
+    ghost from_scratch = { cell_from_scratch };
 
     ghost reaches = { ReachesCellNamed };
 

@@ -162,7 +162,7 @@ impl Texts for StampedTexts {
     ghost use Rattle.bench_nodes.specs.Nodes.{users, rank};
     ghost use Rattle.bench_texts.specs.Edits.{edit_of, RefusesEdit};
     ghost use Rattle.bench_texts.specs.Held.{texts_of};
-    ghost use Rattle.bench_parts.specs.Equal.{same_value};
+    ghost use Rattle.bench_parts.specs.Equal.{same_content};
     ghost use Rattle.bench_parts.specs.States.{makes, keeps};
     ghost use Rattle.bench_parts.proofs.Equality.{value_exact};
     ghost use Rattle.bench_instance.specs.StampedTexts.{AreSoundTexts, AreTextsSince, IsNodeThere, stamped_net};
@@ -180,7 +180,7 @@ impl Texts for StampedTexts {
 
     ghost makes = { makes };
 
-    ghost same = { same_value };
+    ghost same = { same_content };
 
     ghost is_there = { IsNodeThere };
 

@@ -5,7 +5,7 @@ use Rattle.std.specs.Prelude.{ℕ, ◌≡◌, ◌<◌, ◌==◌, ◌&&◌, Bool,
 use Rattle.std.specs.List.{position_or_len, AllByRecursion as Each}
 use Rattle.binding_kinds.specs.declared.kinds.Kind.{Kind}
 use Rattle.binding_kinds.specs.declared.kinds.Kind.TheVariants.{OfSet, OfRelation, OfAny}
-use Rattle.binding_kinds.specs.Kinds.{is_set, is_relation}
+use Rattle.binding_kinds.specs.Kinds.{is_set_kind, is_relation}
 use Rattle.binding_graph.specs.Contents.{BodyContent, RoleContent, Group, Check, Silent, body_content, role_content}
 use Rattle.binding_graph.specs.declared.resolved.Body.{Body}
 use Rattle.binding_graph.specs.declared.resolved.ResolvedItem.{ResolvedItem}
@@ -42,8 +42,8 @@ body_names bodies = names_of_bodies (map body_content bodies)
 
 abbrev pub is_same_kind : Kind → Kind → Bool
 is_same_kind OfSet k = not (is_relation k)
-is_same_kind OfRelation k = not (is_set k)
-is_same_kind OfAny k = is_set k && is_relation k
+is_same_kind OfRelation k = not (is_set_kind k)
+is_same_kind OfAny k = is_set_kind k && is_relation k
 
 -- whether two names are spelt alike, and are of one kind
 abbrev pub is_same_name : SeenName → SeenName → Bool

@@ -12,7 +12,7 @@ use Rattle.memo_core.specs.Names.{same_node}
 use Rattle.memo_core.specs.Graph.{Net, present_inputs, input_nodes, IsSettled}
 use Rattle.memo_core.specs.Laws.{DecidesSettled}
 use Rattle.memo_core.specs.Step.{OpenClaim, MemoState, Return, claim_of, without_claim, AreClaimsNumbered, Accepts, FinishesReturn, Gives, Loses}
-use Rattle.memo_core.specs.Run.{Bench, Event, Edit, Claim, NoClaim, Returned, Lose, Renew, Refused, IsFreshFrom, IsLawfulMeaning, Meaning, Run, Step, count_unsettled, state_in}
+use Rattle.memo_core.specs.Run.{Bench, MemoEvent, Edit, Claim, NoClaim, Returned, Lose, Renew, Refused, IsFreshFrom, IsLawfulMeaning, TextsMeaning, MemoRun, Step, count_unsettled, state_in}
 use Rattle.memo_core.specs.Work.{IsJobEvent, number_given, numbers_given}
 use Rattle.memo_core.proofs.Counts.{count_no_more, count_less, progress_lowers}
 use Rattle.memo_core.proofs.Exact.{AreApart, HasRanks, decided_by, decides}
@@ -246,7 +246,7 @@ module _ {V G : Type 0} (s : MemoState V G) (first : ℕ) where
     all_free cs q decides fresh.2 all.1,
   )
 
-module _ {T E V G : Type 0} (means : Meaning T E V G) where
+module _ {T E V G : Type 0} (means : TextsMeaning T E V G) where
   pub unsettled_given : UnsettledIsGiven means
   unsettled_given es first old new number n given keys values s run step =
       let work = (step.1).work in (
@@ -256,7 +256,7 @@ module _ {T E V G : Type 0} (means : Meaning T E V G) where
             work.unmatched refl,
       )
 
-  step_balances : (first : ℕ) (old new : Bench T V) (e : Event E V G) (p q : Node → Bool)
+  step_balances : (first : ℕ) (old new : Bench T V) (e : MemoEvent E V G) (p q : Node → Bool)
       → IsJobEvent e → first ≤ old.taken → IsFreshFrom old.memos old.claims
       → AreReadyAbove first (state_in means old) → Step means old e new
       → DecidesSettled (state_in means old) p → DecidesSettled (state_in means new) q
@@ -285,7 +285,7 @@ not_true : (b : Bool) → not b ≡ true → b ≡ false
 not_true true h = cc
 not_true false h = refl
 
-module _ {T E V G : Type 0} (means : Meaning T E V G) (keeps : IsLawfulMeaning means) (rank : T → Node → ℕ)
+module _ {T E V G : Type 0} (means : TextsMeaning T E V G) (keeps : IsLawfulMeaning means) (rank : T → Node → ℕ)
     (ranks : HasRanks means rank) where
   abbrev decision : Bench T V → Node → Bool
   decision b n = decided_by (rank b.texts n + 1) (means.net b.texts) b.memos n
@@ -295,8 +295,8 @@ module _ {T E V G : Type 0} (means : Meaning T E V G) (keeps : IsLawfulMeaning m
   decision_is b valid n =
       decides (means.net b.texts) b.memos (rank b.texts) (ranks.falls b.texts valid) n
 
-  valid_on : (es : List (Event E V G)) (old new : Bench T V) → means.is_valid old.texts
-      → Run means old es new → means.is_valid new.texts
+  valid_on : (es : List (MemoEvent E V G)) (old new : Bench T V) → means.is_valid old.texts
+      → MemoRun means old es new → means.is_valid new.texts
   valid_on es old new valid h =
       (run_since means keeps es old new old.texts (valid, keeps.since_same old.texts valid) h).0
 
@@ -306,10 +306,10 @@ module _ {T E V G : Type 0} (means : Meaning T E V G) (keeps : IsLawfulMeaning m
     apart : AreApart (state_in means new)
     all : AreReadyAbove first (state_in means new)
 
-  run_balances : (first : ℕ) (es : List (Event E V G)) (old new : Bench T V) (p : Node → Bool)
+  run_balances : (first : ℕ) (es : List (MemoEvent E V G)) (old new : Bench T V) (p : Node → Bool)
       → means.is_valid old.texts → Each IsJobEvent es → first ≤ old.taken
       → AreApart (state_in means old) → AreReadyAbove first (state_in means old)
-      → Run means old es new → DecidesSettled (state_in means old) p
+      → MemoRun means old es new → DecidesSettled (state_in means old) p
       → HasBalance first (length (numbers_given es)) (lost_count es) old new p
   run_balances first [] old new p valid jobs le apart all h before = record {
     balance =
@@ -330,8 +330,8 @@ module _ {T E V G : Type 0} (means : Meaning T E V G) (keeps : IsLawfulMeaning m
       let two = rest.balance in
       record { balance = omega (arith, one, two, both); apart = rest.apart; all = rest.all }
 
-  pub bounded_from : (es : List (Event E V G)) (start end : Bench T V) (p : Node → Bool)
-      → means.is_valid start.texts → AreApart (state_in means start) → Run means start es end
+  pub bounded_from : (es : List (MemoEvent E V G)) (start end : Bench T V) (p : Node → Bool)
+      → means.is_valid start.texts → AreApart (state_in means start) → MemoRun means start es end
       → Each IsJobEvent es → DecidesSettled (state_in means start) p
       → given_count es ≤ count_unsettled p (means.net start.texts).used + lost_count es
   bounded_from es start end p valid apart more jobs before =

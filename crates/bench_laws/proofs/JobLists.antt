@@ -7,7 +7,7 @@ use Rattle.memo_core.specs.declared.claims.ClaimFault.{ClaimFault}
 use Rattle.memo_core.specs.declared.claims.Finish.{Finish}
 use Rattle.memo_core.specs.declared.claims.Finish.TheVariants.{Unknown, Stale, Same, Stored}
 use Rattle.memo_core.specs.Run as core
-use Rattle.memo_core.specs.Run.{Bench, Meaning, Step, Run}
+use Rattle.memo_core.specs.Run.{Bench, TextsMeaning, Step, MemoRun}
 use Rattle.memo_core.specs.Work.{IsJobEvent, number_given, numbers_given}
 use Rattle.cells.specs.declared.events.Event.{Event}
 use Rattle.cells.specs.declared.events.Event.TheVariants as events
@@ -20,21 +20,21 @@ use Rattle.bench_laws.specs.Jobs.{given_count, lost_by, lost_count, GivenIsBound
 use Rattle.bench_laws.specs.JobLists.{given_in, lost_in, given_among, lost_among, ListBoundsGiven}
 
 -- one event of a job, or none, with so many claims given and lost
-pub record HasStep {T E V G : Type 0} (means : Meaning T E V G) (given lost : ℕ)
+pub record HasStep {T E V G : Type 0} (means : TextsMeaning T E V G) (given lost : ℕ)
     (old new : Bench T V) : Type 0 where
-  pub run : List (core.Event E V G)
-  pub is : Run means old run new
+  pub run : List (core.MemoEvent E V G)
+  pub is : MemoRun means old run new
   pub jobs : Each IsJobEvent run
   pub given_is : given_count run ≡ given
   pub lost_is : lost_count run ≡ lost
 
-no_step : {T E V G : Type 0} (means : Meaning T E V G) (old new : Bench T V) → new ≡ old
+no_step : {T E V G : Type 0} (means : TextsMeaning T E V G) (old new : Bench T V) → new ≡ old
     → HasStep means 0 0 old new
 no_step means old new same =
     record { run = []; is = same; jobs = tt; given_is = refl; lost_is = refl }
 
-one_step : {T E V G : Type 0} (means : Meaning T E V G) (given lost : ℕ) (old new : Bench T V)
-    (e : core.Event E V G) → Step means old e new → IsJobEvent e
+one_step : {T E V G : Type 0} (means : TextsMeaning T E V G) (given lost : ℕ) (old new : Bench T V)
+    (e : core.MemoEvent E V G) → Step means old e new → IsJobEvent e
     → length (number_given e) ≡ given → lost_by e ≡ lost → HasStep means given lost old new
 one_step means given lost old new e step job given_is lost_is = record {
   run = e ∷ [];
@@ -47,7 +47,7 @@ one_step means given lost old new e step job given_is lost_is = record {
     plus_none : (n : ℕ) → n + 0 ≡ n
     plus_none n = omega arith
 
-module _ {T E V G F : Type 0} (means : Meaning T E V G) (refuses : Refusing T E F) (last : T → ℕ)
+module _ {T E V G F : Type 0} (means : TextsMeaning T E V G) (refuses : Refusing T E F) (last : T → ℕ)
   where
     claimed_step : (old new : Bench T V) (given after : List (Task V G))
         (answer : Result (Option ℕ) ClaimFault)
@@ -113,12 +113,12 @@ module _ {T E V G F : Type 0} (means : Meaning T E V G) (refuses : Refusing T E 
           let b = rest.lost_is in let c = lost_both one.run rest.run in omega (arith, a, b, c));
     }
       where
-        each_both : (xs ys : List (core.Event E V G)) → Each IsJobEvent xs → Each IsJobEvent ys
+        each_both : (xs ys : List (core.MemoEvent E V G)) → Each IsJobEvent xs → Each IsJobEvent ys
             → Each IsJobEvent (xs ++ ys)
         each_both [] ys a b = b
         each_both (x ∷ xs) ys a b = (a.0, each_both xs ys a.1 b)
 
-        given_both : (xs ys : List (core.Event E V G))
+        given_both : (xs ys : List (core.MemoEvent E V G))
             → given_count (xs ++ ys) ≡ given_count xs + given_count ys
         given_both [] ys = omega arith
         given_both (x ∷ xs) ys =
@@ -127,7 +127,7 @@ module _ {T E V G F : Type 0} (means : Meaning T E V G) (refuses : Refusing T E 
             let c = given_both xs ys in
             omega (arith, a, b, c)
 
-        lost_both : (xs ys : List (core.Event E V G))
+        lost_both : (xs ys : List (core.MemoEvent E V G))
             → lost_count (xs ++ ys) ≡ lost_count xs + lost_count ys
         lost_both [] ys = omega arith
         lost_both (x ∷ xs) ys = let c = lost_both xs ys in omega (arith, c)

@@ -7,7 +7,7 @@ use Rattle.memo_core.specs.declared.claims.Finish.{Finish}
 use Rattle.memo_core.specs.declared.claims.Finish.TheVariants.{Unknown, Stale, Same, Stored}
 use Rattle.memo_core.specs.Graph.{present_inputs}
 use Rattle.memo_core.specs.Step.{OpenClaim, MemoState, Return, claim_of, without_claim, IsOut, IsOfPresent, AreClaimsNumbered, FinishesReturn, Gives, Loses}
-use Rattle.memo_core.specs.Run.{Bench, Event, Edit, Claim, NoClaim, Returned, Lose, Renew, Refused, IsFreshFrom, Meaning, Run, Step, state_in}
+use Rattle.memo_core.specs.Run.{Bench, MemoEvent, Edit, Claim, NoClaim, Returned, Lose, Renew, Refused, IsFreshFrom, TextsMeaning, MemoRun, Step, state_in}
 use Rattle.memo_core.specs.Work.{IsJobEvent, is_accepted}
 use Rattle.memo_core.proofs.Exact.{AreApart}
 use Rattle.memo_core.proofs.Honest.{step_goes}
@@ -100,8 +100,8 @@ job_accepted first old new r (Stale stamp) d n all lt found same job h =
 job_accepted first old new r Same d n all lt found same job h = refl
 job_accepted first old new r (Stored names) d n all lt found same job h = refl
 
-module _ {T E V G : Type 0} (means : Meaning T E V G) where
-  step_claims : (P : OpenClaim → Type 0) (old new : Bench T V) (e : Event E V G) → IsJobEvent e
+module _ {T E V G : Type 0} (means : TextsMeaning T E V G) where
+  step_claims : (P : OpenClaim → Type 0) (old new : Bench T V) (e : MemoEvent E V G) → IsJobEvent e
       → ((c : OpenClaim) → old.taken < c.number → P c) → Each P old.claims → Step means old e new
       → Each P new.claims
   step_claims P old new (Edit e) job later all h = absurd job
@@ -116,7 +116,7 @@ module _ {T E V G : Type 0} (means : Meaning T E V G) where
   step_claims P old new Renew job later all h = absurd job
   step_claims P old new Refused job later all h = rw h.claims all
 
-  step_job : (old new : Bench T V) (e : Event E V G) (n : Node) (given : G) (keys : List Key)
+  step_job : (old new : Bench T V) (e : MemoEvent E V G) (n : Node) (given : G) (keys : List Key)
       (values : List V) → IsJobEvent e → IsFreshFrom old.memos old.claims
       → IsJobNow (state_in means old) n given keys values → Step means old e new
       → IsJobNow (state_in means new) n given keys values
@@ -145,7 +145,7 @@ module _ {T E V G : Type 0} (means : Meaning T E V G) where
     now : IsJobNow (state_in means b) n given keys values
 
   step_out : (first number : ℕ) (n : Node) (given : G) (keys : List Key) (values : List V)
-      (old new : Bench T V) (e : Event E V G) → IsJobEvent e
+      (old new : Bench T V) (e : MemoEvent E V G) → IsJobEvent e
       → IsJobOut first number n given keys values old → Step means old e new
       → IsJobOut first number n given keys values new
   step_out first number n given keys values old new e job out h =
@@ -162,8 +162,8 @@ module _ {T E V G : Type 0} (means : Meaning T E V G) where
       }
 
   run_out : (first number : ℕ) (n : Node) (given : G) (keys : List Key) (values : List V)
-      (es : List (Event E V G)) (old new : Bench T V) → Each IsJobEvent es
-      → IsJobOut first number n given keys values old → Run means old es new
+      (es : List (MemoEvent E V G)) (old new : Bench T V) → Each IsJobEvent es
+      → IsJobOut first number n given keys values old → MemoRun means old es new
       → IsJobOut first number n given keys values new
   run_out first number n given keys values [] old new jobs out h = rw h out
   run_out first number n given keys values (e ∷ es) old new jobs out h =
@@ -204,10 +204,10 @@ module _ {T E V G : Type 0} (means : Meaning T E V G) where
             now h;
       }
 
-  pub accepted_from : (later : List (Event E V G)) (old start end new : Bench T V) (number : ℕ)
+  pub accepted_from : (later : List (MemoEvent E V G)) (old start end new : Bench T V) (number : ℕ)
       (n : Node) (given : G) (keys : List Key) (values : List V) (r : Return V G) (answer : Finish)
       → AreApart (state_in means old) → Step means old (Claim number n given keys values) start
-      → Run means start later end → Each IsJobEvent later → IsClaimOut end number
+      → MemoRun means start later end → Each IsJobEvent later → IsClaimOut end number
       → task_answered r ≡ task_of number n given keys values
       → Step means end (Returned r answer) new → is_accepted answer ≡ true
   accepted_from later old start end new number n given keys values r answer apart claimed more jobs

@@ -4,7 +4,7 @@ use Rattle.std.specs.List.{AllByRecursion as Each}
 use Rattle.std.proofs.lemmas.Bool.{cases_Bool}
 use Rattle.memo_core.specs.declared.keys.Node.{Node}
 use Rattle.memo_core.specs.Graph.{Net, IsSettled}
-use Rattle.memo_core.specs.Run.{Event, Edit, Claim, NoClaim, Returned, Lose, Renew, Refused, Run, Step, IsNewBench, count_unsettled, state_in}
+use Rattle.memo_core.specs.Run.{MemoEvent, Edit, Claim, NoClaim, Returned, Lose, Renew, Refused, MemoRun, Step, IsNewBench, count_unsettled, state_in}
 use Rattle.memo_core.specs.Step.{Has}
 use Rattle.memo_core.specs.Work.{IsJobEvent}
 use Rattle.memo_core.proofs.Exact.{exact_laws}
@@ -28,7 +28,7 @@ use Rattle.bench_laws.proofs.SameVerdicts.{same_verdicts}
 use Rattle.bench_laws.proofs.Unreached.{settled_under}
 
 abbrev LiveEvent : Type 0
-LiveEvent = Event Code NodeContent GivenContent
+LiveEvent = MemoEvent Code NodeContent GivenContent
 
 some_is : {A : Type 0} {a b : A} → Some a ≡ Some b → a ≡ b
 some_is e = cc
@@ -53,7 +53,7 @@ step_same old new Renew job h = absurd job
 step_same old new Refused job h = record { nodes = h.texts.net; last = h.texts.last }
 
 run_same : (es : List LiveEvent) (old new : LiveState) → Each IsJobEvent es
-    → Run live_meaning old es new → SaysTheSame old new
+    → MemoRun live_meaning old es new → SaysTheSame old new
 run_same [] old new jobs h = same_texts old new (ap (λ (b : LiveState). b.texts) h)
 run_same (e ∷ es) old new jobs h =
     let one = step_same old h.0 e jobs.0 h.1 in
@@ -61,7 +61,7 @@ run_same (e ∷ es) old new jobs h =
     record { nodes = rest.nodes ∙ one.nodes; last = rest.last ∙ one.last }
 
 verdicts_same : (es : List LiveEvent) (old new : LiveState) → Each IsJobEvent es
-    → Run live_meaning old es new → AreSoundTexts old.texts → (test model : List ℕ)
+    → MemoRun live_meaning old es new → AreSoundTexts old.texts → (test model : List ℕ)
     → verdict_of new.texts test model ≡ verdict_of old.texts test model
 verdicts_same es old new jobs h sound test model =
     let same = run_same es old new jobs h in
@@ -72,13 +72,13 @@ verdicts_same es old new jobs h sound test model =
 -- ---- after an edit
 
 module _ (earlier : List LiveEvent) (first old start : LiveState) (e : Code)
-    (s : IsNewBench AreSoundTexts stamped_net first) (run : Run live_meaning first earlier old)
+    (s : IsNewBench AreSoundTexts stamped_net first) (run : MemoRun live_meaning first earlier old)
     (step : Step live_meaning old (Edit e) start) where
   -- the events up to the edit, and it
   abbrev events : List LiveEvent
   events = earlier ++ Edit e ∷ []
 
-  run_on : Run live_meaning first events start
+  run_on : MemoRun live_meaning first events start
   run_on = runs_on live_meaning earlier (Edit e ∷ []) first old start run (start, step, refl)
 
   -- a settled cell that the edit does not reach stays settled
@@ -103,7 +103,7 @@ module _ (earlier : List LiveEvent) (first old start : LiveState) (e : Code)
 
   -- also after claims, returns, losses and refused calls
   settled_later : (later : List LiveEvent) (mid : LiveState) (n : Node) (test model : List ℕ)
-      → Run live_meaning start later mid → Each IsJobEvent later
+      → MemoRun live_meaning start later mid → Each IsJobEvent later
       → IsUnreachedCell old start test model → IsUnderCell mid test model n
       → IsSettled (stamped_net mid.texts) mid.memos n
   settled_later later mid n test model more jobs cell under =

@@ -6,7 +6,7 @@ use Rattle.memo_core.specs.declared.claims.Finish.{Finish}
 use Rattle.memo_core.specs.declared.claims.Finish.TheVariants.{Unknown, Stale, Same, Stored}
 use Rattle.memo_core.specs.Graph.{present_inputs}
 use Rattle.memo_core.specs.Step.{OpenClaim, MemoState, Return, claim_of, without_claim, AreClaimsNumbered, FinishesReturn, Loses}
-use Rattle.memo_core.specs.Run.{Bench, Event, Edit, Claim, NoClaim, Returned, Lose, Renew, Refused, Meaning, Run, Step, state_in}
+use Rattle.memo_core.specs.Run.{Bench, MemoEvent, Edit, Claim, NoClaim, Returned, Lose, Renew, Refused, TextsMeaning, MemoRun, Step, state_in}
 use Rattle.memo_core.specs.Work.{IsJobEvent}
 use Rattle.bench_laws.specs.Jobs.{LeavesClaim, ClaimsStayOut}
 use Rattle.bench_laws.proofs.Ready.{apart_after}
@@ -46,7 +46,7 @@ claim_last taken (d ∷ cs) c lt a = elim (cases_Bool (c.number == d.number)) [
   | inr f ↦ rw f (claim_last taken cs c lt a.1)
 ]
 
-module _ {T E V G : Type 0} (means : Meaning T E V G) where
+module _ {T E V G : Type 0} (means : TextsMeaning T E V G) where
   finish_leaves : (number : ℕ) (c : OpenClaim) (old new : MemoState V G) (r : Return V G) (f : Finish)
       → r.claim ≢ number → claim_of number old.claims ≡ Some c → FinishesReturn old r f new
       → claim_of number new.claims ≡ Some c
@@ -64,7 +64,7 @@ module _ {T E V G : Type 0} (means : Meaning T E V G) where
   lose_leaves number c old new n true ne e h = rw h.2 (left_claim number n old.claims c ne e)
   lose_leaves number c old new n false ne e h = rw h.1 e
 
-  step_leaves : (number : ℕ) (c : OpenClaim) (old new : Bench T V) (e : Event E V G) → IsJobEvent e
+  step_leaves : (number : ℕ) (c : OpenClaim) (old new : Bench T V) (e : MemoEvent E V G) → IsJobEvent e
       → LeavesClaim number e → claim_of number old.claims ≡ Some c → Step means old e new
       → claim_of number new.claims ≡ Some c
   step_leaves number c old new (Edit e) job leaves is h = absurd job
@@ -81,9 +81,9 @@ module _ {T E V G : Type 0} (means : Meaning T E V G) where
   step_leaves number c old new Renew job leaves is h = absurd job
   step_leaves number c old new Refused job leaves is h = rw h.claims is
 
-  run_leaves : (number : ℕ) (c : OpenClaim) (es : List (Event E V G)) (old new : Bench T V)
+  run_leaves : (number : ℕ) (c : OpenClaim) (es : List (MemoEvent E V G)) (old new : Bench T V)
       → Each IsJobEvent es → Each (LeavesClaim number) es → claim_of number old.claims ≡ Some c
-      → Run means old es new → claim_of number new.claims ≡ Some c
+      → MemoRun means old es new → claim_of number new.claims ≡ Some c
   run_leaves number c [] old new jobs leaves is h = rw h is
   run_leaves number c (e ∷ es) old new jobs leaves is h =
       run_leaves number c es h.0 new jobs.1 leaves.1

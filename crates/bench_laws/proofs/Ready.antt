@@ -13,7 +13,7 @@ use Rattle.memo_core.specs.Names.{same_node}
 use Rattle.memo_core.specs.Graph.{Memo, Net, stored_output, at, present_inputs, input_nodes, put_memo, IsSettled}
 use Rattle.memo_core.specs.Right.{ArePresent}
 use Rattle.memo_core.specs.Step.{OpenClaim, MemoState, Return, Has, claim_of, without_claim, IsStale, AreClaimsNumbered, Accepts, FinishesReturn, Gives, Loses}
-use Rattle.memo_core.specs.Run.{Bench, Event, Edit, Claim, NoClaim, Returned, Lose, Renew, Refused, IsFreshFrom, IsNewBench, Meaning, Run, Step, state_in}
+use Rattle.memo_core.specs.Run.{Bench, MemoEvent, Edit, Claim, NoClaim, Returned, Lose, Renew, Refused, IsFreshFrom, IsNewBench, TextsMeaning, MemoRun, Step, state_in}
 use Rattle.memo_core.specs.Work.{IsJobEvent}
 use Rattle.memo_core.proofs.Exact.{AreApart, run_apart}
 use Rattle.memo_core.proofs.Headline.{settled_stays, same_present}
@@ -220,13 +220,13 @@ above_none s (c ∷ cs) a = ((λ lt. absurd (omega (arith, lt, a.0))), above_non
 
 -- ---- over an event
 
-module _ {T E V G : Type 0} (means : Meaning T E V G) where
+module _ {T E V G : Type 0} (means : TextsMeaning T E V G) where
   -- the states before and after an event
-  pub step_apart : (old new : Bench T V) (e : Event E V G) → AreApart (state_in means old)
+  pub step_apart : (old new : Bench T V) (e : MemoEvent E V G) → AreApart (state_in means old)
       → Step means old e new → AreApart (state_in means new)
   step_apart old new e apart h = run_apart means (e ∷ []) old new apart (new, h, refl)
 
-  pub step_above : (first : ℕ) (old new : Bench T V) (e : Event E V G) → IsJobEvent e
+  pub step_above : (first : ℕ) (old new : Bench T V) (e : MemoEvent E V G) → IsJobEvent e
       → IsFreshFrom old.memos old.claims → AreReadyAbove first (state_in means old)
       → Step means old e new → AreReadyAbove first (state_in means new)
   step_above first old new (Edit e) job fresh all h = absurd job
@@ -244,8 +244,8 @@ module _ {T E V G : Type 0} (means : Meaning T E V G) where
       (above_same first (state_in means old) (state_in means new) old.claims h.texts.net h.memos
       all)
 
-  pub apart_after : (es : List (Event E V G)) (first end : Bench T V)
-      → IsNewBench means.is_valid means.net first → Run means first es end
+  pub apart_after : (es : List (MemoEvent E V G)) (first end : Bench T V)
+      → IsNewBench means.is_valid means.net first → MemoRun means first es end
       → AreApart (state_in means end)
   apart_after es first end s run =
       run_apart means es first end

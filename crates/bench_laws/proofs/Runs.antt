@@ -1,6 +1,6 @@
 -- The texts of the bench are sound after any list of events.
 use Rattle.std.proofs.Common.{List}
-use Rattle.memo_core.specs.Run.{Event, IsNewBench, IsLawfulMeaning, Run, counting_on, state_in}
+use Rattle.memo_core.specs.Run.{MemoEvent, IsNewBench, IsLawfulMeaning, MemoRun, counting_on, state_in}
 use Rattle.memo_core.proofs.Exact.{HasRanks}
 use Rattle.memo_core.proofs.Runs.{RightState, run_right}
 use Rattle.bench_values.specs.Givens.{GivenContent}
@@ -28,15 +28,15 @@ pub has_ranks : HasRanks live_meaning (λ t. rank t.parts.table)
 has_ranks = record { falls = ranks_fall; used_closed = used_closed }
 
 -- they are sound, and what is kept of computations is right
-pub right_after : (events : List (Event Edit NodeContent GivenContent)) (start end : LiveState)
-    → IsNewBench AreSoundTexts stamped_net start → Run live_meaning start events end
+pub right_after : (events : List (MemoEvent Edit NodeContent GivenContent)) (start end : LiveState)
+    → IsNewBench AreSoundTexts stamped_net start → MemoRun live_meaning start events end
     → AreSoundTexts end.texts × RightState (counting_on live_meaning end.texts) (state_in live_meaning end)
 right_after events start end s run =
     run_right live_meaning kept events start end
     (s.valid, record { each = rw s.no_memos tt; parts = s.parts }) run
 
-pub sound_after : (events : List (Event Edit NodeContent GivenContent)) (start end : LiveState)
-    → IsNewBench AreSoundTexts stamped_net start → Run live_meaning start events end → AreSoundTexts end.texts
+pub sound_after : (events : List (MemoEvent Edit NodeContent GivenContent)) (start end : LiveState)
+    → IsNewBench AreSoundTexts stamped_net start → MemoRun live_meaning start events end → AreSoundTexts end.texts
 sound_after events start end s run = (right_after events start end s run).0
 
 -- a cell that is settled carries what evaluating from nothing gives

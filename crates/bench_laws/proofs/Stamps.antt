@@ -9,7 +9,7 @@ use Rattle.memo_core.specs.declared.claims.Finish.TheVariants.{Unknown, Stale, S
 use Rattle.memo_core.specs.Graph.{at, present_inputs}
 use Rattle.memo_core.specs.Right.{IsRightMemo}
 use Rattle.memo_core.specs.Step.{OpenClaim, MemoState, Return, without_claim, Accepts, FinishesReturn, Gives, Loses}
-use Rattle.memo_core.specs.Run.{Bench, Event, Edit, Claim, NoClaim, Returned, Lose, Renew, Refused, IsLawfulMeaning, IsNewBench, Meaning, Run, Step, counting_on, state_in}
+use Rattle.memo_core.specs.Run.{Bench, MemoEvent, Edit, Claim, NoClaim, Returned, Lose, Renew, Refused, IsLawfulMeaning, IsNewBench, TextsMeaning, MemoRun, Step, counting_on, state_in}
 use Rattle.memo_core.proofs.Exact.{run_apart}
 use Rattle.memo_core.proofs.Headline.{stamps_low}
 use Rattle.memo_core.proofs.Honest.{step_goes}
@@ -81,11 +81,11 @@ gives_low old new number n given keys values present low g =
 
 -- ---- any list of events
 
-module _ {T E V G : Type 0} (means : Meaning T E V G) (keeps : IsLawfulMeaning means) where
+module _ {T E V G : Type 0} (means : TextsMeaning T E V G) (keeps : IsLawfulMeaning means) where
   abbrev IsRightBench : Bench T V → Type 0
   IsRightBench b = means.is_valid b.texts × RightState (counting_on means b.texts) (state_in means b)
 
-  step_low : (old new : Bench T V) (e : Event E V G) → IsRightBench old
+  step_low : (old new : Bench T V) (e : MemoEvent E V G) → IsRightBench old
       → LowClaims (state_in means old) → Step means old e new → LowClaims (state_in means new)
   step_low old new (Edit e) right low h =
       rw (h.1.claims, h.1.taken) (claims_later old.taken old.claims low)
@@ -101,15 +101,15 @@ module _ {T E V G : Type 0} (means : Meaning T E V G) (keeps : IsLawfulMeaning m
   step_low old new Renew right low h = subst (λ (s : MemoState V G). LowClaims s) (sym h.1) tt
   step_low old new Refused right low h = rw (h.claims, h.taken) low
 
-  run_low : (es : List (Event E V G)) (old new : Bench T V) → IsRightBench old
-      → LowClaims (state_in means old) → Run means old es new → LowClaims (state_in means new)
+  run_low : (es : List (MemoEvent E V G)) (old new : Bench T V) → IsRightBench old
+      → LowClaims (state_in means old) → MemoRun means old es new → LowClaims (state_in means new)
   run_low [] old new right low h = rw h low
   run_low (e ∷ es) old new right low h =
       run_low es h.0 new (step_right means keeps old h.0 e right h.1)
       (step_low old h.0 e right low h.1) h.2
 
-pub low_after : (events : List (Event Code NodeContent GivenContent)) (start end : LiveState)
-    → IsNewBench AreSoundTexts stamped_net start → Run live_meaning start events end → HasLowStamps end
+pub low_after : (events : List (MemoEvent Code NodeContent GivenContent)) (start end : LiveState)
+    → IsNewBench AreSoundTexts stamped_net start → MemoRun live_meaning start events end → HasLowStamps end
 low_after events start end s run =
     let right = (right_after events start end s run).1 in
     let memo = IsRightMemo (counting_on live_meaning end.texts) (at end.memos) end.taken in

@@ -7,7 +7,7 @@ use Rattle.std.proofs.lemmas.Bool.{cases_Bool}
 use Rattle.memo_core.specs.declared.claims.ClaimFault.{ClaimFault}
 use Rattle.memo_core.specs.declared.claims.Finish.{Finish}
 use Rattle.memo_core.specs.Run as core
-use Rattle.memo_core.specs.Run.{Bench, Meaning, Step, Run, IsNewBench}
+use Rattle.memo_core.specs.Run.{Bench, TextsMeaning, Step, MemoRun, IsNewBench}
 use Rattle.memo_core.specs.Work.{IsJobEvent, is_accepted}
 use Rattle.cells.specs.declared.events.Event.{Event}
 use Rattle.cells.specs.declared.events.Event.TheVariants as events
@@ -21,7 +21,7 @@ use Rattle.bench_laws.specs.JobLists.{ListAcceptsJobs}
 use Rattle.bench_laws.proofs.JobLists.{HasStep, answered_step}
 use Rattle.bench_laws.proofs.Ready.{each_on, each_last}
 
-jobs_both : {E V G : Type 0} (xs ys : List (core.Event E V G)) → Each IsJobEvent xs
+jobs_both : {E V G : Type 0} (xs ys : List (core.MemoEvent E V G)) → Each IsJobEvent xs
     → Each IsJobEvent ys → Each IsJobEvent (xs ++ ys)
 jobs_both [] ys a b = b
 jobs_both (x ∷ xs) ys a b = (a.0, jobs_both xs ys a.1 b)
@@ -42,20 +42,20 @@ task_found {V} {G} P claim (x ∷ xs) t all h = elim (cases_Bool (claim == x.cla
     some_inj : (x y : Task V G) → Some x ≡ Some y → x ≡ y
     some_inj x y h = cc
 
-module _ {T E V G F : Type 0} (means : Meaning T E V G) (refuses : Refusing T E F) (last : T → ℕ)
+module _ {T E V G F : Type 0} (means : TextsMeaning T E V G) (refuses : Refusing T E F) (last : T → ℕ)
     (first : Bench T V) where
   -- the job was given by a claim, and only events of jobs came since
   record IsGiven (now : Bench T V) (t : Task V G) : Type 0 where
-    earlier : List (core.Event E V G)
-    later : List (core.Event E V G)
+    earlier : List (core.MemoEvent E V G)
+    later : List (core.MemoEvent E V G)
     old : Bench T V
     new : Bench T V
-    before : Run means first earlier old
+    before : MemoRun means first earlier old
     claimed : Step means old (core.Claim t.claim t.node t.given t.keys t.values) new
-    since : Run means new later now
+    since : MemoRun means new later now
     jobs : Each IsJobEvent later
 
-  given_on : (old new : Bench T V) (run : List (core.Event E V G)) → Run means old run new
+  given_on : (old new : Bench T V) (run : List (core.MemoEvent E V G)) → MemoRun means old run new
       → Each IsJobEvent run → (t : Task V G) → IsGiven old t → IsGiven new t
   given_on old new run is jobs t h = record {
     earlier = h.earlier;
@@ -68,9 +68,9 @@ module _ {T E V G F : Type 0} (means : Meaning T E V G) (refuses : Refusing T E 
     jobs = jobs_both h.later run h.jobs jobs;
   }
 
-  claimed_given : (es : List (core.Event E V G)) (old new : Bench T V)
+  claimed_given : (es : List (core.MemoEvent E V G)) (old new : Bench T V)
       (given after : List (Task V G)) (answer : Result (Option ℕ) ClaimFault)
-      → Run means first es old → IsClaimed means refuses last old given answer new after
+      → MemoRun means first es old → IsClaimed means refuses last old given answer new after
       → Each (IsGiven new) given → Each (IsGiven new) after
   claimed_given es old new given after (Ok (Some number)) sofar h all =
       let one : IsGiven new h.1 = record { earlier = es; later = []; old = old; new = new; before = sofar; claimed = h.3; since = refl; jobs = tt } in
@@ -79,9 +79,9 @@ module _ {T E V G F : Type 0} (means : Meaning T E V G) (refuses : Refusing T E 
   claimed_given es old new given after (Ok None) sofar h all = rw h.2 all
   claimed_given es old new given after (Err fault) sofar h all = rw h.3 all
 
-  answered_given : (es : List (core.Event E V G)) (old new : Bench T V)
+  answered_given : (es : List (core.MemoEvent E V G)) (old new : Bench T V)
       (given after : List (Task V G)) (e : Event E) (r : Reply F) → IsJob e
-      → Run means first es old → IsEventAnswered means refuses last old given e r new after
+      → MemoRun means first es old → IsEventAnswered means refuses last old given e r new after
       → Each (IsGiven new) given → Each (IsGiven new) after
   answered_given es old new given after (events.Edit e) r job sofar h all = absurd job
   answered_given es old new given after events.Claim (replies.Edited answer) job sofar h all =
@@ -115,8 +115,8 @@ module _ {T E V G F : Type 0} (means : Meaning T E V G) (refuses : Refusing T E 
       absurd h
   answered_given es old new given after events.Renew r job sofar h all = absurd job
 
-  list_given : (run : List (core.Event E V G)) (old new : Bench T V) (given after : List (Task V G))
-      (es : List (Event E)) (rs : List (Reply F)) → Each IsJob es → Run means first run old
+  list_given : (run : List (core.MemoEvent E V G)) (old new : Bench T V) (given after : List (Task V G))
+      (es : List (Event E)) (rs : List (Reply F)) → Each IsJob es → MemoRun means first run old
       → Each (IsGiven old) given
       → AreEventsAnswered means refuses last old given es rs new after → Each (IsGiven new) after
   list_given run old new given after [] [] jobs sofar all h = rw (h.0, h.1) all
@@ -140,7 +140,7 @@ module _ {T E V G F : Type 0} (means : Meaning T E V G) (refuses : Refusing T E 
       task.values returned.0 answer s g.before g.claimed g.since g.jobs out returned.1
       returned.2
 
-pub list_accepts_jobs : {T E V G F : Type 0} (means : Meaning T E V G) (refuses : Refusing T E F)
+pub list_accepts_jobs : {T E V G F : Type 0} (means : TextsMeaning T E V G) (refuses : Refusing T E F)
     (last : T → ℕ) → JobsAreAccepted means → ListAcceptsJobs means refuses last
 list_accepts_jobs means refuses last accepted earlier first start mid end es rs given after task
     claim answer s run answers jobs found out returned =

@@ -15,7 +15,7 @@ use Rattle.board.specs.Results.{test_by_name, model_by_name, HasBoth, LacksOne, 
 use Rattle.board.proofs.ShownNames.{found_alike}
 use Rattle.bench_instance.specs.declared.stamped_texts.StampedTexts.{StampedTexts}
 use Rattle.bench_instance.specs.StampedTexts.{AreSoundTexts, stamped_net, verdict_by, verdict_of}
-use Rattle.bench_instance.specs.StampedCells.{scratch_by, from_scratch, test_of, model_of as model_in}
+use Rattle.bench_instance.specs.StampedCells.{scratch_by, cell_from_scratch, test_of, model_of as model_in}
 use Rattle.bench_instance.specs.Lemmas.CellProofs.{cell_in, row_there, model_row_there}
 use Rattle.cells.specs.declared.shown.Shown.{Shown}
 use Rattle.cells.specs.declared.shown.Shown.TheVariants.{Settled, Open, NoCell}
@@ -122,7 +122,7 @@ module _ (t : StampedTexts) (sound : AreSoundTexts t) where
         model_is = model_is model ∙ cell.model_is;
       }
 
-  result_is : (test model : List ℕ) (o : Outcome) → from_scratch t test model o
+  result_is : (test model : List ℕ) (o : Outcome) → cell_from_scratch t test model o
       → IsResultIn held test model o
   result_is test model o right =
       result_by held test model o (test_of t test) (model_in t model) (test_is test)
@@ -134,7 +134,7 @@ has_just_its_cells b sound test model =
 
 right_shown : (b : LiveState) (test model : List ℕ) (shown : Shown Outcome) → AreSoundTexts b.texts
     → ((o : Outcome) → IsSettledCell stamped_net live_cells b test model o
-    → from_scratch b.texts test model o)
+    → cell_from_scratch b.texts test model o)
     → IsCellShown stamped_net live_cells b test model shown
     → IsRightShown (tests_and_models b.texts.texts) test model shown
 right_shown b test model (Settled o) sound right is =
@@ -144,6 +144,6 @@ right_shown b test model NoCell sound right is = lacking b.texts sound test mode
 
 pub shows_right : (b : LiveState) → AreSoundTexts b.texts
     → ((test model : List ℕ) (o : Outcome) → IsSettledCell stamped_net live_cells b test model o
-    → from_scratch b.texts test model o) → ShowsRight b
+    → cell_from_scratch b.texts test model o) → ShowsRight b
 shows_right b sound right test model shown is =
     right_shown b test model shown sound (λ o settled. right test model o settled) is

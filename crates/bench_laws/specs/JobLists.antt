@@ -6,7 +6,7 @@ use Rattle.memo_core.specs.declared.keys.Node.{Node}
 use Rattle.memo_core.specs.declared.claims.Finish.{Finish}
 use Rattle.memo_core.specs.Laws.{DecidesSettled}
 use Rattle.memo_core.specs.Run as core
-use Rattle.memo_core.specs.Run.{Bench, Meaning, state_in, Run, IsNewBench, count_unsettled}
+use Rattle.memo_core.specs.Run.{Bench, TextsMeaning, state_in, MemoRun, IsNewBench, count_unsettled}
 use Rattle.memo_core.specs.Work.{is_accepted}
 use Rattle.cells.specs.declared.events.Event.{Event}
 use Rattle.cells.specs.declared.events.Event.TheVariants.{Return}
@@ -44,12 +44,12 @@ lost_among (r ∷ rs) = lost_in r + lost_among rs
 
 -- After any list of events, a list of claims, returns and losses is given no more claims than used
 -- nodes are unsettled at its beginning and claims are lost in it.
-abbrev pub ListBoundsGiven : {T E V G F : Type 0} → Meaning T E V G → Refusing T E F → (T → ℕ)
+abbrev pub ListBoundsGiven : {T E V G F : Type 0} → TextsMeaning T E V G → Refusing T E F → (T → ℕ)
     → Type 0
 ListBoundsGiven {T} {E} {V} {G} {F} means refuses last =
-    (earlier : List (core.Event E V G)) (first start end : Bench T V) (events : List (Event E))
+    (earlier : List (core.MemoEvent E V G)) (first start end : Bench T V) (events : List (Event E))
     (answers : List (Reply F)) (settled : Node → Bool)
-    → IsNewBench means.is_valid means.net first → Run means first earlier start
+    → IsNewBench means.is_valid means.net first → MemoRun means first earlier start
     → AnswersEvents means refuses last start events answers end → Each IsJob events
     → DecidesSettled (state_in means start) settled
     → given_among answers
@@ -57,13 +57,13 @@ ListBoundsGiven {T} {E} {V} {G} {F} means refuses last =
 
 -- After any list of events, in a list of claims, returns and losses: while the claim of a job that
 -- the list was given is out, a return that is answered is accepted.
-abbrev pub ListAcceptsJobs : {T E V G F : Type 0} → Meaning T E V G → Refusing T E F → (T → ℕ)
+abbrev pub ListAcceptsJobs : {T E V G F : Type 0} → TextsMeaning T E V G → Refusing T E F → (T → ℕ)
     → Type 0
 ListAcceptsJobs {T} {E} {V} {G} {F} means refuses last =
-    (earlier : List (core.Event E V G)) (first start mid end : Bench T V) (events : List (Event E))
+    (earlier : List (core.MemoEvent E V G)) (first start mid end : Bench T V) (events : List (Event E))
     (answers : List (Reply F))
     (given after : List (Task V G)) (task : Task V G) (claim : ℕ) (answer : Finish)
-    → IsNewBench means.is_valid means.net first → Run means first earlier start
+    → IsNewBench means.is_valid means.net first → MemoRun means first earlier start
     → AreEventsAnswered means refuses last start [] events answers mid given → Each IsJob events
     → task_given claim given ≡ Some task → IsClaimOut mid claim
     → IsEventAnswered means refuses last mid given (Return claim) (replies.Returned (Ok answer)) end

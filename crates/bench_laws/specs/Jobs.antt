@@ -8,7 +8,7 @@ use Rattle.memo_core.specs.declared.claims.Finish.{Finish}
 use Rattle.memo_core.specs.Graph.{IsSettled}
 use Rattle.memo_core.specs.Laws.{DecidesSettled}
 use Rattle.memo_core.specs.Right.{IsUntouchedBy}
-use Rattle.memo_core.specs.Run.{Bench, Event, Edit, Claim, NoClaim, Returned, Lose, Renew, Refused, Meaning, state_in, Step, Run, IsNewBench, count_unsettled}
+use Rattle.memo_core.specs.Run.{Bench, MemoEvent, Edit, Claim, NoClaim, Returned, Lose, Renew, Refused, TextsMeaning, state_in, Step, MemoRun, IsNewBench, count_unsettled}
 use Rattle.memo_core.specs.Step.{OpenClaim, Return, Has, claim_of}
 use Rattle.memo_core.specs.Work.{IsJobEvent, is_accepted, numbers_given}
 use Rattle.cells.specs.Views.{task_of, task_answered}
@@ -19,19 +19,19 @@ IsClaimOut b number = (c : OpenClaim) × (claim_of number b.claims ≡ Some c)
 
 -- After any list of events and a claim that gives a job, while claims, returns, losses and refused
 -- calls come alone and the claim is out: a return of what running this job makes is accepted.
-abbrev pub JobsAreAccepted : {T E V G : Type 0} → Meaning T E V G → Type 0
+abbrev pub JobsAreAccepted : {T E V G : Type 0} → TextsMeaning T E V G → Type 0
 JobsAreAccepted {T} {E} {V} {G} means =
-    (earlier later : List (Event E V G)) (first old start end new : Bench T V)
+    (earlier later : List (MemoEvent E V G)) (first old start end new : Bench T V)
     (number : ℕ) (n : Node) (given : G) (keys : List Key) (values : List V) (r : Return V G)
     (answer : Finish)
-    → IsNewBench means.is_valid means.net first → Run means first earlier old
-    → Step means old (Claim number n given keys values) start → Run means start later end
+    → IsNewBench means.is_valid means.net first → MemoRun means first earlier old
+    → Step means old (Claim number n given keys values) start → MemoRun means start later end
     → Each IsJobEvent later
     → IsClaimOut end number → task_answered r ≡ task_of number n given keys values
     → Step means end (Returned r answer) new → is_accepted answer ≡ true
 
 -- the event neither returns nor loses the claim of this number
-abbrev pub LeavesClaim : {E V G : Type 0} → ℕ → Event E V G → Type 0
+abbrev pub LeavesClaim : {E V G : Type 0} → ℕ → MemoEvent E V G → Type 0
 LeavesClaim number (Edit e) = ⊤
 LeavesClaim number (Claim other n given keys values) = ⊤
 LeavesClaim number NoClaim = ⊤
@@ -42,30 +42,30 @@ LeavesClaim number Refused = ⊤
 
 -- After any list of events and a claim that gives a job, while claims, returns, losses and refused
 -- calls come alone: the claim is out as long as none of them returns or loses it.
-abbrev pub ClaimsStayOut : {T E V G : Type 0} → Meaning T E V G → Type 0
+abbrev pub ClaimsStayOut : {T E V G : Type 0} → TextsMeaning T E V G → Type 0
 ClaimsStayOut {T} {E} {V} {G} means =
-    (earlier later : List (Event E V G)) (first old start end : Bench T V) (number : ℕ) (n : Node)
+    (earlier later : List (MemoEvent E V G)) (first old start end : Bench T V) (number : ℕ) (n : Node)
     (given : G) (keys : List Key) (values : List V)
-    → IsNewBench means.is_valid means.net first → Run means first earlier old
-    → Step means old (Claim number n given keys values) start → Run means start later end
+    → IsNewBench means.is_valid means.net first → MemoRun means first earlier old
+    → Step means old (Claim number n given keys values) start → MemoRun means start later end
     → Each IsJobEvent later
     → Each (LeavesClaim number) later → IsClaimOut end number
 
 -- after any list of events, a claim that is given is of a used node that is not settled
-abbrev pub UnsettledIsGiven : {T E V G : Type 0} → Meaning T E V G → Type 0
+abbrev pub UnsettledIsGiven : {T E V G : Type 0} → TextsMeaning T E V G → Type 0
 UnsettledIsGiven {T} {E} {V} {G} means =
-    (events : List (Event E V G)) (first old new : Bench T V) (number : ℕ) (n : Node) (given : G)
+    (events : List (MemoEvent E V G)) (first old new : Bench T V) (number : ℕ) (n : Node) (given : G)
     (keys : List Key) (values : List V)
-    → IsNewBench means.is_valid means.net first → Run means first events old
+    → IsNewBench means.is_valid means.net first → MemoRun means first events old
     → Step means old (Claim number n given keys values) new
     → Has (means.net old.texts).used n × (IsSettled (means.net old.texts) old.memos n → ⊥)
 
 -- how many claims are given
-abbrev pub given_count : {E V G : Type 0} → List (Event E V G) → ℕ
+abbrev pub given_count : {E V G : Type 0} → List (MemoEvent E V G) → ℕ
 given_count events = length (numbers_given events)
 
 -- 1 for a claim that is lost
-abbrev pub lost_by : {E V G : Type 0} → Event E V G → ℕ
+abbrev pub lost_by : {E V G : Type 0} → MemoEvent E V G → ℕ
 lost_by (Edit e) = 0
 lost_by (Claim number n given keys values) = 0
 lost_by NoClaim = 0
@@ -75,22 +75,22 @@ lost_by Renew = 0
 lost_by Refused = 0
 
 -- how many claims are lost
-abbrev pub lost_count : {E V G : Type 0} → List (Event E V G) → ℕ
+abbrev pub lost_count : {E V G : Type 0} → List (MemoEvent E V G) → ℕ
 lost_count [] = 0
 lost_count (e ∷ es) = lost_by e + lost_count es
 
 -- After any list of events, in a list of claims, returns, losses and refused calls: no more claims
 -- are given than used nodes are unsettled at its beginning and claims are lost.
-abbrev pub GivenIsBounded : {T E V G : Type 0} → Meaning T E V G → Type 0
+abbrev pub GivenIsBounded : {T E V G : Type 0} → TextsMeaning T E V G → Type 0
 GivenIsBounded {T} {E} {V} {G} means =
-    (earlier events : List (Event E V G)) (first start end : Bench T V) (settled : Node → Bool)
-    → IsNewBench means.is_valid means.net first → Run means first earlier start
-    → Run means start events end → Each IsJobEvent events
+    (earlier events : List (MemoEvent E V G)) (first start end : Bench T V) (settled : Node → Bool)
+    → IsNewBench means.is_valid means.net first → MemoRun means first earlier start
+    → MemoRun means start events end → Each IsJobEvent events
     → DecidesSettled (state_in means start) settled
     → given_count events ≤ count_unsettled settled (means.net start.texts).used + lost_count events
 
 -- the node was settled before the edit, which touches nothing that it stands on
-abbrev pub IsLeftSettled : {T E V G : Type 0} → Meaning T E V G → Bench T V → Bench T V → Node
+abbrev pub IsLeftSettled : {T E V G : Type 0} → TextsMeaning T E V G → Bench T V → Bench T V → Node
     → Type 0
 IsLeftSettled means old new n =
     IsSettled (means.net old.texts) old.memos n
@@ -101,13 +101,13 @@ IsLeftSettled means old new n =
 -- After any list of events and an edit that leaves each node settled but those that are open: no
 -- more claims are given after it, and before the next or a renewal, than used nodes are open and
 -- claims are lost.
-abbrev pub EditBoundsGiven : {T E V G : Type 0} → Meaning T E V G → Type 0
+abbrev pub EditBoundsGiven : {T E V G : Type 0} → TextsMeaning T E V G → Type 0
 EditBoundsGiven {T} {E} {V} {G} means =
-    (earlier events : List (Event E V G)) (first old start end : Bench T V) (e : E)
+    (earlier events : List (MemoEvent E V G)) (first old start end : Bench T V) (e : E)
     (is_open : Node → Bool)
-    → IsNewBench means.is_valid means.net first → Run means first earlier old
+    → IsNewBench means.is_valid means.net first → MemoRun means first earlier old
     → Step means old (Edit e) start
     → ((n : Node) → is_open n ≡ false → IsLeftSettled means old start n)
-    → Run means start events end → Each IsJobEvent events
+    → MemoRun means start events end → Each IsJobEvent events
     → given_count events
     ≤ count_unsettled (λ n. not (is_open n)) (means.net start.texts).used + lost_count events

@@ -8,7 +8,7 @@ use Rattle.memo_core.specs.declared.claims.Finish.{Finish}
 use Rattle.memo_core.specs.Graph.{IsSettled}
 use Rattle.memo_core.specs.Laws.{DecidesSettled}
 use Rattle.memo_core.specs.Run as core
-use Rattle.memo_core.specs.Run.{Event, Claim, Returned, Run, Step, IsFreshFrom, count_unsettled, state_in}
+use Rattle.memo_core.specs.Run.{MemoEvent, Claim, Returned, MemoRun, Step, IsFreshFrom, count_unsettled, state_in}
 use Rattle.memo_core.specs.Step.{Return, IsWork, AreClaimsNumbered}
 use Rattle.memo_core.specs.Work.{IsJobEvent, is_accepted}
 use Rattle.bench_values.specs.Givens.{GivenContent}
@@ -67,11 +67,11 @@ pub record HasLowMemos (b : LiveState) : Type 0 where
 -- of what running its job makes is accepted.
 abbrev pub AcceptsJobs : LiveState → Type 0
 AcceptsJobs old =
-    (later : List (Event Edit NodeContent GivenContent)) (start end new : LiveState) (number : ℕ)
+    (later : List (MemoEvent Edit NodeContent GivenContent)) (start end new : LiveState) (number : ℕ)
     (n : Node) (given : GivenContent) (keys : List Key) (values : List NodeContent)
     (r : Return NodeContent GivenContent) (answer : Finish)
     → Step live_meaning old (Claim number n given keys values) start
-    → Run live_meaning start later end → Each IsJobEvent later → IsClaimOut end number
+    → MemoRun live_meaning start later end → Each IsJobEvent later → IsClaimOut end number
     → task_answered r ≡ task_of number n given keys values
     → Step live_meaning end (Returned r answer) new → is_accepted answer ≡ true
 
@@ -79,7 +79,7 @@ AcceptsJobs old =
 -- unsettled at its beginning and claims are lost in it.
 abbrev pub BoundsGiven : LiveState → Type 0
 BoundsGiven start =
-    (events : List (Event Edit NodeContent GivenContent)) (end : LiveState) (settled : Node → Bool)
-    → Run live_meaning start events end → Each IsJobEvent events
+    (events : List (MemoEvent Edit NodeContent GivenContent)) (end : LiveState) (settled : Node → Bool)
+    → MemoRun live_meaning start events end → Each IsJobEvent events
     → DecidesSettled (state_in live_meaning start) settled
     → given_count events ≤ count_unsettled settled (stamped_net start.texts).used + lost_count events

@@ -3,7 +3,7 @@ use Rattle.std.specs.Prelude.{◌≡◌, ℕ, ◌+◌, ◌≤◌, Bool, false, n
 use Rattle.std.specs.List.{AllByRecursion as Each}
 use Rattle.memo_core.specs.declared.keys.Node.{Node}
 use Rattle.memo_core.specs.declared.keys.Key.{Key}
-use Rattle.memo_core.specs.Run.{Event, Edit, Claim, Run, Step, IsNewBench, count_unsettled}
+use Rattle.memo_core.specs.Run.{MemoEvent, Edit, Claim, MemoRun, Step, IsNewBench, count_unsettled}
 use Rattle.memo_core.specs.Step.{Has}
 use Rattle.memo_core.specs.Work.{IsJobEvent}
 use Rattle.bench_values.specs.Givens.{GivenContent}
@@ -34,12 +34,12 @@ pub record IsUnderCell (b : LiveState) (test model : List ℕ) (n : Node) : Type
 -- not reach.
 abbrev pub OnlyReachedIsGiven : Type 0
 OnlyReachedIsGiven =
-    (earlier later : List (Event code.Edit NodeContent GivenContent))
+    (earlier later : List (MemoEvent code.Edit NodeContent GivenContent))
     (first old start mid end : LiveState) (e : code.Edit) (number : ℕ) (n : Node)
     (given : GivenContent) (keys : List Key) (values : List NodeContent) (test model : List ℕ)
-    → IsNewBench AreSoundTexts stamped_net first → Run live_meaning first earlier old
+    → IsNewBench AreSoundTexts stamped_net first → MemoRun live_meaning first earlier old
     → Step live_meaning old (Edit e) start
-    → Run live_meaning start later mid → Each IsJobEvent later
+    → MemoRun live_meaning start later mid → Each IsJobEvent later
     → Step live_meaning mid (Claim number n given keys values) end
     → IsUnreachedCell old start test model → IsUnderCell mid test model n → ⊥
 
@@ -55,12 +55,12 @@ pub record IsUnderUnreached (old new : LiveState) (n : Node) : Type 0 where
 -- are open and claims are lost.
 abbrev pub ReachedBoundsGiven : Type 0
 ReachedBoundsGiven =
-    (earlier events : List (Event code.Edit NodeContent GivenContent))
+    (earlier events : List (MemoEvent code.Edit NodeContent GivenContent))
     (first old start end : LiveState) (e : code.Edit) (is_open : Node → Bool)
-    → IsNewBench AreSoundTexts stamped_net first → Run live_meaning first earlier old
+    → IsNewBench AreSoundTexts stamped_net first → MemoRun live_meaning first earlier old
     → Step live_meaning old (Edit e) start
     → ((n : Node) → Has (stamped_net start.texts).used n → is_open n ≡ false
     → IsUnderUnreached old start n)
-    → Run live_meaning start events end → Each IsJobEvent events
+    → MemoRun live_meaning start events end → Each IsJobEvent events
     → given_count events
     ≤ count_unsettled (λ n. not (is_open n)) (stamped_net start.texts).used + lost_count events

@@ -1,6 +1,6 @@
 -- A call that is refused changes nothing. Read it after There, and Events of `cells`.
 use Rattle.std.specs.Prelude.{◌≡◌, ◌↔◌, ℕ, List, Err}
-use Rattle.memo_core.specs.Run.{Event, Refused, Run, Step, IsNewBench}
+use Rattle.memo_core.specs.Run.{MemoEvent, Refused, MemoRun, Step, IsNewBench}
 use Rattle.bench_values.specs.Givens.{GivenContent}
 use Rattle.bench_values.specs.Values.{NodeContent}
 use Rattle.bench_texts.specs.declared.edit.Edit.{Edit}
@@ -34,14 +34,14 @@ pub record IsUnchanged (old new : LiveState) : Type 0 where
 -- After any list of events, a call that is refused changes nothing.
 abbrev pub RefusedChangesNothing : Type 0
 RefusedChangesNothing =
-    (events : List (Event Edit NodeContent GivenContent)) (start old new : LiveState)
-    → IsNewBench AreSoundTexts stamped_net start → Run live_meaning start events old
+    (events : List (MemoEvent Edit NodeContent GivenContent)) (start old new : LiveState)
+    → IsNewBench AreSoundTexts stamped_net start → MemoRun live_meaning start events old
     → Step live_meaning old Refused new → IsUnchanged old new
 
 -- So an edit that is refused changes nothing.
 abbrev pub RefusedEditChangesNothing : Type 0
 RefusedEditChangesNothing =
-    (events : List (Event Edit NodeContent GivenContent)) (start old new : LiveState) (e : Edit)
+    (events : List (MemoEvent Edit NodeContent GivenContent)) (start old new : LiveState) (e : Edit)
     (fault : EditFault)
-    → IsNewBench AreSoundTexts stamped_net start → Run live_meaning start events old
+    → IsNewBench AreSoundTexts stamped_net start → MemoRun live_meaning start events old
     → IsEdited live_meaning live_refusing live_last old e (Err fault) new → IsUnchanged old new

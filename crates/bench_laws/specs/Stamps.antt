@@ -6,7 +6,7 @@ use Rattle.memo_core.specs.declared.keys.Input.{Input}
 use Rattle.memo_core.specs.Graph.{at}
 use Rattle.memo_core.specs.Right.{GoesOn}
 use Rattle.memo_core.specs.Step.{AreClaimsNumbered}
-use Rattle.memo_core.specs.Run.{Event, Step}
+use Rattle.memo_core.specs.Run.{MemoEvent, Step}
 use Rattle.bench_values.specs.Givens.{GivenContent}
 use Rattle.bench_values.specs.Values.{NodeContent}
 use Rattle.bench_texts.specs.declared.edit.Edit.{Edit}
@@ -31,5 +31,5 @@ pub record HasLowStamps (b : LiveState) : Type 0 where
 -- stamp is above all numbers taken before.
 abbrev pub ChangedOutputIsNewer : Type 0
 ChangedOutputIsNewer =
-    (event : Event Edit NodeContent GivenContent) (old new : LiveState)
+    (event : MemoEvent Edit NodeContent GivenContent) (old new : LiveState)
     → Step live_meaning old event new → GoesOn (at old.memos) old.taken (at new.memos)

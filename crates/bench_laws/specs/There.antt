@@ -1,7 +1,7 @@
 -- Which cells are there: those whose test and model the texts of the bench have. Read it after
 -- Live, and Results of `board`.
 use Rattle.std.specs.Prelude.{◌↔◌, ℕ, List}
-use Rattle.memo_core.specs.Run.{Bench, Event, Run, IsNewBench}
+use Rattle.memo_core.specs.Run.{Bench, MemoEvent, MemoRun, IsNewBench}
 use Rattle.bench_values.specs.Givens.{GivenContent}
 use Rattle.bench_values.specs.Values.{NodeContent}
 use Rattle.bench_texts.specs.declared.edit.Edit.{Edit}
@@ -26,8 +26,8 @@ texts_on b = tests_and_models b.texts.texts
 -- it holds of the bench after any list of events
 abbrev pub HoldsAfterEvents : (LiveState → Type 0) → Type 0
 HoldsAfterEvents holds =
-    (events : List (Event Edit NodeContent GivenContent)) (start end : LiveState)
-    → IsNewBench AreSoundTexts stamped_net start → Run live_meaning start events end → holds end
+    (events : List (MemoEvent Edit NodeContent GivenContent)) (start end : LiveState)
+    → IsNewBench AreSoundTexts stamped_net start → MemoRun live_meaning start events end → holds end
 
 -- no cell is shown of a test and a model just where the texts lack one of the two
 abbrev pub HasJustItsCells : LiveState → Type 0

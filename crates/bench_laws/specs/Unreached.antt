@@ -1,7 +1,7 @@
 -- An edit that reaches no cell needs no job. Read it after There.
 use Rattle.std.specs.Prelude.{◌≡◌, ℕ, List}
 use Rattle.memo_core.specs.declared.keys.Node.{Node}
-use Rattle.memo_core.specs.Run.{Event, Edit, Run, Step, IsNewBench, state_in}
+use Rattle.memo_core.specs.Run.{MemoEvent, Edit, MemoRun, Step, IsNewBench, state_in}
 use Rattle.memo_core.specs.Step.{IsWork}
 use Rattle.bench_values.specs.Givens.{GivenContent}
 use Rattle.bench_values.specs.Values.{NodeContent}
@@ -27,9 +27,9 @@ HasNoWork b = (n : Node) → IsWork (state_in live_meaning b) n → ⊥
 -- is given.
 abbrev pub UnreachedNeedsNoJob : Type 0
 UnreachedNeedsNoJob =
-    (events : List (Event code.Edit NodeContent GivenContent)) (start old new : LiveState)
+    (events : List (MemoEvent code.Edit NodeContent GivenContent)) (start old new : LiveState)
     (e : code.Edit)
-    → IsNewBench AreSoundTexts stamped_net start → Run live_meaning start events old
+    → IsNewBench AreSoundTexts stamped_net start → MemoRun live_meaning start events old
     → Step live_meaning old (Edit e) new
     → AllAreSettled stamped_net old → HaveSameSlices old.texts new.texts
     → AllAreSettled stamped_net new × HasNoWork new

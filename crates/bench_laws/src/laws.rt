@@ -8,7 +8,7 @@ ghost use Rattle.board.specs.declared.operation.BoardOp.{BoardOp};
 ghost use Rattle.board.specs.Histories.{IsHistory};
 ghost use Rattle.bench_instance.specs.declared.stamped_texts.StampedTexts.{StampedTexts as StampedRecord};
 ghost use Rattle.bench_instance.specs.StampedTexts.{IsNodeThere, AreSoundTexts};
-ghost use Rattle.bench_instance.specs.StampedCells.{from_scratch};
+ghost use Rattle.bench_instance.specs.StampedCells.{cell_from_scratch};
 ghost use Rattle.memo_core.specs.Work.{ReturnsLowerInRuns, WorkIsBounded, WorkUnsettlesNone, SettledIsDecided};
 ghost use Rattle.memo_core.specs.Laws.{SettledIsSolved, MatchingIsSolved, ValuesStayPresent, GivenStaysPresent};
 ghost use Rattle.cells.specs.CellLaws.{SettledCellIsFromScratch, UnreachedCellStays, OnlyNeededIsGiven, NoneIsOutTwice, EditBoundsWork, QuietCellsAreSettled, ListsAreRuns, ListBoundsWork};
@@ -92,7 +92,7 @@ pub fn lists_are_runs()
 /// definition are equal.
 pub fn outcomes_are_one()
     ensures { (t : StampedRecord) (test model : List ℕ) (o p : Outcome)
-        → from_scratch t test model o → from_scratch t test model p → o ≡ p }
+        → cell_from_scratch t test model o → cell_from_scratch t test model p → o ≡ p }
 {}
 
 /// After any list of events no cell is shown of a test and a model just where the texts of the

@@ -19,7 +19,7 @@ use Rattle.bench_nodes.specs.declared.table.Slot.{Slot}
 use Rattle.bench_nodes.specs.declared.table.SlotKey.{SlotKey}
 use Rattle.bench_nodes.specs.declared.table.SlotKey.TheVariants as slots
 use Rattle.bench_nodes.specs.declared.table.TestRow.{TestRow}
-use Rattle.bench_nodes.specs.Nodes.{node_of, is_output_of, uses, users_at, used, keys_at, is_slot, slot_keys, thread_parts, space_keys, row_of, row_parts, inputs_of, users, has_test, has_slot, slot_index, rank_of, rank, net_of}
+use Rattle.bench_nodes.specs.Nodes.{node_of, is_output_of, uses, users_at, used, keys_at, is_slot, slot_keys, thread_parts, space_keys, row_of, row_parts, node_inputs, users, has_test_row, has_slot, slot_index, rank_of, rank, net_of}
 use Rattle.bench_nodes.specs.Order.{IsOfEarlierSlot, AreOrderedAfter, IsTableOrdered}
 use Rattle.bench_nodes.proofs.Lists.{has_used}
 use Rattle.std.proofs.lemmas.Bool.{cases_Bool, and_from}
@@ -36,22 +36,22 @@ second_of false b h = cc
 
 -- ---- what a used node is
 
-pub used_test : (t : NodeTable) (n : Node) → Has (used t) n → has_test t.tests.items n.test ≡ true
+pub used_test : (t : NodeTable) (n : Node) → Has (used t) n → has_test_row t.tests.items n.test ≡ true
 used_test t n h =
-    first_of (has_test t.tests.items n.test) (has_slot t.slots.items n.kind n.of)
+    first_of (has_test_row t.tests.items n.test) (has_slot t.slots.items n.kind n.of)
     (sym (has_used t.slots.items t.tests.items n) ∙ has_is n (used t) h)
 
 pub used_slot : (t : NodeTable) (n : Node) → Has (used t) n
     → has_slot t.slots.items n.kind n.of ≡ true
 used_slot t n h =
-    second_of (has_test t.tests.items n.test) (has_slot t.slots.items n.kind n.of)
+    second_of (has_test_row t.tests.items n.test) (has_slot t.slots.items n.kind n.of)
     (sym (has_used t.slots.items t.tests.items n) ∙ has_is n (used t) h)
 
-pub used_by : (t : NodeTable) (n : Node) → has_test t.tests.items n.test ≡ true
+pub used_by : (t : NodeTable) (n : Node) → has_test_row t.tests.items n.test ≡ true
     → has_slot t.slots.items n.kind n.of ≡ true → Has (used t) n
 used_by t n a b =
     has_yes n (used t) (has_used t.slots.items t.tests.items n
-    ∙ and_from (has_test t.tests.items n.test) (has_slot t.slots.items n.kind n.of) a b)
+    ∙ and_from (has_test_row t.tests.items n.test) (has_slot t.slots.items n.kind n.of) a b)
 
 -- ---- the inputs of a space are parts
 
@@ -136,7 +136,7 @@ keys_before before (s ∷ ss) kind of h = elim (cases_Bool (is_slot kind of s)) 
 -- ---- the laws
 
 each_used : (t : NodeTable) (test : ℕ) (i : ℕ) (ks : List SlotKey)
-    → has_test t.tests.items test ≡ true → Each (StandsBefore [] t.slots.items i) ks
+    → has_test_row t.tests.items test ≡ true → Each (StandsBefore [] t.slots.items i) ks
     → Each (HoldsOf (λ _ n. Has (used t) n) test) ks
 each_used t test i [] there h = tt
 each_used t test i (slots.Test part ∷ ks) there h = (tt, each_used t test i ks there h.1)
@@ -151,7 +151,7 @@ each_used t test i (slots.Value kind of name ∷ ks) there h = (
 )
 
 used_among : (t : NodeTable) (kind : Kind) (test of : ℕ) → IsTableOrdered t
-    → has_test t.tests.items test ≡ true
+    → has_test_row t.tests.items test ≡ true
     → Each (Has (used t)) (input_nodes (keys_at test (slot_keys t.slots.items kind of)))
 used_among t kind test of o there =
     each_node (λ _ n. Has (used t) n) test (slot_keys t.slots.items kind of) (each_used t test
@@ -159,8 +159,8 @@ used_among t kind test of o there =
     (keys_before [] t.slots.items kind of o))
 
 used_inputs : (t : NodeTable) (kind : Kind) (test of : ℕ) → IsTableOrdered t
-    → has_test t.tests.items test ≡ true
-    → Each (Has (used t)) (input_nodes (inputs_of t kind test of))
+    → has_test_row t.tests.items test ≡ true
+    → Each (Has (used t)) (input_nodes (node_inputs t kind test of))
 used_inputs t Space test of o there = rw (no_nodes_in_space t.tests.items test) tt
 used_inputs t Group test of o there = used_among t Group test of o there
 used_inputs t Check test of o there = used_among t Check test of o there
@@ -202,7 +202,7 @@ lower_among t kind test of o =
 
 lower_inputs : (t : NodeTable) (kind : Kind) (test of : ℕ) → IsTableOrdered t
     → Each (λ m. rank_of t.slots.items m.kind m.of < rank_of t.slots.items kind of)
-    (input_nodes (inputs_of t kind test of))
+    (input_nodes (node_inputs t kind test of))
 lower_inputs t Space test of o = rw (no_nodes_in_space t.tests.items test) tt
 lower_inputs t Group test of o = lower_among t Group test of o
 lower_inputs t Check test of o = lower_among t Check test of o
@@ -296,7 +296,7 @@ user_listed t n kind test of h i =
     (uses_among test (slot_keys t.slots.items kind of) n i)))
 
 user_there : (t : NodeTable) (n : Node) (kind : Kind) (test of : ℕ)
-    → has_slot t.slots.items kind of ≡ true → Has (input_nodes (inputs_of t kind test of)) n
+    → has_slot t.slots.items kind of ≡ true → Has (input_nodes (node_inputs t kind test of)) n
     → Has (users t n) (record { kind = kind; test = test; of = of })
 user_there t n Space test of h i = absurd (rw (no_nodes_in_space t.tests.items test) at i)
 user_there t n Group test of h i = user_listed t n Group test of h i
@@ -339,7 +339,7 @@ user_is (s ∷ ss) kind of test u h = elim (cases_Bool (uses kind of s.inputs.it
 user_used : (t : NodeTable) (n u : Node) → Has (used t) n → Has (users t n) u → Has (used t) u
 user_used t n u h l =
     let p = user_is t.slots.items n.kind n.of n.test u l in
-    used_by t u (subst (λ (x : ℕ). has_test t.tests.items x ≡ true) (sym p.0) (used_test t n h)) p.1
+    used_by t u (subst (λ (x : ℕ). has_test_row t.tests.items x ≡ true) (sym p.0) (used_test t n h)) p.1
 
 -- the users of a node hold each used node that stands on it, and those of a used node are used
 pub users_are_among : {G : Type 0} (t : NodeTable) (gives : Node → G → Bool)

@@ -10,7 +10,7 @@ use Rattle.std.proofs.Math.Nat.{div-lt_iff_lt-mul, mod-lt, suc-mul, zero-mul}
 use Rattle.bench_nodes.specs.declared.table.Slot.{Slot}
 use Rattle.bench_nodes.specs.declared.table.SlotKey.{SlotKey}
 use Rattle.bench_nodes.specs.declared.table.TestRow.{TestRow}
-use Rattle.bench_nodes.specs.Nodes.{node_of, nodes_at, used_in, key_at, keys_at, thread_parts, space_parts, space_keys, row_of, row_parts, has_test, has_slot}
+use Rattle.bench_nodes.specs.Nodes.{node_of, nodes_at, used_in, key_at, keys_at, thread_parts, space_parts, space_keys, row_of, row_parts, has_test_row, has_slot}
 
 -- ---- from an element to the rest of a list
 
@@ -166,13 +166,13 @@ has_node_among n (x ∷ xs) ys =
 
 -- a node is used where its test and its slot are there
 pub has_used : (ss : List Slot) (ts : List TestRow) (n : Node)
-    → has_node n (used_in ss ts) ≡ has_test ts n.test && has_slot ss n.kind n.of
+    → has_node n (used_in ss ts) ≡ has_test_row ts n.test && has_slot ss n.kind n.of
 has_used ss [] n = refl
 has_used ss (t ∷ ts) n =
     has_node_among n (nodes_at ss t.id) (used_in ss ts)
     ∙ ap (λ (b : Bool). b || has_node n (used_in ss ts)) (has_node_at ss t.id n)
     ∙ ap (λ (b : Bool). ((n.test == t.id) && has_slot ss n.kind n.of) || b) (has_used ss ts n)
-    ∙ or_and (n.test == t.id) (has_test ts n.test) (has_slot ss n.kind n.of)
+    ∙ or_and (n.test == t.id) (has_test_row ts n.test) (has_slot ss n.kind n.of)
 
 -- ---- for the calls
 
@@ -224,12 +224,12 @@ pub slot_within : (ss : List Slot) (ts : List TestRow) (i : ℕ) → i < length 
 slot_within ss ts i lt = mod-lt i (some_slots ss ts i lt)
 
 pub used_then : (ss : List Slot) (ts : List TestRow) (n : Node) (a b : Bool)
-    → a ≡ has_test ts n.test → a ≡ true → b ≡ has_slot ss n.kind n.of
+    → a ≡ has_test_row ts n.test → a ≡ true → b ≡ has_slot ss n.kind n.of
     → b ≡ has_node n (used_in ss ts)
 used_then ss ts n a b is there also =
     also ∙ ap (λ (x : Bool). x && has_slot ss n.kind n.of) (sym there ∙ is) ∙ sym (has_used ss ts n)
 
-pub used_else : (ss : List Slot) (ts : List TestRow) (n : Node) (a : Bool) → a ≡ has_test ts n.test
+pub used_else : (ss : List Slot) (ts : List TestRow) (n : Node) (a : Bool) → a ≡ has_test_row ts n.test
     → a ≡ false → a ≡ has_node n (used_in ss ts)
 used_else ss ts n a is gone =
     gone ∙ ap (λ (x : Bool). x && has_slot ss n.kind n.of) (sym gone ∙ is) ∙ sym (has_used ss ts n)

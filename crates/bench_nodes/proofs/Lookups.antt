@@ -11,9 +11,9 @@ use Rattle.memo_core.proofs.Tests.{and_true, same_node_exact}
 use Rattle.bench_nodes.specs.declared.places.SlotName.{SlotName}
 use Rattle.bench_nodes.specs.declared.table.Slot.{Slot}
 use Rattle.bench_nodes.specs.declared.table.TestRow.{TestRow}
-use Rattle.bench_nodes.specs.Nodes.{node_of, slot_keys, test_stamp, stamp_in, row_of, has_test, users_at}
+use Rattle.bench_nodes.specs.Nodes.{node_of, slot_keys, test_stamp, stamp_in, row_of, has_test_row, users_at}
 use Rattle.bench_nodes.specs.Slots.{is_slot, has_slot, uses}
-use Rattle.bench_nodes.specs.Places.{is_after, rise_after, are_rising, are_apart, named, user_names, user_lists}
+use Rattle.bench_nodes.specs.Places.{is_after, rise_after, are_rising, are_apart, node_named, user_names, user_lists}
 
 -- ---- tests
 
@@ -95,14 +95,14 @@ turned a b true e = eq-eqb b a (sym (eqb-true a b e))
 turned a b false e = ne_eqb b a (λ same. let t = eq-eqb a b (sym same) in cc)
 
 pub has_row : (ts : List TestRow) (id : ℕ) (t : TestRow) → Some t ≡ row_of ts id
-    → true ≡ has_test ts id
+    → true ≡ has_test_row ts id
 has_row [] id t h = cc
 has_row (u ∷ ts) id t h = elim (cases_Bool (u.id == id)) [
   | inl e ↦ rw (turned u.id id true e) refl
   | inr f ↦ rw (turned u.id id false f) (has_row ts id t (rw f at h))
 ]
 
-pub has_no_row : (ts : List TestRow) (id : ℕ) → None ≡ row_of ts id → false ≡ has_test ts id
+pub has_no_row : (ts : List TestRow) (id : ℕ) → None ≡ row_of ts id → false ≡ has_test_row ts id
 has_no_row [] id h = refl
 has_no_row (u ∷ ts) id h = elim (cases_Bool (u.id == id)) [
   | inl e ↦ absurd (let g : None ≡ Some u = rw e at h in cc)
@@ -159,7 +159,7 @@ keys_placed (u ∷ ss) kind of (suc at) s apart h e =
 -- ---- users
 
 pub users_named : (ss : List Slot) (kind : Kind) (of test : ℕ)
-    → users_at ss kind of test ≡ map (named test) (user_names ss kind of)
+    → users_at ss kind of test ≡ map (node_named test) (user_names ss kind of)
 users_named [] kind of test = refl
 users_named (s ∷ ss) kind of test = elim (cases_Bool (uses kind of s.inputs.items)) [
   | inl e ↦ rw e (ap (λ (ns : List Node). node_of test s ∷ ns) (users_named ss kind of test))
@@ -178,6 +178,6 @@ names_at all (s ∷ ss) kind of (suc at) names h e = names_at all ss kind of at 
 pub users_placed : (ss : List Slot) (kind : Kind) (of test at : ℕ) (names : List SlotName)
     → option_map (is_slot kind of) (slice_get ss at) ≡ Some true
     → slice_get (user_lists ss ss) at ≡ Some names
-    → users_at ss kind of test ≡ map (named test) names
+    → users_at ss kind of test ≡ map (node_named test) names
 users_placed ss kind of test at names h e =
-    users_named ss kind of test ∙ ap (map (named test)) (names_at ss ss kind of at names h e)
+    users_named ss kind of test ∙ ap (map (node_named test)) (names_at ss ss kind of at names h e)

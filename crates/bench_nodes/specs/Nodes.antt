@@ -101,14 +101,14 @@ abbrev pub space_keys : List TestRow → ℕ → List Key
 space_keys ts id = row_parts (row_of ts id)
 
 -- by the kind, the test and the item or model of a node
-abbrev pub inputs_of : NodeTable → Kind → ℕ → ℕ → List Key
-inputs_of t Space test of = space_keys t.tests.items test
-inputs_of t Group test of = keys_at test (slot_keys t.slots.items Group of)
-inputs_of t Check test of = keys_at test (slot_keys t.slots.items Check of)
-inputs_of t Verdict test of = keys_at test (slot_keys t.slots.items Verdict of)
+abbrev pub node_inputs : NodeTable → Kind → ℕ → ℕ → List Key
+node_inputs t Space test of = space_keys t.tests.items test
+node_inputs t Group test of = keys_at test (slot_keys t.slots.items Group of)
+node_inputs t Check test of = keys_at test (slot_keys t.slots.items Check of)
+node_inputs t Verdict test of = keys_at test (slot_keys t.slots.items Verdict of)
 
 abbrev pub inputs : NodeTable → Node → List Key
-inputs t n = inputs_of t n.kind n.test n.of
+inputs t n = node_inputs t n.kind n.test n.of
 
 -- ---- users
 
@@ -125,9 +125,9 @@ users t n = users_at t.slots.items n.kind n.of n.test
 
 -- ---- which nodes are there
 
-abbrev pub has_test : List TestRow → ℕ → Bool
-has_test [] id = false
-has_test (t ∷ ts) id = (id == t.id) || has_test ts id
+abbrev pub has_test_row : List TestRow → ℕ → Bool
+has_test_row [] id = false
+has_test_row (t ∷ ts) id = (id == t.id) || has_test_row ts id
 
 -- how many slots stand before the first of that kind and number
 abbrev pub slot_index : List Slot → Kind → ℕ → ℕ

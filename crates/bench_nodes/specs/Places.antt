@@ -60,8 +60,8 @@ abbrev pub slot_names : Vec SlotName Global → List SlotName
 slot_names v = v.items
 
 -- the node of a test and a slot's name
-abbrev pub named : ℕ → SlotName → Node
-named test name = record { kind = name.kind; test = test; of = name.of }
+abbrev pub node_named : ℕ → SlotName → Node
+node_named test name = record { kind = name.kind; test = test; of = name.of }
 
 -- the users of each slot, where they are listed
 abbrev pub lists_if : Bool → List Slot → List (List SlotName)

@@ -4,7 +4,7 @@ ghost use Rattle.std.specs.Prelude.{option_map, ◌==◌, IfSome, true, Some, �
 ghost use Rattle.std.specs.List.{position_or_len};
 ghost use Rattle.memo_core.specs.Names.{kind_number};
 ghost use Rattle.bench_nodes.specs.Places.{is_after, are_rising};
-ghost use Rattle.bench_nodes.specs.Nodes.{item_stamp, fault_stamp, stamp_in, test_stamp, has_test, is_slot, has_slot, slot_keys, row_of};
+ghost use Rattle.bench_nodes.specs.Nodes.{item_stamp, fault_stamp, stamp_in, test_stamp, has_test_row, is_slot, has_slot, slot_keys, row_of};
 
 use crate::places::guessed;
 use crate::table::{
@@ -162,7 +162,7 @@ pub(crate) fn row_of(table: &NodeTable, id: u64) -> Option<&TestRow>
 }
 
 pub(crate) fn has_test(table: &NodeTable, id: u64) -> bool
-    ensures { result ≡ has_test table.now.tests.items id }
+    ensures { result ≡ has_test_row table.now.tests.items id }
 {
     match row_of(table, id) {
         Some(_) => true,

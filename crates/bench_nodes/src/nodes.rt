@@ -119,7 +119,7 @@ impl NodeTable {
     ghost use Rattle.std.specs.Prelude.{◌≡◌, ◌==◌, ◌∷◌, ◌+◌, ◌<◌, ◌≤◌, Some, length, drop, slice_get};
     ghost use Rattle.std.specs.List.{position_or_len};
     ghost use Rattle.memo_core.specs.Tests.{has_node};
-    ghost use Rattle.bench_nodes.specs.Nodes.{part_stamp, used, inputs_of, inputs, users, has_test, slot_keys};
+    ghost use Rattle.bench_nodes.specs.Nodes.{part_stamp, used, node_inputs, inputs, users, has_test_row, slot_keys};
 
     /// The stamp of a part, 0 where it is not there.
     pub fn part_stamp(&self, part: u64, of: u64) -> u64
@@ -144,7 +144,7 @@ impl NodeTable {
 
     /// Whether a test of that number is there.
     pub fn has_test(&self, id: u64) -> bool
-        ensures { result ≡ has_test self.now.tests.items id }
+        ensures { result ≡ has_test_row self.now.tests.items id }
     {
         has_test(self, id)
     }
@@ -159,7 +159,7 @@ impl NodeTable {
 
     /// How many inputs a node has.
     pub fn input_count(&self, node: Node) -> usize
-        ensures { result ≡ length (inputs_of self.now node.kind node.test node.of) }
+        ensures { result ≡ length (node_inputs self.now node.kind node.test node.of) }
     {
         match node.kind {
             Kind::Space => space_count(self, node.test),
@@ -171,8 +171,8 @@ impl NodeTable {
 
     // An input of a node.
     fn input(&self, node: Node, i: usize) -> Key
-        requires { i < length (inputs_of self.now node.kind node.test node.of) }
-        ensures { slice_get (inputs_of self.now node.kind node.test node.of) i ≡ Some result }
+        requires { i < length (node_inputs self.now node.kind node.test node.of) }
+        ensures { slice_get (node_inputs self.now node.kind node.test node.of) i ≡ Some result }
     {
         match node.kind {
             Kind::Space => space_key(self, node.test, i),

@@ -3,7 +3,7 @@
 ghost use Rattle.std.specs.Prelude.{◌≡◌, ◌<◌, Some, IfSome, length, map, slice_get};
 ghost use Rattle.bench_nodes.specs.Nodes.{users_at};
 ghost use Rattle.bench_nodes.specs.Slots.{is_output_of, uses};
-ghost use Rattle.bench_nodes.specs.Places.{named};
+ghost use Rattle.bench_nodes.specs.Places.{node_named};
 
 use crate::find::number_of;
 use crate::nodes::node_of;
@@ -68,7 +68,7 @@ fn find_user(slots: &[Slot], node: Node, i: usize) -> Node
 // The slots that use the slot of a node, where they are listed and its place is guessed.
 fn listed_users(table: &NodeTable, node: Node) -> Option<&[SlotName]>
     ensures { IfSome result (λ names. users_at table.now.slots.items node.kind node.of node.test
-        ≡ map (named node.test) names.now) }
+        ≡ map (node_named node.test) names.now) }
 {
     if !table.places.are_listed {
         return None;
@@ -90,7 +90,7 @@ pub(crate) fn user_count(table: &NodeTable, node: Node) -> usize
 
 // The node of a test and a slot's name.
 fn named(test: u64, name: SlotName) -> Node
-    ensures { result ≡ named test name }
+    ensures { result ≡ node_named test name }
 {
     Node {
         kind: name.kind,

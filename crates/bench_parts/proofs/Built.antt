@@ -15,7 +15,7 @@ use Rattle.bench_nodes.specs.declared.table.Slot.{Slot}
 use Rattle.bench_nodes.specs.declared.table.SlotKey.{SlotKey}
 use Rattle.bench_nodes.specs.declared.table.SlotKey.TheVariants as slots
 use Rattle.bench_nodes.specs.declared.table.TestRow.{TestRow}
-use Rattle.bench_nodes.specs.Nodes.{used, keys_at, is_slot, has_slot, slot_keys, thread_parts, row_of, row_parts, space_keys, inputs_of}
+use Rattle.bench_nodes.specs.Nodes.{used, keys_at, is_slot, has_slot, slot_keys, thread_parts, row_of, row_parts, space_keys, node_inputs}
 use Rattle.bench_nodes.proofs.Laws.{used_test, used_slot}
 use Rattle.bench_values.specs.Givens.{GivenContent, ForItem}
 use Rattle.bench_items.specs.Items.{RoleContent}
@@ -156,7 +156,7 @@ module _ (s : PartsState) where
     space_there (Some r) = (tt, threads_there r.id 6 r.threads.items)
 
     inputs_there : (kind : Kind) (test of : ℕ) → has_slot ss kind of ≡ true
-        → Each (HasOutput s) (inputs_of s.parts.table kind test of)
+        → Each (HasOutput s) (node_inputs s.parts.table kind test of)
     inputs_there kinds.Space test of has = space_there (row_of s.parts.table.tests.items test)
     inputs_there kinds.Group test of has =
         outputs_there test (slot_keys ss kinds.Group of) (good kinds.Group of has).0
@@ -214,7 +214,7 @@ module _ (s : PartsState) where
       verdict_some keys flags (inr a) = asks_fault keys flags a
 
       given_some : (kind : Kind) (of : ℕ) → has_slot ss kind of ≡ true
-          → is_some (given_by s kind (inputs_of s.parts.table kind test of)) ≡ true
+          → is_some (given_by s kind (node_inputs s.parts.table kind test of)) ≡ true
       given_some kinds.Space of has = space_some
       given_some kinds.Group of has =
           some_of (given_item (contents s (keys_at test (slot_keys ss kinds.Group of)))) _

@@ -11,7 +11,7 @@ use Rattle.binding_kinds.specs.declared.fault.ModelFault.{ModelFault}
 use Rattle.bench_nodes.specs.declared.table.ItemRow.{ItemRow}
 use Rattle.bench_nodes.specs.declared.table.ModelRow.{ModelRow}
 use Rattle.bench_nodes.specs.declared.table.TestRow.{TestRow}
-use Rattle.bench_nodes.specs.Nodes.{item_stamp, fault_stamp, stamp_in, test_stamp, has_test, part_stamp}
+use Rattle.bench_nodes.specs.Nodes.{item_stamp, fault_stamp, stamp_in, test_stamp, has_test_row, part_stamp}
 use Rattle.bench_items.specs.declared.items.SharedItem.{SharedItem}
 use Rattle.bench_parts.specs.Contents.{OfThread, role_part, item_content, fault_part, fault_content, test_part, test_content, PartsState, content}
 use Rattle.bench_parts.specs.Built.{IsStamp, IsItemRow, IsModelRow, IsTestRow, AreTestRows}
@@ -147,7 +147,7 @@ module _ (last : ℕ) where
 
   -- the first test of a number that is there
   pub found_test : (rs : List TestRow) (ts : List Test) (ls : List (Vec (List ℕ) Global)) (id : ℕ)
-      → AreTestRows last rs ts ls → has_test rs id ≡ true
+      → AreTestRows last rs ts ls → has_test_row rs id ≡ true
       → (v : FoundTest) × (view_of rs ts ls id ≡ Some v) × IsTestRow last v.row v.test
   found_test [] ts ls id h e = absurd (let f : false ≡ true = e in cc)
   found_test (r ∷ rs) [] ls id h e = absurd h

@@ -5,7 +5,7 @@ use Rattle.bench_values.specs.contracts.given.Given as given
 use Rattle.bench_values.specs.contracts.value.NodeValue as value
 use Rattle.bench_values.specs.Givens.{GivenContent}
 use Rattle.bench_values.specs.Values.{NodeContent}
-use Rattle.bench_parts.specs.Equal.{same_tree, same_by, same_value, same_given}
+use Rattle.bench_parts.specs.Equal.{same_tree, same_by, same_content, same_given}
 use Rattle.bench_parts.specs.States.{is_given}
 
 pub first_of : (a b : Bool) → a && b ≡ true → a ≡ true
@@ -40,7 +40,7 @@ by_exact coded x y = (
   (λ e. ap (λ z. same_by coded x z) (sym e) ∙ tree_same (coded.code x)),
 )
 
-pub value_exact : (a b : NodeContent) → (same_value a b ≡ true) ↔ (a ≡ b)
+pub value_exact : (a b : NodeContent) → (same_content a b ≡ true) ↔ (a ≡ b)
 value_exact a b = by_exact value.the_row.coded a b
 
 pub given_exact : (a b : GivenContent) → (same_given a b ≡ true) ↔ (a ≡ b)

@@ -12,7 +12,7 @@ use Rattle.text_values.specs.ModelValue.{Term}
 use Rattle.text_values.specs.ModelValues.{clause_of, term_of}
 use Rattle.binding_kinds.specs.Faults.{names_after, senses_after}
 use Rattle.binding_kinds.specs.Senses.{Sense}
-use Rattle.binding_kinds.specs.Value.{Naming, Bound, bound_of, bare_item as outline_of}
+use Rattle.binding_kinds.specs.Value.{Naming, Bound, bound_value_of, bare_item as outline_of}
 use Rattle.binding_graph.specs.declared.resolved.ResolvedItem.{ResolvedItem}
 use Rattle.binding_graph.specs.declared.resolved.Role.{Role}
 use Rattle.binding_graph.specs.declared.resolved.Role.TheVariants as roles
@@ -95,9 +95,9 @@ module _ (ss : List Sense) (us : List Usage) (names own : List Naming) (from : �
         → IsResolvedIn ss us names own from (outline_of x) r → role_kind r.role ≡ Some kind
         → node_kind (clause_of x) ≡ Some kind
     one_kind (items.Let true group) r h e =
-        group_kind true own (map bound_of group.items) r.role h.0 e
+        group_kind true own (map bound_value_of group.items) r.role h.0 e
     one_kind (items.Let false group) r h e =
-        group_kind false names (map bound_of group.items) r.role h.0 e
+        group_kind false names (map bound_value_of group.items) r.role h.0 e
     one_kind (items.Function n ps b) r h e = silent_kind r.role kind h.0 e
     one_kind (items.Check c l) r h e = check_kind c.word (term_of c.body) r.role h.0 e
     one_kind (items.Flag c l) r h e = check_kind c.word (term_of c.body) r.role h.0 e

@@ -13,14 +13,14 @@ use Rattle.bench_values.specs.Givens.{GivenContent}
 use Rattle.bench_items.specs.declared.items.SharedItem.{SharedItem}
 use Rattle.bench_items.specs.Naming.{SeenName}
 use Rattle.bench_nodes.specs.declared.table.ItemRow.{ItemRow}
-use Rattle.bench_nodes.specs.Nodes.{part_stamp, used, inputs_of, inputs}
+use Rattle.bench_nodes.specs.Nodes.{part_stamp, used, node_inputs, inputs}
 use Rattle.bench_slots.specs.Slots.{plain, number_at, item_history}
 use Rattle.bench_slots.specs.Tables.{ModelReading, Sound, Faulty, all_slots}
 use Rattle.bench_parts.specs.Built.{AreRolesKnown, IsModelIn, IsItemRow, IsModelRow, AreTestRows, IsBuilt}
 use Rattle.bench_parts.specs.Contents.{PartContent, PartsState, histories, content}
-use Rattle.bench_parts.specs.States.{contents, is_read, flag_name, flag_read, is_answer, flags_read, given_space, given_item, given_verdict, given_by, given_to_node, is_given, net_in, IsSameState}
+use Rattle.bench_parts.specs.States.{contents, is_read, flag_name, flag_read, is_answer, flags_read, given_space, given_item, given_verdict, given_by, given_to_node, is_given, net_in, IsSamePartsState}
 
-module _ (s t : PartsState) (same : IsSameState s t) where
+module _ (s t : PartsState) (same : IsSamePartsState s t) where
   pub content_is : (part of : ℕ) → content t part of ≡ content s part of
   content_is part of = cc
 
@@ -31,7 +31,7 @@ module _ (s t : PartsState) (same : IsSameState s t) where
   used_is = cc
 
   inputs_by : (kind : Kind) (test of : ℕ)
-      → inputs_of t.parts.table kind test of ≡ inputs_of s.parts.table kind test of
+      → node_inputs t.parts.table kind test of ≡ node_inputs s.parts.table kind test of
   inputs_by Space test of = cc
   inputs_by Group test of = cc
   inputs_by Check test of = cc

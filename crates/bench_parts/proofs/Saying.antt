@@ -10,7 +10,7 @@ use Rattle.text_values.specs.ModelValue as texts
 use Rattle.text_values.specs.ModelValue.{Term, Binding, Function, Checking, Flagging, Showing, Including}
 use Rattle.text_values.specs.ModelValues.{binding_of, clause_of}
 use Rattle.binding_kinds.specs.Value as outlines
-use Rattle.binding_kinds.specs.Value.{Bound, Group, Check, Mute, Defined, bound_of, bare_item as outline_of}
+use Rattle.binding_kinds.specs.Value.{Bound, Group, Check, Mute, Defined, bound_value_of, bare_item as outline_of}
 use Rattle.memo_core.specs.Step.{Has}
 use Rattle.binding_laws.specs.ItemLaws.{label_of, SayTheSame}
 use Rattle.bench_parts.specs.Contents.{PartContent, OfText}
@@ -29,9 +29,9 @@ outline_by (Flagging check label) = Check check.word check.body
 outline_by (Showing hidden shown) = Mute
 outline_by (Including path) = Mute
 
-bounds_are : (bs : List code_binding.Binding) → map bound_by (map binding_of bs) ≡ map bound_of bs
+bounds_are : (bs : List code_binding.Binding) → map bound_by (map binding_of bs) ≡ map bound_value_of bs
 bounds_are [] = refl
-bounds_are (b ∷ bs) = ap (λ (l : List Bound). bound_of b ∷ l) (bounds_are bs)
+bounds_are (b ∷ bs) = ap (λ (l : List Bound). bound_value_of b ∷ l) (bounds_are bs)
 
 outline_is : (x : Item) → outline_by (clause_of x) ≡ outline_of x
 outline_is (items.Let recursive group) = ap (Group recursive) (bounds_are group.items)

@@ -13,7 +13,7 @@ use Rattle.bench_values.specs.Givens.{GivenContent}
 use Rattle.bench_items.specs.Naming.{SeenName}
 use Rattle.bench_nodes.specs.declared.table.Slot.{Slot}
 use Rattle.bench_nodes.specs.declared.table.TestRow.{TestRow}
-use Rattle.bench_nodes.specs.Nodes.{part_stamp, inputs, inputs_of, has_slot, slot_keys, keys_at, thread_parts, row_of, row_parts}
+use Rattle.bench_nodes.specs.Nodes.{part_stamp, inputs, node_inputs, has_slot, slot_keys, keys_at, thread_parts, row_of, row_parts}
 use Rattle.bench_parts.specs.Contents.{PartContent, PartsState, content, histories}
 use Rattle.bench_parts.specs.States.{IsValidState, contents, given_space, given_item, given_by, given_to_node, is_given, net_in, flags_read, given_verdict}
 use Rattle.bench_parts.specs.Written.{WrittenState, IsHere, Precedes, IsWholeState, WrittenItemsGoOn, IsStateSince, IsPartAfter, IsStamped, part_content}
@@ -97,11 +97,11 @@ module _ (w v : WrittenState) (since : IsStateSince w v) where
   ]
 
   given_stays : (kind : Kind) (test of : ℕ)
-      → inputs_of v.state.parts.table kind test of ≡ inputs_of w.state.parts.table kind test of
+      → node_inputs v.state.parts.table kind test of ≡ node_inputs w.state.parts.table kind test of
       → Each (IsSamePart (net_in w.state) (net_in v.state))
-      (inputs_of v.state.parts.table kind test of)
-      → given_by v.state kind (inputs_of v.state.parts.table kind test of)
-      ≡ given_by w.state kind (inputs_of w.state.parts.table kind test of)
+      (node_inputs v.state.parts.table kind test of)
+      → given_by v.state kind (node_inputs v.state.parts.table kind test of)
+      ≡ given_by w.state kind (node_inputs w.state.parts.table kind test of)
   given_stays kinds.Space test of same parts =
       ap given_space (contents_stay _ (row_no_items (row_of v.state.parts.table.tests.items test))
       parts) ∙ ap (λ (ks : List Key). given_space (contents w.state ks)) same

@@ -19,7 +19,7 @@ use Rattle.memo_core.specs.Step.{Has}
 use Rattle.binding_graph.specs.declared.resolved.ResolvedItem.{ResolvedItem}
 use Rattle.binding_graph.specs.declared.resolved.Role.{Role}
 use Rattle.binding_graph.specs.declared.resolved.Role.TheVariants as roles
-use Rattle.binding_graph.specs.Resolved.{IsLabelled, IsLabelledAs, AreLabelled}
+use Rattle.binding_graph.specs.Resolved.{IsLabelled, IsLabelledAs, AreLabelledAs}
 use Rattle.binding_laws.specs.Reread as reread
 use Rattle.binding_laws.specs.Reread.{outer_namings}
 use Rattle.binding_laws.proofs.Seen.{beside}
@@ -71,7 +71,7 @@ flag_told (items.Show hidden shown) r h is kind = absurd (none-some kinds.Check 
 flag_told (items.Include path) r h is kind = absurd (none-some kinds.Check kind)
 
 labelled_at : (xs : List Item) (rs : List ResolvedItem) (k : ℕ) (x : Item) (r : ResolvedItem)
-    → AreLabelled xs rs → slice_get xs k ≡ Some x → slice_get rs k ≡ Some r → IsLabelledAs x r
+    → AreLabelledAs xs rs → slice_get xs k ≡ Some x → slice_get rs k ≡ Some r → IsLabelledAs x r
 labelled_at [] rs k x r h text at = absurd (none-some x text)
 labelled_at (y ∷ ys) [] k x r h text at = absurd h
 labelled_at (y ∷ ys) (q ∷ qs) zero x r h text at =

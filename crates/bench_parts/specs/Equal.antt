@@ -21,8 +21,8 @@ same_tree (gcons a b) (gcons c d) = same_tree a c && same_tree b d
 abbrev pub same_by : {X : Type 0} → Coded X → X → X → Bool
 same_by coded x y = same_tree (coded.code x) (coded.code y)
 
-abbrev pub same_value : NodeContent → NodeContent → Bool
-same_value a b = same_by value.the_row.coded a b
+abbrev pub same_content : NodeContent → NodeContent → Bool
+same_content a b = same_by value.the_row.coded a b
 
 abbrev pub same_given : GivenContent → GivenContent → Bool
 same_given a b = same_by given.the_row.coded a b

@@ -22,7 +22,7 @@ use Rattle.bench_values.specs.Makes.{Makes, output_names}
 use Rattle.bench_values.specs.Values.{NodeContent}
 use Rattle.bench_nodes.specs.declared.table.ItemRow.{ItemRow}
 use Rattle.bench_nodes.specs.declared.table.ModelRow.{ModelRow}
-use Rattle.bench_nodes.specs.Nodes.{part_stamp, used, inputs, has_test, net_of}
+use Rattle.bench_nodes.specs.Nodes.{part_stamp, used, inputs, has_test_row, net_of}
 use Rattle.bench_nodes.specs.Order.{IsTableOrdered}
 use Rattle.bench_parts.specs.declared.parts.Parts.{Parts}
 use Rattle.bench_parts.specs.Contents.{PartContent, OfRole, OfFault, OfCondition, OfObserved, OfLocations, OfInit, OfThread, PartsState, content}
@@ -178,11 +178,11 @@ has_own p kinds.Verdict of = has_model p.table.models.items of
 -- its test is there, and the item or model whose node it is, also where the model has a fault or
 -- nothing uses the node
 abbrev pub keeps : Parts → Node → Bool
-keeps p n = has_test p.table.tests.items n.test && has_own p n.kind n.of
+keeps p n = has_test_row p.table.tests.items n.test && has_own p n.kind n.of
 
 -- ---- the same state, wherever it lies in memory
 
-pub record IsSameState (s t : PartsState) : Type 0 where
+pub record IsSamePartsState (s t : PartsState) : Type 0 where
   pub tests : t.tests ≡ s.tests
   pub test_rows : t.parts.table.tests.items ≡ s.parts.table.tests.items
   pub locations : t.parts.locations.items ≡ s.parts.locations.items

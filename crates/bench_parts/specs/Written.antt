@@ -151,6 +151,6 @@ pub record IsStamped (w : WrittenState) (number : ℕ) (v : WrittenState) : Type
 -- ---- the same state, wherever it lies in memory
 
 pub record IsSameWritten (w v : WrittenState) : Type 0 where
-  pub state : states.IsSameState w.state v.state
+  pub state : states.IsSamePartsState w.state v.state
   pub models : v.models ≡ w.models
   pub next : v.next ≡ w.next

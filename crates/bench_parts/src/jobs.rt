@@ -5,7 +5,7 @@ ghost use Rattle.std.specs.List.{zip};
 ghost use Rattle.memo_core.specs.declared.keys.Key.{Key};
 ghost use Rattle.memo_core.specs.declared.keys.Node.{Node};
 ghost use Rattle.memo_core.specs.Graph.{named_values};
-ghost use Rattle.bench_parts.specs.Equal.{same_value};
+ghost use Rattle.bench_parts.specs.Equal.{same_content};
 ghost use Rattle.bench_parts.specs.States.{makes};
 
 use bench_values::{Given, NodeValue, run_node};
@@ -68,7 +68,7 @@ pub fn run(
 
 /// Whether two values are equal, exactly. It takes no memory.
 pub fn is_same(a: &NodeValue, b: &NodeValue) -> bool
-    ensures { result ≡ same_value a.now b.now }
+    ensures { result ≡ same_content a.now b.now }
 {
     a.is_same(b)
 }

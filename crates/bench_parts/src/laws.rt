@@ -9,13 +9,13 @@ ghost use Rattle.bench_nodes.specs.Nodes.{used, users, rank};
 ghost use Rattle.bench_slots.specs.Tables.{ModelReading};
 ghost use Rattle.bench_parts.specs.Built.{IsBuilt};
 ghost use Rattle.bench_parts.specs.Contents.{PartsState};
-ghost use Rattle.bench_parts.specs.Equal.{same_value};
-ghost use Rattle.bench_parts.specs.States.{net_in, makes, IsValidState, IsUsedNode, IsSameState};
+ghost use Rattle.bench_parts.specs.Equal.{same_content};
+ghost use Rattle.bench_parts.specs.States.{net_in, makes, IsValidState, IsUsedNode, IsSamePartsState};
 ghost use Rattle.bench_parts.specs.Written.{WrittenState, IsWholeState, IsStateSince, IsStamped, IsSameWritten};
 
 /// Two values of nodes are equal where their codes are.
 pub fn equal_values_are_same()
-    ensures { (a b : NodeContent) → (same_value a b ≡ true) ↔ (a ≡ b) }
+    ensures { (a b : NodeContent) → (same_content a b ≡ true) ↔ (a ≡ b) }
 {}
 
 /// Each output among the inputs of a node that is there gets a value, and its input nodes are
@@ -69,7 +69,7 @@ pub fn parts_go_on()
 
 /// States that are the same, wherever they lie in memory, say the same of nodes.
 pub fn same_states_say_the_same()
-    ensures { (s t : PartsState) → IsSameState s t → net_in t ≡ net_in s }
+    ensures { (s t : PartsState) → IsSamePartsState s t → net_in t ≡ net_in s }
 {}
 
 /// They are since the same states.
@@ -79,7 +79,8 @@ pub fn same_states_are_since()
 
 /// They are built of the same models.
 pub fn same_states_are_built()
-    ensures { (s t : PartsState) (models : List ModelReading) → IsSameState s t → IsBuilt s models
+    ensures { (s t : PartsState) (models : List ModelReading) → IsSamePartsState s t
+        → IsBuilt s models
         → IsBuilt t models }
 {}
 

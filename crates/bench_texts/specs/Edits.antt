@@ -13,7 +13,7 @@ use Rattle.cat_tokens.specs.declared.rule.CatRule.{CatRule}
 use Rattle.cat_tokens.specs.declared.rule.CatRule.TheVariants.{TooMany}
 use Rattle.cat_grammar.specs.declared.form.Form.TheVariants as forms
 use Rattle.text_values.specs.ModelValue.{Clause}
-use Rattle.cat_grammar.specs.Reads.{Reads, FaultAt}
+use Rattle.cat_grammar.specs.Reads.{ReadsClauses, FaultAt}
 use Rattle.cat_syntax.specs.declared.fault.CatFault.{CatFault}
 use Rattle.cat_syntax.specs.declared.fault.CatFault.TheVariants as cat
 use Rattle.bench_texts.specs.declared.edit.Edit as code
@@ -137,7 +137,7 @@ EditMakes t (SetLocations test text) new =
     (v : List Place) × ReadsLocations (thread_count t test) text v
     × (new ≡ with_tests (changed_at (test_index test t.tests) (with_observed v)) t)
 EditMakes t (PutModel model text) new =
-    (cs : List Clause) × Reads forms.Model text cs
+    (cs : List Clause) × ReadsClauses forms.Model text cs
     × (new
     ≡ with_models
     (put_at (model_index model t.models)
@@ -146,14 +146,14 @@ EditMakes t (PutModel model text) new =
 EditMakes t (DropModel model) new =
     new ≡ with_models (λ ms. remove ms (model_index model t.models)) t.next t
 EditMakes t (SetItem model item text) new =
-    (c : Clause) × Reads forms.Item text (c ∷ [])
+    (c : Clause) × ReadsClauses forms.Item text (c ∷ [])
     × (new
     ≡ with_models
     (changed_at (model_index model t.models) (with_items (put_at
     (index_in t model item) (record { number = item; clause = c }))))
     t.next t)
 EditMakes t (InsertItem model before text) new =
-    (c : Clause) × Reads forms.Item text (c ∷ []) × (length (model_items t model) + 1 ≤ 256)
+    (c : Clause) × ReadsClauses forms.Item text (c ∷ []) × (length (model_items t model) + 1 ≤ 256)
     × (new
     ≡ with_models
     (changed_at (model_index model t.models) (with_items (λ is. insert is
@@ -183,7 +183,7 @@ IsTestEditRefused t _ rule offset = ⊥
 pub record IsOneTooMany (t : BenchTexts) (model text : List ℕ) (rule : CatRule) (offset : ℕ)
     : Type 0 where
   pub item : Clause
-  pub reads : Reads forms.Item text (item ∷ [])
+  pub reads : ReadsClauses forms.Item text (item ∷ [])
   pub many : 256 ≤ length (model_items t model)
   pub rule_is : rule ≡ TooMany
   pub offset_is : offset ≡ 0

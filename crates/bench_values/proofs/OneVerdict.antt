@@ -4,7 +4,7 @@ use Rattle.ppc_semantics.specs.declared.fault.EvalRefusal.{EvalRefusal}
 use Rattle.verdict.specs.declared.answer.Outcome.{Outcome}
 use Rattle.verdict.proofs.Uniqueness.{one_outcome}
 use Rattle.bench_values.specs.Givens.{VerdictPartsContent}
-use Rattle.bench_values.specs.Laws.{HasOneVerdict}
+use Rattle.bench_values.specs.Laws.{GivesOneOutcome}
 use Rattle.bench_values.specs.Makes.{checks_among, flags_among, IsVerdictOver}
 use Rattle.bench_values.specs.Values.{NodeContent, OfOutcome, space_of, refusal_of, answers_of}
 
@@ -17,7 +17,7 @@ same_outcome parts values None o p h k =
     (flags_among parts.flags (answers_of values)) o p h k
 
 pub one_verdict : (parts : VerdictPartsContent) (values : List NodeContent)
-    → HasOneVerdict parts values
+    → GivesOneOutcome parts values
 one_verdict parts values a b h k =
     h.1
     ∙ ap (λ (o : Outcome). OfOutcome o ∷ []) (same_outcome parts values (refusal_of values) h.0 k.0

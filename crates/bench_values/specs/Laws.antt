@@ -28,14 +28,14 @@ IsOfEachTest parts t =
     × ((r : EvalRefusal) → IsPartRefusal parts r → IsSpaceRefusal t r)
 
 -- a verdict gives one outcome, from the values of its inputs
-abbrev pub HasOneVerdict : VerdictPartsContent → List NodeContent → Type 0
-HasOneVerdict parts values =
+abbrev pub GivesOneOutcome : VerdictPartsContent → List NodeContent → Type 0
+GivesOneOutcome parts values =
     (a b : List NodeContent) → Makes (ForVerdict parts) values a → Makes (ForVerdict parts) values b
     → a ≡ b
 
 -- a node gives a value for each number by which its outputs go, whatever the values of its inputs
 -- are
-abbrev pub HasNames : GivenContent → Type 0
-HasNames given =
+abbrev pub HasOutputNames : GivenContent → Type 0
+HasOutputNames given =
     (values outputs : List NodeContent) → Makes given values outputs
     → length outputs ≡ length (output_names given)

@@ -2,7 +2,7 @@
 
 ghost use Rattle.std.specs.Prelude.{List};
 ghost use Rattle.text_values.specs.declared.test.Test.{Test};
-ghost use Rattle.bench_values.specs.Laws.{HasOneSpace, IsOfEachTest, HasOneVerdict, HasNames};
+ghost use Rattle.bench_values.specs.Laws.{HasOneSpace, IsOfEachTest, GivesOneOutcome, HasOutputNames};
 ghost use Rattle.bench_values.specs.Givens.{VerdictPartsContent, GivenContent};
 ghost use Rattle.bench_values.specs.Parts.{SpacePartsContent};
 ghost use Rattle.bench_values.specs.Values.{NodeContent};
@@ -20,10 +20,10 @@ pub fn space_is_of_each_test()
 /// A verdict gives one outcome, from the values of its inputs.
 pub fn verdict_is_one()
     ensures { (parts : VerdictPartsContent) (values : List NodeContent)
-        → HasOneVerdict parts values }
+        → GivesOneOutcome parts values }
 {}
 
 /// A node gives a value for each number by which its outputs go.
 pub fn names_are_as_many()
-    ensures { (given : GivenContent) → HasNames given }
+    ensures { (given : GivenContent) → HasOutputNames given }
 {}

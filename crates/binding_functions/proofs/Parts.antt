@@ -18,7 +18,7 @@ use Rattle.binding_kinds.specs.Verdict.{or_else, of_name}
 use Rattle.binding_kinds.specs.Senses.{Sense, HasSense, sense_of, count_of}
 use Rattle.binding_kinds.specs.Functions.{sense_seen, is_at, under_at, is_under_in, is_under_among}
 use Rattle.binding_kinds.specs.First.{fault_inside, apply_fault, first_of_bodies, first_of_body}
-use Rattle.binding_kinds.specs.Columns.{IsFilled, plain, none_gathered, of_infix, of_applied as applied_to, with_one, signature_in, gathered_in}
+use Rattle.binding_kinds.specs.Columns.{IsFilled, plain, none_gathered, infix_signature, of_applied as applied_to, with_one, signature_in, gathered_in}
 use Rattle.binding_kinds.proofs.Applications.{count_arguments}
 use Rattle.binding_kinds.proofs.Tables.{filled_as, parameter_below, parameter_kind, other_kind, gathered_more, applied_signature, refused_signature}
 use Rattle.binding_functions.specs.declared.part.BodyPart.{BodyPart}
@@ -74,7 +74,7 @@ pub joined_part : (ss : List Sense) (names : List Naming) (ps : List (List ℕ))
     ≡ (get_or x.under index false || get_or y.under index false))
     → (length ps ≤ 8
     → IsFilled unknown (length ps) rows
-    (λ kinds. of_infix op (signature_in ss names ps a kinds)
+    (λ kinds. infix_signature op (signature_in ss names ps a kinds)
     (signature_in ss names ps b kinds)) z.column.items)
     → IsBodyPart ss names ps rows under (Join op a b) z
 joined_part ss names ps rows under op a b x y z left right fault marks column = record {

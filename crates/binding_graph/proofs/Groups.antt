@@ -7,7 +7,7 @@ use Rattle.text_values.specs.ModelValues.{term_of}
 use Rattle.binding_kinds.specs.declared.fault.ModelFault.{ModelFault}
 use Rattle.binding_kinds.specs.declared.scope.Used.{Used}
 use Rattle.binding_kinds.specs.declared.scope.Input.{Input}
-use Rattle.binding_kinds.specs.Value.{Naming, Bound, bound_of}
+use Rattle.binding_kinds.specs.Value.{Naming, Bound, bound_value_of}
 use Rattle.binding_kinds.specs.GroupNames.{let_names}
 use Rattle.binding_kinds.specs.Verdict.{or_else}
 use Rattle.binding_kinds.specs.Senses.{Sense, kind_in, term_fault}
@@ -29,21 +29,21 @@ use Rattle.binding_graph.proofs.Walks.{noted_none, noted_then}
 -- before the binding at that index: what is left to look through
 abbrev pub AreFaultless : List Sense → List Naming → ℕ → Bool → List Binding → ℕ → Type 0
 AreFaultless ss names from recursive g i =
-    first_in ss names from recursive [] (map bound_of g)
-    ≡ first_in ss names from recursive (let_names (take i g)) (map bound_of (drop i g))
+    first_in ss names from recursive [] (map bound_value_of g)
+    ≡ first_in ss names from recursive (let_names (take i g)) (map bound_value_of (drop i g))
 
 faults_next : (ss : List Sense) (names : List Naming) (from : ℕ) (recursive : Bool)
     (g : List Binding) (i : ℕ) (d : Binding) (own body r : Option ModelFault) → i < length g
     → AreFaultless ss names from recursive g i
-    → own ≡ let_fault ss names recursive (let_names (take i g)) (bound_of (get_or g i d))
+    → own ≡ let_fault ss names recursive (let_names (take i g)) (bound_value_of (get_or g i d))
     → body ≡ term_fault ss names from false (term_of (get_or g i d).body)
     → or_else own body ≡ r
-    → first_in ss names from recursive [] (map bound_of g)
+    → first_in ss names from recursive [] (map bound_value_of g)
     ≡ or_else r (first_in ss names from recursive (let_names (take (i + 1) g))
-    (map bound_of (drop (i + 1) g)))
+    (map bound_value_of (drop (i + 1) g)))
 faults_next ss names from recursive g i d own body r lt inv own_is body_is both =
-    let rest = first_in ss names from recursive (let_names (take (i + 1) g)) (map bound_of (drop (i + 1) g)) in
-    let e : first_in ss names from recursive (let_names (take i g)) (map bound_of (drop i g)) ≡ or_else own (or_else body rest) = rw (drop-cons g i d lt, rev_more (λ (b : Binding). b.name) g i d lt, own_is, body_is, add-one i) refl in
+    let rest = first_in ss names from recursive (let_names (take (i + 1) g)) (map bound_value_of (drop (i + 1) g)) in
+    let e : first_in ss names from recursive (let_names (take i g)) (map bound_value_of (drop i g)) ≡ or_else own (or_else body rest) = rw (drop-cons g i d lt, rev_more (λ (b : Binding). b.name) g i d lt, own_is, body_is, add-one i) refl in
     inv
     ∙ (e
     ∙ (sym (or_else_assoc own body rest)
@@ -52,7 +52,7 @@ faults_next ss names from recursive g i d own body r lt inv own_is body_is both 
 pub faultless_more : (ss : List Sense) (names : List Naming) (from : ℕ) (recursive : Bool)
     (g : List Binding) (i : ℕ) (d : Binding) (own body : Option ModelFault) → i < length g
     → AreFaultless ss names from recursive g i
-    → own ≡ let_fault ss names recursive (let_names (take i g)) (bound_of (get_or g i d))
+    → own ≡ let_fault ss names recursive (let_names (take i g)) (bound_value_of (get_or g i d))
     → body ≡ term_fault ss names from false (term_of (get_or g i d).body)
     → or_else own body ≡ None → AreFaultless ss names from recursive g (i + 1)
 faultless_more ss names from recursive g i d own body lt inv own_is body_is none =
@@ -61,27 +61,27 @@ faultless_more ss names from recursive g i d own body lt inv own_is body_is none
 pub faulty : (ss : List Sense) (names : List Naming) (from : ℕ) (recursive : Bool)
     (g : List Binding) (i : ℕ) (d : Binding) (own body : Option ModelFault) (k : ModelFault)
     → i < length g → AreFaultless ss names from recursive g i
-    → own ≡ let_fault ss names recursive (let_names (take i g)) (bound_of (get_or g i d))
+    → own ≡ let_fault ss names recursive (let_names (take i g)) (bound_value_of (get_or g i d))
     → body ≡ term_fault ss names from false (term_of (get_or g i d).body)
-    → or_else own body ≡ Some k → Some k ≡ first_in ss names from recursive [] (map bound_of g)
+    → or_else own body ≡ Some k → Some k ≡ first_in ss names from recursive [] (map bound_value_of g)
 faulty ss names from recursive g i d own body k lt inv own_is body_is one =
     sym (faults_next ss names from recursive g i d own body (Some k) lt inv own_is body_is one)
 
 pub faultless_all : (ss : List Sense) (names : List Naming) (from : ℕ) (recursive : Bool)
     (g : List Binding) (i : ℕ) → length g ≤ i → AreFaultless ss names from recursive g i
-    → None ≡ first_in ss names from recursive [] (map bound_of g)
+    → None ≡ first_in ss names from recursive [] (map bound_value_of g)
 faultless_all ss names from recursive g i past inv =
     sym (inv
     ∙ ap
     (λ (l : List Binding).
-    first_in ss names from recursive (let_names (take i g)) (map bound_of l))
+    first_in ss names from recursive (let_names (take i g)) (map bound_value_of l))
     (drop_all i g past))
 
 -- ---- the names and the kinds
 
 -- before the binding at that index
 abbrev pub AreNamedTo : List Sense → List Naming → List Binding → ℕ → List Body → Type 0
-AreNamedTo ss names g i made = AreNamed ss names (map bound_of (take i g)) made
+AreNamedTo ss names g i made = AreNamed ss names (map bound_value_of (take i g)) made
 
 pub named_more : (ss : List Sense) (names : List Naming) (g : List Binding) (i : ℕ) (d : Binding)
     (made all : List Body) (r : Body) → i < length g → AreNamedTo ss names g i made
@@ -89,13 +89,13 @@ pub named_more : (ss : List Sense) (names : List Naming) (g : List Binding) (i :
     → r.code.kind ≡ kind_in ss names (term_of (get_or g i d).body)
     → AreNamedTo ss names g (i + 1) all
 named_more ss names g i d made all r lt inv is name kind =
-    rw (is, map_more bound_of g i d lt) (zip_push
+    rw (is, map_more bound_value_of g i d lt) (zip_push
     (λ (b : Bound) (x : Body). (x.name ≡ b.name) × (x.code.kind ≡ kind_in ss names b.body))
-    (map bound_of (take i g)) made (bound_of (get_or g i d)) r inv (name, kind))
+    (map bound_value_of (take i g)) made (bound_value_of (get_or g i d)) r inv (name, kind))
 
 pub named_all : (ss : List Sense) (names : List Naming) (g : List Binding) (i : ℕ)
     (made : List Body) → length g ≤ i → AreNamedTo ss names g i made
-    → AreNamed ss names (map bound_of g) made
+    → AreNamed ss names (map bound_value_of g) made
 named_all ss names g i made past inv = rw (take_all i g past) at inv
 
 -- ---- the steps
@@ -105,17 +105,17 @@ abbrev pub AreMade : List Sense → List Usage → List Naming → ℕ → Uses 
     → List Body → Type 0
 AreMade ss us names from old now g i made =
     (rs : List Body)
-    → AreBodies ss us names from (reverse now.values.items) (map bound_of (drop i g)) rs
-    → AreBodies ss us names from (reverse old.values.items) (map bound_of g) (made ++ rs)
+    → AreBodies ss us names from (reverse now.values.items) (map bound_value_of (drop i g)) rs
+    → AreBodies ss us names from (reverse old.values.items) (map bound_value_of g) (made ++ rs)
 
 -- and what is used
 abbrev pub AreUsed : List Usage → List Naming → ℕ → Uses → Uses → List Binding → ℕ → Type 0
 AreUsed us names from old now g i =
     (new : Uses)
-    → AreGrown (with_all_values us names from (map bound_of (drop i g)))
-    (with_all_functions us names (map bound_of (drop i g))) now new
-    → AreGrown (with_all_values us names from (map bound_of g))
-    (with_all_functions us names (map bound_of g)) old new
+    → AreGrown (with_all_values us names from (map bound_value_of (drop i g)))
+    (with_all_functions us names (map bound_value_of (drop i g))) now new
+    → AreGrown (with_all_values us names from (map bound_value_of g))
+    (with_all_functions us names (map bound_value_of g)) old new
 
 pub made_more : (ss : List Sense) (us : List Usage) (names : List Naming) (from : ℕ)
     (old now new : Uses) (g : List Binding) (i : ℕ) (d : Binding) (made all : List Body)
@@ -136,7 +136,7 @@ pub used_more : (us : List Usage) (names : List Naming) (from : ℕ) (old now ne
     → AreUsed us names from old new g (i + 1)
 used_more us names from old now new g i d lt m one = λ later h.
     let b = term_of (get_or g i d).body in
-    let rest = map bound_of (drop (i + 1) g) in
+    let rest = map bound_value_of (drop (i + 1) g) in
     m later (rw (drop-cons g i d lt) (rw (add-one i) at (noted_then (with_values us names [] from b)
     (with_all_values us names from rest) (with_functions us names [] b)
     (with_all_functions us names rest) now new later one h)))
@@ -144,13 +144,13 @@ used_more us names from old now new g i d lt m one = λ later h.
 -- behind the last binding
 pub all_made : (ss : List Sense) (us : List Usage) (names : List Naming) (from : ℕ) (old now : Uses)
     (g : List Binding) (i : ℕ) (made : List Body) → AreMade ss us names from old now g i made
-    → length g ≤ i → AreBodies ss us names from (reverse old.values.items) (map bound_of g) made
+    → length g ≤ i → AreBodies ss us names from (reverse old.values.items) (map bound_value_of g) made
 all_made ss us names from old now g i made m le = rw append-nil at (m [] (rw (drop_all i g le) tt))
 
 pub all_used : (us : List Usage) (names : List Naming) (from : ℕ) (old now : Uses)
     (g : List Binding) (i : ℕ) → AreUsed us names from old now g i → length g ≤ i
-    → AreGrown (with_all_values us names from (map bound_of g))
-    (with_all_functions us names (map bound_of g)) old now
+    → AreGrown (with_all_values us names from (map bound_value_of g))
+    (with_all_functions us names (map bound_value_of g)) old now
 all_used us names from old now g i m le =
     m now (rw (drop_all i g le) (noted_none _ _ now (λ vs. refl) (λ fs. refl)))
 

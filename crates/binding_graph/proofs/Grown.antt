@@ -8,7 +8,7 @@ use Rattle.text_values.specs.ModelValue.{AllEvents}
 use Rattle.binding_kinds.specs.declared.scope.Entry.{Entry}
 use Rattle.binding_kinds.specs.declared.scope.Binder.TheVariants as binders
 use Rattle.binding_kinds.specs.declared.kinds.Kind.TheVariants.{OfRelation}
-use Rattle.binding_kinds.specs.Value.{Naming, Bound, entry_of, bound_of}
+use Rattle.binding_kinds.specs.Value.{Naming, Bound, entry_of, bound_value_of}
 use Rattle.binding_kinds.specs.Senses.{Sense, kind_in}
 use Rattle.binding_kinds.specs.Faults.{with_own, with_all}
 use Rattle.binding_kinds.proofs.Scopes.{rev_push}
@@ -19,9 +19,9 @@ use Rattle.binding_graph.specs.Readings.{AreNamed}
 pub own_more : (g : List Binding) (i item : ℕ) (d : Binding) (s : List Entry) (e : Entry)
     → i < length g → e.name ≡ (get_or g i d).name → e.kind ≡ OfRelation
     → e.binder ≡ binders.Bound (record { item = item; position = i })
-    → with_own (reverse (map entry_of s)) item i (map bound_of (drop i g))
+    → with_own (reverse (map entry_of s)) item i (map bound_value_of (drop i g))
     ≡ with_own (reverse (map entry_of (s ++ e ∷ []))) item (i + 1)
-    (map bound_of (drop (i + 1) g))
+    (map bound_value_of (drop (i + 1) g))
 own_more g i item d s e lt name k b =
     rw (drop-cons g i d lt, rev_push entry_of s e, name, k, b, add-one i) refl
 

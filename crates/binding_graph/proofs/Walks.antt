@@ -17,7 +17,7 @@ use Rattle.binding_kinds.specs.declared.kinds.Kind.TheVariants.{OfAny}
 use Rattle.binding_kinds.specs.declared.scope.Found.{Found}
 use Rattle.binding_kinds.specs.declared.scope.Used.{Used}
 use Rattle.binding_kinds.specs.Value.{Naming}
-use Rattle.binding_kinds.specs.Kinds.{found, joined, takes, marked, narrowed, is_set, is_relation, is_turned}
+use Rattle.binding_kinds.specs.Kinds.{found, joined_kind, takes, marked, narrowed, is_set_kind, is_relation, is_turned}
 use Rattle.binding_kinds.specs.Combinations.{digit, kinds_number, unknown}
 use Rattle.binding_kinds.specs.Formula.{factor_of}
 use Rattle.binding_kinds.specs.Verdict.{or_else, unless}
@@ -37,7 +37,7 @@ use Rattle.binding_graph.specs.Readings.{IsFinding, AreJudged, AreGrown}
 pub verdict_infix : (ss : List Sense) (names : List Naming) (from : ℕ) (under : Bool) (op : Infix)
     (a b : Term) (x y z : Judged) → IsFinding ss names from under a x
     → IsFinding ss names from (is_turned op under) b y
-    → IsSameSize z.size (x.size + y.size + 1) → z.kind ≡ joined op x.kind y.kind
+    → IsSameSize z.size (x.size + y.size + 1) → z.kind ≡ joined_kind op x.kind y.kind
     → z.fault ≡ or_else x.fault (or_else (unless (takes op x.kind y.kind) faults.Kind) y.fault)
     → IsFinding ss names from under (Join op a b) z
 verdict_infix ss names from under op a b x y z left right size kind fault = record {
@@ -69,7 +69,7 @@ verdict_complement ss names from under a x z inner size kind fault = record {
 pub verdict_identity : (ss : List Sense) (names : List Naming) (from : ℕ) (under : Bool) (a : Term)
     (x z : Judged) → IsFinding ss names from under a x
     → IsSameSize z.size (x.size + 1) → z.kind ≡ narrowed x.kind
-    → z.fault ≡ or_else (unless (is_set x.kind) faults.Kind) x.fault
+    → z.fault ≡ or_else (unless (is_set_kind x.kind) faults.Kind) x.fault
     → IsFinding ss names from under (On a) z
 verdict_identity ss names from under a x z inner size kind fault = record {
   kind = rw (← inner.kind) kind;

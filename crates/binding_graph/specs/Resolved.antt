@@ -103,5 +103,5 @@ IsLabelledAs (items.Flag c l) x = IsLabelled c.negated (Some l) x.role
 IsLabelledAs (items.Show h s) x = Unit {0}
 IsLabelledAs (items.Include n) x = Unit {0}
 
-abbrev pub AreLabelled : List code_item.Item → List ResolvedItem → Type 0
-AreLabelled xs rs = AllZip IsLabelledAs xs rs
+abbrev pub AreLabelledAs : List code_item.Item → List ResolvedItem → Type 0
+AreLabelledAs xs rs = AllZip IsLabelledAs xs rs

@@ -2,7 +2,7 @@
 
 ghost use Rattle.std.specs.Prelude.{◌≡◌, ◌++◌, ◌∷◌, ℕ, List, [], map, reverse, false, IfOk, OnOk};
 ghost use Rattle.text_values.specs.ModelValues.{term_of};
-ghost use Rattle.binding_kinds.specs.Value.{Naming, Bound, entry_of, bound_of};
+ghost use Rattle.binding_kinds.specs.Value.{Naming, Bound, entry_of, bound_value_of};
 ghost use Rattle.binding_kinds.specs.Kinds.{takes_body};
 ghost use Rattle.binding_kinds.specs.Verdict.{or_else, unless};
 ghost use Rattle.binding_kinds.specs.Senses.{Sense, HaveSenses, kind_in, term_fault};
@@ -104,24 +104,25 @@ pub fn read_bodies(
         (senses : List Sense) → HaveSenses sight.now.functions.now senses
         → sight.now.parameters.now ≡ []
         → IfOk result (λ r. fault_of r
-        ≡ first_in senses names sight.now.from recursive [] (map bound_of group.now)) }
+        ≡ first_in senses names sight.now.from recursive [] (map bound_value_of group.now)) }
     ensures named { let names = reverse (map entry_of sight.now.entries.now) in
         (senses : List Sense) → HaveSenses sight.now.functions.now senses
         → sight.now.parameters.now ≡ []
-        → IfOk result (λ r. IfOk r (λ v. AreNamed senses names (map bound_of group.now) v.items)) }
+        → IfOk result (λ r. IfOk r (λ v. AreNamed senses names
+        (map bound_value_of group.now) v.items)) }
     ensures bodies { let us = map usage_of sight.now.functions.now in
         let names = reverse (map entry_of sight.now.entries.now) in
         (senses : List Sense) → HaveSenses sight.now.functions.now senses → AreSoundSenses senses
         → AreKnown names → sight.now.parameters.now ≡ []
         → IsIndexed work.old.uses.indexes.items work.old.uses.values.items
         → IfOk result (λ r. IfOk r (λ v. AreBodies senses us names sight.now.from
-        (reverse work.old.uses.values.items) (map bound_of group.now) v.items)) }
+        (reverse work.old.uses.values.items) (map bound_value_of group.now) v.items)) }
     ensures uses { let us = map usage_of sight.now.functions.now in
         let names = reverse (map entry_of sight.now.entries.now) in
         sight.now.parameters.now ≡ []
         → IfOk result (λ r. IfOk r (λ v. AreGrown
-        (with_all_values us names sight.now.from (map bound_of group.now))
-        (with_all_functions us names (map bound_of group.now)) work.old.uses
+        (with_all_values us names sight.now.from (map bound_value_of group.now))
+        (with_all_functions us names (map bound_value_of group.now)) work.old.uses
         work.new.uses)) }
 {
     let mut bodies = Vec::with_capacity(alloc, group.len())?;

@@ -2,7 +2,7 @@
 
 ghost use Rattle.std.specs.Prelude.{◌≡◌, ◌++◌, ◌∷◌, [], None, IfOk, OnOk, List, length, reverse, map};
 ghost use Rattle.text_values.specs.ModelValues.{term_of};
-ghost use Rattle.binding_kinds.specs.Value.{Naming, Bound, Defined, entry_of, bound_of};
+ghost use Rattle.binding_kinds.specs.Value.{Naming, Bound, Defined, entry_of, bound_value_of};
 ghost use Rattle.binding_kinds.specs.Senses.{Sense, HaveSenses};
 ghost use Rattle.binding_kinds.specs.Faults.{with_own, with_all, names_after, senses_after};
 ghost use Rattle.binding_kinds.specs.Verdict.{or_else, of_parameters};
@@ -27,7 +27,8 @@ pub fn declare_own(
     group: &[Binding],
 ) -> Result<(), AllocError>
     ensures { OnOk result (reverse (map entry_of entries.new.items)
-        ≡ with_own (reverse (map entry_of entries.old.items)) item 0 (map bound_of group.now)) }
+        ≡ with_own (reverse (map entry_of entries.old.items)) item 0
+        (map bound_value_of group.now)) }
 {
     for (position, binding) in group.iter().enumerate() {
         entries.push(Entry {

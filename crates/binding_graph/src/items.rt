@@ -2,7 +2,7 @@
 
 ghost use Rattle.std.specs.Prelude.{◌≡◌, ◌+◌, [], ◌∷◌, ◌++◌, List, None, Some, vec_len, IfOk, OnOk, MatchResult, reverse, map, length, true, false};
 ghost use Rattle.text_values.specs.ModelValues.{term_of};
-ghost use Rattle.binding_kinds.specs.Value.{Group, Defined, entry_of, bare_item, bound_of};
+ghost use Rattle.binding_kinds.specs.Value.{Group, Defined, entry_of, bare_item, bound_value_of};
 ghost use Rattle.binding_kinds.specs.Senses.{Sense, HaveSenses};
 ghost use Rattle.binding_kinds.specs.Faults.{HasNoFault, FirstFault, with_own, with_all, names_after, senses_after};
 ghost use Rattle.binding_kinds.specs.First.{first, first_of_item};
@@ -11,7 +11,7 @@ ghost use Rattle.binding_kinds.specs.Outermost.{naming_of};
 ghost use Rattle.binding_graph.specs.Refusals.{IfRefused};
 ghost use Rattle.binding_graph.specs.Usages.{Usage, usage_of, usages_after};
 ghost use Rattle.binding_graph.specs.Readings.{fault_of};
-ghost use Rattle.binding_graph.specs.Resolved.{IsResolvedIn, AreResolved, IsLabelledAs, AreLabelled};
+ghost use Rattle.binding_graph.specs.Resolved.{IsResolvedIn, AreResolved, IsLabelledAs, AreLabelledAs};
 
 use crate::bodies::{group_item, read_bodies, read_check};
 use crate::declare::{declare_all, declare_function, declare_own};
@@ -37,7 +37,7 @@ pub fn resolve(alloc: Global, text: &ModelText) -> Result<Resolved, ResolveFault
     ensures items { let names = reverse (map naming_of PREDEFINED) in
         let clauses = map bare_item text.now.items.items in
         IfOk result (λ r. AreResolved [] [] names 0 clauses r.items.items) }
-    ensures labels { IfOk result (λ r. AreLabelled text.now.items.items r.items.items) }
+    ensures labels { IfOk result (λ r. AreLabelledAs text.now.items.items r.items.items) }
 {
     match resolve_all(alloc, &text.items) {
         Ok(Ok(items)) => Ok(Resolved { items }),
@@ -58,7 +58,7 @@ fn resolve_all(
     ensures items { let names = reverse (map naming_of PREDEFINED) in
         IfOk result (λ r.
         IfOk r (λ v. AreResolved [] [] names 0 (map bare_item items.now) v.items)) }
-    ensures labels { IfOk result (λ r. IfOk r (λ v. AreLabelled items.now v.items)) }
+    ensures labels { IfOk result (λ r. IfOk r (λ v. AreLabelledAs items.now v.items)) }
 {
     let mut scope = Scope::new(alloc)?;
     resolve_items(alloc, &mut scope, items)
@@ -82,7 +82,7 @@ fn find_items(
         → IfOk result (λ r. r.1 ≡ None
         → AreResolved senses (map usage_of scope.old.functions.items) names 0
         (map bare_item items.now) r.0.items) }
-    ensures labels { IfOk result (λ r. r.1 ≡ None → AreLabelled items.now r.0.items) }
+    ensures labels { IfOk result (λ r. r.1 ≡ None → AreLabelledAs items.now r.0.items) }
 {
     let mut resolved = Vec::with_capacity(alloc, items.len())?;
     for (index, item) in items.iter().enumerate() {
@@ -112,7 +112,7 @@ pub fn resolve_items(
         → AreKnown names
         → IfOk result (λ r. IfOk r (λ v. AreResolved senses (map usage_of scope.old.functions.items)
         names 0 (map bare_item items.now) v.items)) }
-    ensures labels { IfOk result (λ r. IfOk r (λ v. AreLabelled items.now v.items)) }
+    ensures labels { IfOk result (λ r. IfOk r (λ v. AreLabelledAs items.now v.items)) }
 {
     let mut work = Workspace::new(alloc);
     let (resolved, fault) = find_items(alloc, scope, &mut work, items)?;
@@ -226,19 +226,19 @@ fn read_plain(
     ensures fault { let names = reverse (map entry_of scope.old.entries.items) in
         (senses : List Sense) → HaveSenses scope.old.functions.items senses
         → IfOk result (λ r. fault_of r
-        ≡ first_of_item senses names index (Group false (map bound_of group.now))) }
+        ≡ first_of_item senses names index (Group false (map bound_value_of group.now))) }
     ensures names { let names = reverse (map entry_of scope.old.entries.items) in
         (senses : List Sense) → HaveSenses scope.old.functions.items senses
         → IfOk result (λ r. IfOk r (λ x. reverse (map entry_of scope.new.entries.items)
-        ≡ with_all senses names names index 0 (map bound_of group.now))) }
+        ≡ with_all senses names names index 0 (map bound_value_of group.now))) }
     ensures functions { OnOk result (scope.new.functions.items ≡ scope.old.functions.items) }
     ensures item { let us = map usage_of scope.old.functions.items in
         let names = reverse (map entry_of scope.old.entries.items) in
         (senses : List Sense) → HaveSenses scope.old.functions.items senses → AreSoundSenses senses
         → AreKnown names
         → IfOk result (λ r. IfOk r (λ x. IsResolvedIn senses us names
-        (names_after senses names index (Group false (map bound_of group.now)))
-        (length names) (Group false (map bound_of group.now)) x)) }
+        (names_after senses names index (Group false (map bound_value_of group.now)))
+        (length names) (Group false (map bound_value_of group.now)) x)) }
 {
     let sight = sight_of(scope, scope.entries.len());
     work.uses.clear();
@@ -262,18 +262,18 @@ fn read_recursive(
     ensures fault { let names = reverse (map entry_of scope.old.entries.items) in
         (senses : List Sense) → HaveSenses scope.old.functions.items senses
         → IfOk result (λ r. fault_of r
-        ≡ first_of_item senses names index (Group true (map bound_of group.now))) }
+        ≡ first_of_item senses names index (Group true (map bound_value_of group.now))) }
     ensures names { let names = reverse (map entry_of scope.old.entries.items) in
         OnOk result (reverse (map entry_of scope.new.entries.items)
-        ≡ with_own names index 0 (map bound_of group.now)) }
+        ≡ with_own names index 0 (map bound_value_of group.now)) }
     ensures functions { OnOk result (scope.new.functions.items ≡ scope.old.functions.items) }
     ensures item { let us = map usage_of scope.old.functions.items in
         let names = reverse (map entry_of scope.old.entries.items) in
         (senses : List Sense) → HaveSenses scope.old.functions.items senses → AreSoundSenses senses
         → AreKnown names
         → IfOk result (λ r. IfOk r (λ x. IsResolvedIn senses us names
-        (names_after senses names index (Group true (map bound_of group.now)))
-        (length names) (Group true (map bound_of group.now)) x)) }
+        (names_after senses names index (Group true (map bound_value_of group.now)))
+        (length names) (Group true (map bound_value_of group.now)) x)) }
 {
     let from = scope.entries.len();
     declare_own(alloc, &mut scope.entries, index, group)?;

@@ -1,7 +1,7 @@
 //! The lists that reading an item fills.
 
 ghost use Rattle.std.specs.Prelude.{◌≡◌, []};
-ghost use Rattle.binding_graph.specs.Lowering.{start};
+ghost use Rattle.binding_graph.specs.Lowering.{lowering_start};
 ghost use Rattle.binding_graph.specs.Stacks.{state_of};
 
 use crate::lower::Lowering;
@@ -24,7 +24,7 @@ impl Workspace {
     /// With nothing in them.
     pub fn new(alloc: Global) -> Workspace
         ensures template { result.template.pieces.items ≡ [] }
-        ensures lowering { state_of result.lowering ≡ start }
+        ensures lowering { state_of result.lowering ≡ lowering_start }
         ensures values { result.uses.values.items ≡ [] }
         ensures functions { result.uses.functions.items ≡ [] }
     {

@@ -10,7 +10,7 @@ use Rattle.binding_kinds.specs.declared.scope.Found.{Found}
 use Rattle.binding_kinds.specs.declared.scope.Binder.{Binder}
 use Rattle.binding_kinds.specs.declared.scope.Binder.TheVariants as binders
 use Rattle.binding_kinds.specs.Value.{Naming}
-use Rattle.binding_kinds.specs.Kinds.{found, takes, is_relation, is_set, is_turned}
+use Rattle.binding_kinds.specs.Kinds.{found, takes, is_relation, is_set_kind, is_turned}
 use Rattle.binding_kinds.specs.Senses.{Sense, size_with, sense_of, count_of, sizes_in, kind_in, kinds_in, under_of, fault_applied, term_fault, first_among}
 use Rattle.binding_kinds.specs.Faults.{width, widths, IsFaultOfUse, IsFaultOfName, IsFaultOfApplication, IsFaultAt, IsFaultAmong, IsFirst, IsFaultNoLater}
 use Rattle.binding_kinds.specs.Verdict.{or_else, unless, of_name, of_use, of_slot}
@@ -235,7 +235,7 @@ mutual
       judged_after (IsFaultAt ss names from true a) 1 _ (judged ss names from true a)
   judged ss names from under (On a) =
       in_turn _ _ 1 _ _ (λ p k s. omega (arith, s.0)) (λ p k (after, e, f). omega (arith, e))
-      (tested 0 (is_set (kind_in ss names a)) faults.Kind) (judged_after
+      (tested 0 (is_set_kind (kind_in ss names a)) faults.Kind) (judged_after
       (IsFaultAt ss names from under a) 1 _ (judged ss names from under a))
   judged ss names from under (Apply x ts) =
       let f = sense_of ss (count_of ts) (found names x) in

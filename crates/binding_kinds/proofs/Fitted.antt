@@ -11,7 +11,7 @@ use Rattle.binding_kinds.specs.declared.scope.Binder.{Binder}
 use Rattle.binding_kinds.specs.declared.scope.Binder.TheVariants as binders
 use Rattle.text_values.specs.ModelValue.{Term, Terms, Atom, AllEvents, EmptyRelation, EmptySet, Join, Mark, Not, On, Apply, NoTerm, OneMore}
 use Rattle.binding_kinds.specs.Value.{Naming, Bound, BareItem, Group, Check, Mute, Defined}
-use Rattle.binding_kinds.specs.Kinds.{found, takes, is_relation, is_set, is_turned, joined, marked, narrowed, kind_found}
+use Rattle.binding_kinds.specs.Kinds.{found, takes, is_relation, is_set_kind, is_turned, joined_kind, marked, narrowed, kind_found}
 use Rattle.binding_kinds.specs.Senses.{Sense, size_with, sense_of, count_of, sizes_in, kind_in, kinds_in, kind_applied, fault_applied, term_fault, first_among, under_of}
 use Rattle.binding_kinds.specs.Faults.{with_own, with_all, names_after, senses_after}
 use Rattle.binding_kinds.specs.Verdict.{or_else, unless, of_parameters}
@@ -76,9 +76,9 @@ mutual
   )
   fit ss names from under (Not a) h e = fit ss names from true a h e
   fit ss names from under (On a) h e = (
-    fit ss names from under a h (none_later (unless (is_set (kind_in ss names a)) faults.Kind) _
+    fit ss names from under a h (none_later (unless (is_set_kind (kind_in ss names a)) faults.Kind) _
         e),
-    holds (is_set (kind_in ss names a)) faults.Kind
+    holds (is_set_kind (kind_in ss names a)) faults.Kind
         (none_first _ (term_fault ss names from under a) e),
   )
   fit ss names from under (Apply x ts) h e =
@@ -146,7 +146,7 @@ mutual
   fit_typed ss names (Join op a b) sound h =
       let l = fit_typed ss names a sound h.0 in
       let r = fit_typed ss names b sound h.1 in
-      let k : joined op (kind_of [] (formula_in ss names [] a)) (kind_of [] (formula_in ss names [] b)) ≡ joined op (kind_in ss names a) (kind_in ss names b) = rw (l.1, r.1) refl in
+      let k : joined_kind op (kind_of [] (formula_in ss names [] a)) (kind_of [] (formula_in ss names [] b)) ≡ joined_kind op (kind_in ss names a) (kind_in ss names b) = rw (l.1, r.1) refl in
       let t : takes op (kind_of [] (formula_in ss names [] a)) (kind_of [] (formula_in ss names [] b)) ≡ takes op (kind_in ss names a) (kind_in ss names b) = rw (l.1, r.1) refl in
       ((l.0, r.0, same_true _ _ t h.2), k)
   fit_typed ss names (Mark op a) sound h =
@@ -155,7 +155,7 @@ mutual
   fit_typed ss names (Not a) sound h = fit_typed ss names a sound h
   fit_typed ss names (On a) sound h =
       let l = fit_typed ss names a sound h.0 in
-      ((l.0, same_true _ _ (ap is_set l.1) h.1), ap narrowed l.1)
+      ((l.0, same_true _ _ (ap is_set_kind l.1) h.1), ap narrowed l.1)
   fit_typed ss names (Apply x ts) sound h =
       applied_typed ss names (count_of ts) x (sizes_in ss names ts) (kinds_in ss names ts)
       (formulas_in ss names [] ts) (sense_of ss (count_of ts) (found names x)) refl sound

@@ -11,7 +11,7 @@ use Rattle.binding_kinds.specs.declared.scope.Found.{Found}
 use Rattle.binding_kinds.specs.declared.scope.Binder.{Binder}
 use Rattle.binding_kinds.specs.declared.scope.Binder.TheVariants as binders
 use Rattle.binding_kinds.specs.Value.{Naming}
-use Rattle.binding_kinds.specs.Kinds.{found, takes, is_relation, is_set, joined, marked, narrowed}
+use Rattle.binding_kinds.specs.Kinds.{found, takes, is_relation, is_set_kind, joined_kind, marked, narrowed}
 use Rattle.binding_kinds.specs.Verdict.{or_else, unless, of_use, of_name}
 use Rattle.binding_kinds.specs.Fits.{IsKnown, IsValue, IsKnownValue, kind_of, IsTyped, IsKnownUnlessFunction, AreKnown}
 use Rattle.binding_kinds.specs.Formula.{Formula, Value, Parameter, Everything, NoPairs, NoEvents, Joined, Marked, Complement, Identity}
@@ -58,7 +58,7 @@ known_name names x from under (Some f) h is e =
     known_use f.binder f.kind from under f.slot (known_found names x f h is) e
 
 joined_known : (op : Infix) (k l : Kind) → IsKnown k → IsKnown l → IsTrue (takes op k l)
-    → IsKnown (joined op k l)
+    → IsKnown (joined_kind op k l)
 joined_known Union OfSet OfSet k l t = tt
 joined_known Union OfRelation OfRelation k l t = tt
 joined_known Union OfSet OfRelation k l t = cc
@@ -93,7 +93,7 @@ marked_known OfRelation k t = tt
 marked_known OfSet k t = cc
 marked_known OfAny k t = absurd k
 
-narrowed_known : (k : Kind) → IsKnown k → IsTrue (is_set k) → IsKnown (narrowed k)
+narrowed_known : (k : Kind) → IsKnown k → IsTrue (is_set_kind k) → IsKnown (narrowed k)
 narrowed_known OfSet k t = tt
 narrowed_known OfRelation k t = cc
 narrowed_known OfAny k t = absurd k

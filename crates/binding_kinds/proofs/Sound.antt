@@ -11,7 +11,7 @@ use Rattle.binding_kinds.specs.declared.scope.Found.{Found}
 use Rattle.binding_kinds.specs.declared.scope.Binder.{Binder}
 use Rattle.binding_kinds.specs.declared.scope.Binder.TheVariants as binders
 use Rattle.binding_kinds.specs.Value.{Naming}
-use Rattle.binding_kinds.specs.Kinds.{found, kind_found, takes, is_relation, is_set, joined, marked, narrowed}
+use Rattle.binding_kinds.specs.Kinds.{found, kind_found, takes, is_relation, is_set_kind, joined_kind, marked, narrowed}
 use Rattle.binding_kinds.specs.Combinations.{has_any}
 use Rattle.binding_kinds.specs.Meanings.{parameter_of}
 use Rattle.binding_kinds.specs.Verdict.{or_else}
@@ -58,7 +58,7 @@ filled_typed js fs ks NoEvents all h = (tt, refl)
 filled_typed js fs ks (Joined op a b) all h =
     let l = filled_typed js fs ks a all h.0 in
     let r = filled_typed js fs ks b all h.1 in
-    let k : joined op (kind_of js (filled fs a)) (kind_of js (filled fs b)) ≡ joined op (kind_of ks a) (kind_of ks b) = rw (l.1, r.1) refl in
+    let k : joined_kind op (kind_of js (filled fs a)) (kind_of js (filled fs b)) ≡ joined_kind op (kind_of ks a) (kind_of ks b) = rw (l.1, r.1) refl in
     let t : takes op (kind_of js (filled fs a)) (kind_of js (filled fs b)) ≡ takes op (kind_of ks a) (kind_of ks b) = rw (l.1, r.1) refl in
     ((l.0, r.0, same_true _ _ t h.2), k)
 filled_typed js fs ks (Marked op a) all h =
@@ -67,7 +67,7 @@ filled_typed js fs ks (Marked op a) all h =
 filled_typed js fs ks (Complement a) all h = filled_typed js fs ks a all h
 filled_typed js fs ks (Identity a) all h =
     let l = filled_typed js fs ks a all h.0 in
-    ((l.0, same_true _ _ (ap is_set l.1) h.1), ap narrowed l.1)
+    ((l.0, same_true _ _ (ap is_set_kind l.1) h.1), ap narrowed l.1)
 
 pub typed_all_known : (js : List Kind) (fs : List Formula) (ks : List Kind) → AreTyped js fs ks
     → AreKnownKinds ks
@@ -204,7 +204,7 @@ module _ (ss : List Sense) (names : List Naming) (ps : List (List ℕ)) (ks : Li
         let inner = or_parts (clashes_in ss names ps ks a) (clashes_in ss names ps ks b) outer.0 in
         let l = body_typed a faults.0 inner.0 in
         let r = body_typed b faults.1 inner.1 in
-        let k : joined op (kind_of_body ss names ps ks a) (kind_of_body ss names ps ks b) ≡ joined op (kind_of ks (formula_in ss names ps a)) (kind_of ks (formula_in ss names ps b)) = rw (l.1, r.1) refl in
+        let k : joined_kind op (kind_of_body ss names ps ks a) (kind_of_body ss names ps ks b) ≡ joined_kind op (kind_of ks (formula_in ss names ps a)) (kind_of ks (formula_in ss names ps b)) = rw (l.1, r.1) refl in
         let t : takes op (kind_of ks (formula_in ss names ps a)) (kind_of ks (formula_in ss names ps b)) ≡ takes op (kind_of_body ss names ps ks a) (kind_of_body ss names ps ks b) = rw (l.1, r.1) refl in
         ((l.0, r.0, same_true _ _ t (not_true _ outer.1)), k)
     body_typed (Mark op a) e c =
@@ -213,9 +213,9 @@ module _ (ss : List Sense) (names : List Naming) (ps : List (List ℕ)) (ks : Li
         ((l.0, same_true _ _ (ap is_relation (sym l.1)) (not_true _ both.1)), ap marked l.1)
     body_typed (Not a) e c = body_typed a e c
     body_typed (On a) e c =
-        let both = or_parts (clashes_in ss names ps ks a) (not (is_set (kind_of_body ss names ps ks a))) c in
+        let both = or_parts (clashes_in ss names ps ks a) (not (is_set_kind (kind_of_body ss names ps ks a))) c in
         let l = body_typed a e both.0 in
-        ((l.0, same_true _ _ (ap is_set (sym l.1)) (not_true _ both.1)), ap narrowed l.1)
+        ((l.0, same_true _ _ (ap is_set_kind (sym l.1)) (not_true _ both.1)), ap narrowed l.1)
     body_typed (Apply x ts) e c =
         let faults = none_first (apply_fault (parameter_of (reverse ps) x) (sense_of ss (count_of ts) (found names x))) (first_of_bodies ss names ps ts) e in
         let f = seen_function ss names ps (count_of ts) x (parameter_of (reverse ps) x) (sense_of ss (count_of ts) (found names x)) refl refl faults.0 in

@@ -8,7 +8,7 @@ use Rattle.binding_kinds.specs.declared.signature.Signature.{Signature}
 use Rattle.binding_kinds.specs.declared.column.Gathered.{Gathered}
 use Rattle.binding_kinds.specs.declared.function.Function.{Function}
 use Rattle.binding_kinds.specs.Value.{Naming}
-use Rattle.binding_kinds.specs.Kinds.{joined, takes, marked, narrowed, is_relation, is_set}
+use Rattle.binding_kinds.specs.Kinds.{joined_kind, takes, marked, narrowed, is_relation, is_set_kind}
 use Rattle.binding_kinds.specs.Combinations.{digit, kinds_number, has_any, unknown}
 use Rattle.binding_kinds.specs.Senses.{Sense}
 use Rattle.binding_kinds.specs.Functions.{kind_of_body, clashes_in, kinds_of_body, clash_among}
@@ -24,18 +24,18 @@ pub record IsFilled {X : Type 0} (other : X) (arity n : ℕ) (made : List Kind �
 abbrev pub plain : Kind → Signature
 plain k = record { kind = k; clashes = false }
 
-abbrev pub of_infix : Infix → Signature → Signature → Signature
-of_infix op s t =
+abbrev pub infix_signature : Infix → Signature → Signature → Signature
+infix_signature op s t =
     record {
-      kind = joined op s.kind t.kind;
+      kind = joined_kind op s.kind t.kind;
       clashes = s.clashes || t.clashes || not (takes op s.kind t.kind);
     }
 
-abbrev pub of_postfix : Signature → Signature
-of_postfix s = record { kind = marked s.kind; clashes = s.clashes || not (is_relation s.kind) }
+abbrev pub postfix_signature : Signature → Signature
+postfix_signature s = record { kind = marked s.kind; clashes = s.clashes || not (is_relation s.kind) }
 
-abbrev pub of_identity : Signature → Signature
-of_identity s = record { kind = narrowed s.kind; clashes = s.clashes || not (is_set s.kind) }
+abbrev pub identity_signature : Signature → Signature
+identity_signature s = record { kind = narrowed s.kind; clashes = s.clashes || not (is_set_kind s.kind) }
 
 -- no argument yet
 abbrev pub none_gathered : Gathered

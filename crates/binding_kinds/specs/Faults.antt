@@ -9,7 +9,7 @@ use Rattle.binding_kinds.specs.declared.scope.Found.{Found}
 use Rattle.binding_kinds.specs.declared.scope.Binder.{Binder}
 use Rattle.binding_kinds.specs.declared.scope.Binder.TheVariants as binders
 use Rattle.binding_kinds.specs.Value.{Naming, Bound, BareItem, Group, Check, Mute, Defined}
-use Rattle.binding_kinds.specs.Kinds.{found, takes, is_relation, is_set, is_turned, takes_body}
+use Rattle.binding_kinds.specs.Kinds.{found, takes, is_relation, is_set_kind, is_turned, takes_body}
 use Rattle.binding_kinds.specs.Meanings.{parameter_of}
 use Rattle.binding_kinds.specs.Senses.{Sense, size_with, sense_of, count_of, sizes_in, kind_in, kinds_in, under_of}
 use Rattle.binding_kinds.specs.Functions.{sense_of_function}
@@ -73,7 +73,7 @@ abbrev mutual
   IsFaultAt ss names from under (Not a) index k =
       (after : ℕ) × (index ≡ 1 + after) × IsFaultAt ss names from true a after k
   IsFaultAt ss names from under (On a) index k =
-      ((index ≡ 0) × IsFalse (is_set (kind_in ss names a)) × (k ≡ faults.Kind))
+      ((index ≡ 0) × IsFalse (is_set_kind (kind_in ss names a)) × (k ≡ faults.Kind))
       ⊎ ((after : ℕ) × (index ≡ 1 + after) × IsFaultAt ss names from under a after k)
   IsFaultAt ss names from under (Apply x arguments) index k =
       let f = sense_of ss (count_of arguments) (found names x) in
@@ -220,12 +220,12 @@ IsFaultOfItem ss names item (Defined n ps b) index k =
 
 -- Of the items, the first of which has the number `from`, the one that many behind the first has
 -- this fault at this index.
-abbrev pub IsFault : List Sense → List Naming → ℕ → List BareItem → ℕ → ℕ → ModelFault → Type 0
-IsFault ss names from [] item index k = ⊥
-IsFault ss names from (c ∷ cs) item index k =
+abbrev pub IsFaultBehind : List Sense → List Naming → ℕ → List BareItem → ℕ → ℕ → ModelFault → Type 0
+IsFaultBehind ss names from [] item index k = ⊥
+IsFaultBehind ss names from (c ∷ cs) item index k =
     ((item ≡ 0) × IsFaultOfItem ss names from c index k)
     ⊎ ((after : ℕ) × (item ≡ 1 + after)
-    × IsFault (senses_after ss names c) (names_after ss names from c) (from + 1) cs after index
+    × IsFaultBehind (senses_after ss names c) (names_after ss names from c) (from + 1) cs after index
     k)
 
 -- which fault is answered at one index
@@ -253,9 +253,9 @@ pub record FirstFault (ss : List Sense) (names : List Naming) (from : ℕ) (item
     (k : ModelFault) : Type 0 where
   pub item : ℕ
   pub index : ℕ
-  pub there : IsFault ss names from items item index k
-  pub none_before : (i p : ℕ) (l : ModelFault) → IsFault ss names from items i p l
+  pub there : IsFaultBehind ss names from items item index k
+  pub none_before : (i p : ℕ) (l : ModelFault) → IsFaultBehind ss names from items i p l
       → (item < i) ⊎ ((item ≡ i) × IsFaultNoLater index k p l)
 
 abbrev pub HasNoFault : List Sense → List Naming → ℕ → List BareItem → Type 0
-HasNoFault ss names from items = (i p : ℕ) (l : ModelFault) → IsFault ss names from items i p l → ⊥
+HasNoFault ss names from items = (i p : ℕ) (l : ModelFault) → IsFaultBehind ss names from items i p l → ⊥

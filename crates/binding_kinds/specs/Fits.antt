@@ -8,7 +8,7 @@ use Rattle.binding_kinds.specs.declared.scope.Found.{Found}
 use Rattle.binding_kinds.specs.declared.scope.Binder.{Binder}
 use Rattle.binding_kinds.specs.declared.scope.Binder.TheVariants as binders
 use Rattle.binding_kinds.specs.Value.{Naming, Bound}
-use Rattle.binding_kinds.specs.Kinds.{found, takes, joined, marked, narrowed, is_relation, is_set}
+use Rattle.binding_kinds.specs.Kinds.{found, takes, joined_kind, marked, narrowed, is_relation, is_set_kind}
 use Rattle.binding_kinds.specs.Formula.{Formula, Value, Parameter, Everything, NoPairs, NoEvents, Joined, Marked, Complement, Identity}
 use Rattle.binding_kinds.specs.Senses.{Sense, sense_of, count_of, size_with, sizes_in, kind_in, kinds_in}
 
@@ -35,7 +35,7 @@ kind_of ks (Parameter index) = get_or ks index OfAny
 kind_of ks Everything = OfSet
 kind_of ks NoPairs = OfRelation
 kind_of ks NoEvents = OfSet
-kind_of ks (Joined op a b) = joined op (kind_of ks a) (kind_of ks b)
+kind_of ks (Joined op a b) = joined_kind op (kind_of ks a) (kind_of ks b)
 kind_of ks (Marked op a) = marked (kind_of ks a)
 kind_of ks (Complement a) = kind_of ks a
 kind_of ks (Identity a) = narrowed (kind_of ks a)
@@ -52,7 +52,7 @@ IsTyped ks (Joined op a b) =
     IsTyped ks a × IsTyped ks b × IsTrue (takes op (kind_of ks a) (kind_of ks b))
 IsTyped ks (Marked op a) = IsTyped ks a × IsTrue (is_relation (kind_of ks a))
 IsTyped ks (Complement a) = IsTyped ks a
-IsTyped ks (Identity a) = IsTyped ks a × IsTrue (is_set (kind_of ks a))
+IsTyped ks (Identity a) = IsTyped ks a × IsTrue (is_set_kind (kind_of ks a))
 
 abbrev pub AreKnownKinds : List Kind → Type 0
 AreKnownKinds [] = Unit {0}
@@ -89,7 +89,7 @@ abbrev mutual
       × IsTrue (takes op (kind_in ss names a) (kind_in ss names b))
   IsFit ss names (Mark op a) = IsFit ss names a × IsTrue (is_relation (kind_in ss names a))
   IsFit ss names (Not a) = IsFit ss names a
-  IsFit ss names (On a) = IsFit ss names a × IsTrue (is_set (kind_in ss names a))
+  IsFit ss names (On a) = IsFit ss names a × IsTrue (is_set_kind (kind_in ss names a))
   IsFit ss names (Apply x arguments) =
       IsFitApplied (sense_of ss (count_of arguments) (found names x)) (sizes_in ss names arguments)
       (kinds_in ss names arguments)

@@ -8,7 +8,7 @@ use Rattle.binding_kinds.specs.declared.scope.Found.{Found}
 use Rattle.binding_kinds.specs.declared.scope.Binder.{Binder}
 use Rattle.binding_kinds.specs.declared.scope.Binder.TheVariants as binders
 use Rattle.binding_kinds.specs.Value.{Naming}
-use Rattle.binding_kinds.specs.Kinds.{found, kind_found, joined, marked, narrowed, takes, is_relation, is_set, is_turned}
+use Rattle.binding_kinds.specs.Kinds.{found, kind_found, joined_kind, marked, narrowed, takes, is_relation, is_set_kind, is_turned}
 use Rattle.binding_kinds.specs.Combinations.{has_any}
 use Rattle.binding_kinds.specs.Meanings.{parameter_of}
 use Rattle.binding_kinds.specs.Formula.{Formula, Value, Parameter, Everything, NoPairs, NoEvents, Joined, Marked, Complement, Identity, filled}
@@ -55,7 +55,7 @@ abbrev mutual
   kind_of_body ss names ps ks EmptyRelation = OfRelation
   kind_of_body ss names ps ks EmptySet = OfSet
   kind_of_body ss names ps ks (Join op a b) =
-      joined op (kind_of_body ss names ps ks a) (kind_of_body ss names ps ks b)
+      joined_kind op (kind_of_body ss names ps ks a) (kind_of_body ss names ps ks b)
   kind_of_body ss names ps ks (Mark op a) = marked (kind_of_body ss names ps ks a)
   kind_of_body ss names ps ks (Not a) = kind_of_body ss names ps ks a
   kind_of_body ss names ps ks (On a) = narrowed (kind_of_body ss names ps ks a)
@@ -82,7 +82,7 @@ abbrev mutual
       clashes_in ss names ps ks a || not (is_relation (kind_of_body ss names ps ks a))
   clashes_in ss names ps ks (Not a) = clashes_in ss names ps ks a
   clashes_in ss names ps ks (On a) =
-      clashes_in ss names ps ks a || not (is_set (kind_of_body ss names ps ks a))
+      clashes_in ss names ps ks a || not (is_set_kind (kind_of_body ss names ps ks a))
   clashes_in ss names ps ks (Apply x ts) =
       clash_of_sense (sense_seen ss names ps (count_of ts) x) (clash_among ss names ps ks ts)
       (kinds_of_body ss names ps ks ts)

@@ -17,10 +17,10 @@ found (n ∷ ns) x =
     if bytes_eq n.name x then Some (record { slot = length ns; kind = n.kind; binder = n.binder })
     else found ns x
 
-abbrev pub is_set : Kind → Bool
-is_set OfSet = true
-is_set OfRelation = false
-is_set OfAny = true
+abbrev pub is_set_kind : Kind → Bool
+is_set_kind OfSet = true
+is_set_kind OfRelation = false
+is_set_kind OfAny = true
 
 abbrev pub is_relation : Kind → Bool
 is_relation OfSet = false
@@ -29,7 +29,7 @@ is_relation OfAny = true
 
 -- two of one kind, or one that fits every kind
 abbrev pub are_alike : Kind → Kind → Bool
-are_alike OfSet k = is_set k
+are_alike OfSet k = is_set_kind k
 are_alike OfRelation k = is_relation k
 are_alike OfAny k = true
 
@@ -39,7 +39,7 @@ takes Union k l = are_alike k l
 takes Intersection k l = are_alike k l
 takes Difference k l = are_alike k l
 takes Sequence k l = is_relation k && is_relation l
-takes Product k l = is_set k && is_set l
+takes Product k l = is_set_kind k && is_set_kind l
 
 -- what fits every kind is passed on
 abbrev pub unless_any : Kind → Kind → Kind
@@ -55,8 +55,8 @@ made Difference k = k
 made Sequence k = OfRelation
 made Product k = OfRelation
 
-abbrev pub joined : Infix → Kind → Kind → Kind
-joined op k l = if takes op k l then unless_any k (unless_any l (made op k)) else OfAny
+abbrev pub joined_kind : Infix → Kind → Kind → Kind
+joined_kind op k l = if takes op k l then unless_any k (unless_any l (made op k)) else OfAny
 
 -- the kind of a closure of an operand of this kind
 abbrev pub marked : Kind → Kind

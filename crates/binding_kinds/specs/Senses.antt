@@ -11,7 +11,7 @@ use Rattle.binding_kinds.specs.declared.scope.Binder.{Binder}
 use Rattle.binding_kinds.specs.declared.scope.Binder.TheVariants as binders
 use Rattle.binding_kinds.specs.declared.function.Function.{Function}
 use Rattle.binding_kinds.specs.Value.{Naming}
-use Rattle.binding_kinds.specs.Kinds.{found, kind_found, joined, marked, narrowed, takes, is_relation, is_set, is_turned}
+use Rattle.binding_kinds.specs.Kinds.{found, kind_found, joined_kind, marked, narrowed, takes, is_relation, is_set_kind, is_turned}
 use Rattle.binding_kinds.specs.Combinations.{kinds_number, unknown}
 use Rattle.binding_kinds.specs.Formula.{Formula, constant_of, factor_of, HasParameters, postfix}
 use Rattle.binding_kinds.specs.Verdict.{or_else, unless, of_name}
@@ -91,7 +91,7 @@ abbrev mutual
   kind_in ss names AllEvents = OfSet
   kind_in ss names EmptyRelation = OfRelation
   kind_in ss names EmptySet = OfSet
-  kind_in ss names (Join op a b) = joined op (kind_in ss names a) (kind_in ss names b)
+  kind_in ss names (Join op a b) = joined_kind op (kind_in ss names a) (kind_in ss names b)
   kind_in ss names (Mark op a) = marked (kind_in ss names a)
   kind_in ss names (Not a) = kind_in ss names a
   kind_in ss names (On a) = narrowed (kind_in ss names a)
@@ -132,7 +132,7 @@ abbrev mutual
       (unless (is_relation (kind_in ss names a)) faults.Kind)
   term_fault ss names from under (Not a) = term_fault ss names from true a
   term_fault ss names from under (On a) =
-      or_else (unless (is_set (kind_in ss names a)) faults.Kind)
+      or_else (unless (is_set_kind (kind_in ss names a)) faults.Kind)
       (term_fault ss names from under a)
   term_fault ss names from under (Apply x arguments) =
       let f = sense_of ss (count_of arguments) (found names x) in

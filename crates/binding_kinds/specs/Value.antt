@@ -28,11 +28,11 @@ pub record Naming : Type 0 where
   pub kind : Kind
   pub binder : Binder
 
-abbrev pub bound_of : code_binding.Binding → Bound
-bound_of b = record { name = b.name; body = term_of b.body }
+abbrev pub bound_value_of : code_binding.Binding → Bound
+bound_value_of b = record { name = b.name; body = term_of b.body }
 
 abbrev pub bare_item : code_item.Item → BareItem
-bare_item (items.Let r g) = Group r (map bound_of g.items)
+bare_item (items.Let r g) = Group r (map bound_value_of g.items)
 bare_item (items.Function n ps b) = Defined n ps.items (term_of b)
 bare_item (items.Check c l) = Check c.word (term_of c.body)
 bare_item (items.Flag c l) = Check c.word (term_of c.body)

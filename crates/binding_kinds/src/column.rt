@@ -5,7 +5,7 @@ ghost use Rattle.std.specs.Prelude.{◌≡◌, ℕ, ◌<◌, ◌≤◌, ◌^◌,
 ghost use Rattle.binding_kinds.specs.declared.kinds.Kind.{Kind};
 ghost use Rattle.binding_kinds.specs.declared.signature.Signature.{Signature};
 ghost use Rattle.binding_kinds.specs.Combinations.{kinds_number, unknown};
-ghost use Rattle.binding_kinds.specs.Columns.{IsFilled, plain, of_infix, of_postfix, of_identity, none_gathered, with_one, of_applied, of_function};
+ghost use Rattle.binding_kinds.specs.Columns.{IsFilled, plain, infix_signature, postfix_signature, identity_signature, none_gathered, with_one, of_applied, of_function};
 
 use crate::function::Function;
 use crate::judged::either;
@@ -70,7 +70,7 @@ pub fn parameter_column(
 
 /// What an infix operator makes.
 fn sign_infix(op: Infix, left: Signature, right: Signature) -> Signature
-    ensures { result ≡ of_infix op left right }
+    ensures { result ≡ infix_signature op left right }
 {
     Signature {
         kind: joined(op, left.kind, right.kind),
@@ -91,7 +91,7 @@ pub fn infix_column(
     ensures { (arity rows : ℕ) (first second : List Kind → Signature)
         → IsFilled unknown arity rows first left.now → IsFilled unknown arity rows second right.now
         → IfOk result (λ v. IsFilled unknown arity rows
-        (λ kinds. of_infix op (first kinds) (second kinds)) v.items) }
+        (λ kinds. infix_signature op (first kinds) (second kinds)) v.items) }
 {
     let mut column = Vec::new(alloc);
     for (combination, one) in left.iter().enumerate() {
@@ -102,7 +102,7 @@ pub fn infix_column(
 
 /// What a postfix operator makes.
 fn sign_postfix(inner: Signature) -> Signature
-    ensures { result ≡ of_postfix inner }
+    ensures { result ≡ postfix_signature inner }
 {
     Signature {
         kind: inner.kind.marked(),
@@ -115,7 +115,7 @@ pub fn postfix_column(alloc: Global, inner: &[Signature]) -> Result<Vec<Signatur
     ensures { (arity rows : ℕ) (operand : List Kind → Signature)
         → IsFilled unknown arity rows operand inner.now
         → IfOk result (λ v.
-        IsFilled unknown arity rows (λ kinds. of_postfix (operand kinds)) v.items) }
+        IsFilled unknown arity rows (λ kinds. postfix_signature (operand kinds)) v.items) }
 {
     let mut column = Vec::new(alloc);
     for one in inner {
@@ -126,7 +126,7 @@ pub fn postfix_column(alloc: Global, inner: &[Signature]) -> Result<Vec<Signatur
 
 /// What an identity makes.
 fn sign_identity(inner: Signature) -> Signature
-    ensures { result ≡ of_identity inner }
+    ensures { result ≡ identity_signature inner }
 {
     Signature {
         kind: inner.kind.narrowed(),
@@ -139,7 +139,7 @@ pub fn identity_column(alloc: Global, inner: &[Signature]) -> Result<Vec<Signatu
     ensures { (arity rows : ℕ) (operand : List Kind → Signature)
         → IsFilled unknown arity rows operand inner.now
         → IfOk result (λ v.
-        IsFilled unknown arity rows (λ kinds. of_identity (operand kinds)) v.items) }
+        IsFilled unknown arity rows (λ kinds. identity_signature (operand kinds)) v.items) }
 {
     let mut column = Vec::new(alloc);
     for one in inner {

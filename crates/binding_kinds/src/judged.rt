@@ -2,7 +2,7 @@
 //! first fault.
 
 ghost use Rattle.std.specs.Prelude.{◌≡◌, ◌+◌, ◌*◌, ◌^◌, ◌<◌, ◌≤◌, get_or, Some, None, true, false, not, ◌||◌};
-ghost use Rattle.binding_kinds.specs.Kinds.{kind_found, joined, takes, marked, narrowed, is_set, is_relation};
+ghost use Rattle.binding_kinds.specs.Kinds.{kind_found, joined_kind, takes, marked, narrowed, is_set_kind, is_relation};
 ghost use Rattle.binding_kinds.specs.Verdict.{or_else, unless, of_name, of_slot};
 ghost use Rattle.binding_kinds.specs.Combinations.{digit, unknown};
 ghost use Rattle.binding_kinds.specs.Senses.{IsSameSize};
@@ -128,7 +128,7 @@ fn recursive_fault(from: usize, under: bool, slot: usize) -> Option<ModelFault>
 /// What an infix operator makes.
 pub fn judged_infix(op: Infix, first: Judged, second: Judged) -> Judged
     ensures size { IsSameSize result.size (first.size + second.size + 1) }
-    ensures kind { result.kind ≡ joined op first.kind second.kind }
+    ensures kind { result.kind ≡ joined_kind op first.kind second.kind }
     ensures fault { result.fault
         ≡ or_else first.fault (or_else (unless (takes op first.kind second.kind) ModelFault.Kind)
         second.fault) }
@@ -174,7 +174,7 @@ pub fn judged_identity(inner: Judged) -> Judged
     ensures size { IsSameSize result.size (inner.size + 1) }
     ensures kind { result.kind ≡ narrowed inner.kind }
     ensures fault { result.fault
-        ≡ or_else (unless (is_set inner.kind) ModelFault.Kind) inner.fault }
+        ≡ or_else (unless (is_set_kind inner.kind) ModelFault.Kind) inner.fault }
 {
     let here = unless(inner.kind.is_set(), ModelFault::Kind);
     Judged {

@@ -1,7 +1,7 @@
 //! The kinds and the first fault of expressions, and the faults of names that are bound.
 
 ghost use Rattle.std.specs.Prelude.{◌≡◌, [], List, reverse, map, Ok, Err, MatchResult};
-ghost use Rattle.binding_kinds.specs.Value.{Naming, entry_of, bound_of};
+ghost use Rattle.binding_kinds.specs.Value.{Naming, entry_of, bound_value_of};
 ghost use Rattle.binding_kinds.specs.Kinds.{found};
 ghost use Rattle.binding_kinds.specs.Verdict.{is_seen, of_parameter, of_parameters};
 ghost use Rattle.binding_kinds.specs.First.{let_fault};
@@ -128,8 +128,9 @@ pub fn binding_fault(
     binding: &Binding,
 ) -> Option<ModelFault>
     ensures { (senses : List Sense) → (names : List Naming)
-        → body ≡ kind_in senses names (bound_of binding.now).body
-        → result ≡ let_fault senses names recursive (let_names before.now) (bound_of binding.now) }
+        → body ≡ kind_in senses names (bound_value_of binding.now).body
+        → result ≡ let_fault senses names recursive (let_names before.now)
+        (bound_value_of binding.now) }
 {
     if is_seen(before, &binding.name) {
         return Some(ModelFault::Duplicate);

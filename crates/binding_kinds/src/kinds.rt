@@ -1,7 +1,7 @@
 //! The kinds of expressions.
 
 ghost use Rattle.std.specs.Prelude.{◌≡◌};
-ghost use Rattle.binding_kinds.specs.Kinds.{joined, takes, marked, narrowed, is_set, is_relation, takes_body, is_turned};
+ghost use Rattle.binding_kinds.specs.Kinds.{joined_kind, takes, marked, narrowed, is_set_kind, is_relation, takes_body, is_turned};
 ghost use Rattle.binding_kinds.specs.Combinations.{is_any};
 
 use text_values::{CheckWord, Infix};
@@ -21,7 +21,7 @@ pub enum Kind {
 impl Kind {
     /// Whether it may stand where a set is wanted.
     pub fn is_set(self) -> bool
-        ensures { result ≡ is_set self }
+        ensures { result ≡ is_set_kind self }
     {
         match self {
             Kind::OfSet => true,
@@ -92,7 +92,7 @@ pub fn takes(op: Infix, left: Kind, right: Kind) -> bool
 
 /// The kind of what the operator makes.
 pub(crate) fn joined(op: Infix, left: Kind, right: Kind) -> Kind
-    ensures { result ≡ joined op left right }
+    ensures { result ≡ joined_kind op left right }
 {
     if !takes(op, left, right) {
         return Kind::OfAny;

@@ -19,7 +19,7 @@ use Rattle.binding_kinds.specs.Faults.{names_after, with_own}
 use Rattle.binding_graph.specs.declared.resolved.ResolvedItem.{ResolvedItem}
 use Rattle.binding_graph.specs.Resolved.{IsResolvedIn}
 use Rattle.binding_graph.specs.Usages.{Usage}
-use Rattle.binding_laws.specs.ItemLaws.{Scope, with_names, Sight, Matching, IsSameFound, SayTheSame, first_scope, own_at, functions_before, IsFunctionAlike, IsNamedAlike, IsNamedAlikeIn, IsNamedAlikeAt, HasAlikeFunctions, IsItemAt, IsResolvedAlike, sight_at, seeing}
+use Rattle.binding_laws.specs.ItemLaws.{Scope, scope_with_names, Sight, Matching, IsSameFound, SayTheSame, first_scope, own_at, functions_before, IsFunctionAlike, IsNamedAlike, IsNamedAlikeIn, IsNamedAlikeAt, HasAlikeFunctions, IsItemAt, IsResolvedAlike, sight_at, seeing}
 use Rattle.binding_laws.specs.Reread.{ReadModel, HasNumber, outer_namings, IsReadModel, AreInOneOrder, IsItemOf, seen_input, seen_function, UseTheSame, ItemsAreReadAgain}
 use Rattle.binding_laws.proofs.AlikeTexts.{alike_by}
 use Rattle.binding_laws.proofs.Lists.{partners, partners_are}
@@ -213,18 +213,18 @@ module _ (ps : List Predefined) (m w : ReadModel) (well : IsReadModel (outer_nam
             absurd (no_function a _ (sym fa ∙ sym (ap (λ (y : Found). y.binder) left)))
         at_name (inr o) = (sym o.left ∙ h, sym o.right ∙ e)
 
-    own_same : (t : Term) → HasNames (with_names (in_m k) own_m) [] t
-        → HasNames (with_names (in_w l) own_w) [] t
+    own_same : (t : Term) → HasNames (scope_with_names (in_m k) own_m) [] t
+        → HasNames (scope_with_names (in_w l) own_w) [] t
         → AreKept P Q (in_m k).usages own_m [] (start names m.items k) t
         → AreKept R T (in_w l).usages own_w [] (start names w.items l) t
         → IsNamedAlike M (seeing (sight_m k) own_m) (seeing (sight_w l) own_w) [] t
     own_same t h g kept more =
         term_alike M (functions_before 0 m.items k) (functions_before 0 w.items l)
-        (with_names (in_m k) own_m) (with_names (in_w l) own_w) P R Q T []
+        (scope_with_names (in_m k) own_m) (scope_with_names (in_w l) own_w) P R Q T []
         (start names m.items k) (start names w.items l) own_values functions t h g kept more
       where
         functions : AreSameFunctions M (functions_before 0 m.items k) (functions_before 0 w.items l)
-            (with_names (in_m k) own_m) (with_names (in_w l) own_w) P R Q T []
+            (scope_with_names (in_m k) own_m) (scope_with_names (in_w l) own_w) P R Q T []
             (start names m.items k) (start names w.items l)
         functions n x a b q t =
             let outer = applied_outer x a.now b.now a.at b.at a.there b.there a.binder b.binder in
@@ -290,8 +290,8 @@ module _ (ps : List Predefined) (m w : ReadModel) (well : IsReadModel (outer_nam
 
     -- of all bodies of the group, these
     own_bodies : (all : List Bound) (few : length all ≤ count) (bs : List Bound)
-        → Each (λ b. HasNames (with_names (in_m k) (with_own (in_m k).names k 0 all)) [] b.body) bs
-        → Each (λ b. HasNames (with_names (in_w l) (with_own (in_w l).names l 0 all)) [] b.body) bs
+        → Each (λ b. HasNames (scope_with_names (in_m k) (with_own (in_m k).names k 0 all)) [] b.body) bs
+        → Each (λ b. HasNames (scope_with_names (in_w l) (with_own (in_w l).names l 0 all)) [] b.body) bs
         → Each
         (λ b. AreKept P Q (in_m k).usages (with_own (in_m k).names k 0 all) []
         (start names m.items k) b.body) bs

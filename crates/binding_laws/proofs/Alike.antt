@@ -10,7 +10,7 @@ use Rattle.binding_kinds.specs.declared.scope.Binder.{Binder}
 use Rattle.binding_kinds.specs.declared.scope.Binder.TheVariants as binders
 use Rattle.binding_kinds.specs.declared.scope.Found.{Found}
 use Rattle.binding_kinds.specs.Value.{Naming}
-use Rattle.binding_kinds.specs.Kinds.{found, kind_found, joined, marked, narrowed}
+use Rattle.binding_kinds.specs.Kinds.{found, kind_found, joined_kind, marked, narrowed}
 use Rattle.binding_kinds.specs.Meanings.{parameter_of}
 use Rattle.binding_kinds.specs.Formula.{Formula, Value, Parameter, Everything, NoPairs, NoEvents, Joined, Marked, Complement, Identity, filled, constant_of, factor_of}
 use Rattle.binding_kinds.specs.Senses.{Sense, sense_of, size_of_arguments, size_with, size_applied, kind_applied, size_in, sizes_in, kind_in, kinds_in, count_of}
@@ -269,7 +269,7 @@ module _ (p : Pairing) where
       kind_same AllEvents h = refl
       kind_same EmptyRelation h = refl
       kind_same EmptySet h = refl
-      kind_same (Join op a b) h = λ i. joined op (kind_same a h.0 i) (kind_same b h.1 i)
+      kind_same (Join op a b) h = λ i. joined_kind op (kind_same a h.0 i) (kind_same b h.1 i)
       kind_same (Mark op a) h = λ i. marked (kind_same a h i)
       kind_same (Not a) h = kind_same a h
       kind_same (On a) h = λ i. narrowed (kind_same a h i)

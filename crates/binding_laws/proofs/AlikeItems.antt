@@ -9,7 +9,7 @@ use Rattle.text_values.specs.ModelValue.{Term}
 use Rattle.text_values.specs.ModelValues.{term_of}
 use Rattle.binding_kinds.specs.declared.scope.Input.{Input}
 use Rattle.binding_kinds.specs.declared.scope.Used.{Used}
-use Rattle.binding_kinds.specs.Value.{Bound, bound_of}
+use Rattle.binding_kinds.specs.Value.{Bound, bound_value_of}
 use Rattle.binding_kinds.specs.Senses.{kind_in}
 use Rattle.binding_kinds.specs.Functions.{formula_in}
 use Rattle.binding_graph.specs.declared.resolved.Body.{Body}
@@ -145,13 +145,13 @@ pub alike_items : (x : Item) → IsAlike x
 alike_items (items.Let true g) p s o own other from start r q pairing alike h k =
     let left : Scope = record { senses = s.senses; usages = s.usages; names = own } in
     let right : Scope = record { senses = o.senses; usages = o.usages; names = other } in
-    let bs = map bound_of g.items in (
+    let bs = map bound_value_of g.items in (
       group_same p from start pairing left right true bs r.role q.role alike h.0.0 k.0.0,
       uses_same p from start pairing r q _ _ _ _
           (all_used_same p from start pairing left right [] [] bs alike tt) h.0.1 k.0.1,
     )
 alike_items (items.Let false g) p s o own other from start r q pairing alike h k =
-    let bs = map bound_of g.items in (
+    let bs = map bound_value_of g.items in (
       group_same p from start pairing s o false bs r.role q.role alike h.0.0 k.0.0,
       uses_same p from start pairing r q _ _ _ _
           (all_used_same p from start pairing s o [] [] bs alike tt) h.0.1 k.0.1,

@@ -6,7 +6,7 @@ use Rattle.text_values.specs.declared.model.Item.TheVariants as items
 use Rattle.text_values.specs.declared.model.ModelText.{ModelText}
 use Rattle.binding_kinds.specs.Value.{Naming, BareItem, bare_item}
 use Rattle.binding_graph.specs.declared.resolved.ResolvedItem.{ResolvedItem}
-use Rattle.binding_graph.specs.Resolved.{IsResolvedIn, AreResolved, IsLabelled, IsLabelledAs, AreLabelled}
+use Rattle.binding_graph.specs.Resolved.{IsResolvedIn, AreResolved, IsLabelled, IsLabelledAs, AreLabelledAs}
 use Rattle.binding_laws.specs.ItemLaws.{Scope, Pairing, IsItem, IsItemAt, HasSameNamesAt, DoTheSame, label_of, SayTheSame, scope_after, scope_at, own_at, first_scope, HaveAlikeItems}
 use Rattle.binding_laws.proofs.AlikeItems.{alike_items}
 
@@ -44,7 +44,7 @@ item_moved s own from x y r e h = (
 
 pub item_at : (s : Scope) (at : ℕ) (xs : List Item) (rs : List ResolvedItem) (k : ℕ) (x : Item)
     (r : ResolvedItem) → AreResolved s.senses s.usages s.names at (map bare_item xs) rs
-    → AreLabelled xs rs → slice_get xs k ≡ Some x → slice_get rs k ≡ Some r
+    → AreLabelledAs xs rs → slice_get xs k ≡ Some x → slice_get rs k ≡ Some r
     → IsItem (scope_at s at xs k) (own_at s at xs k) (length (scope_at s at xs k).names) x r
 item_at s at [] rs k x r h l is_x is_r = absurd (let n : None ≡ Some x = is_x in cc)
 item_at s at (y ∷ ys) [] k x r h l is_x is_r = absurd h

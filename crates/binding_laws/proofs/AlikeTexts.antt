@@ -19,7 +19,7 @@ use Rattle.binding_kinds.specs.Senses.{Sense, sense_of, sense_of_binder, with_ar
 use Rattle.binding_kinds.specs.Functions.{sense_seen, sense_of_function}
 use Rattle.binding_graph.specs.declared.resolved.ResolvedItem.{ResolvedItem}
 use Rattle.binding_graph.specs.Usages.{Usage, usage_at, values_of, usage_of_function}
-use Rattle.binding_laws.specs.ItemLaws.{Scope, Sight, Matching, Pairing, IsSameSense, IsSameFunction, AreSameUsed, HasSameNames, HaveSameNames, HasSameNamesIn, with_names, first_scope, scope_at, own_at, functions_before, IsFunctionAlike, IsAppliedAlike, IsNamedAlike, AreNamedAlike, IsNamedAlikeIn, IsNamedAlikeAt, HasAlikeFunctions, IsItemAt, SayTheSame, DoTheSame, IsResolvedAlike, HaveItemsAlikeByText}
+use Rattle.binding_laws.specs.ItemLaws.{Scope, Sight, Matching, Pairing, IsSameSense, IsSameFunction, AreSameUsed, HasSameNames, HaveSameNames, HasSameNamesIn, scope_with_names, first_scope, scope_at, own_at, functions_before, IsFunctionAlike, IsAppliedAlike, IsNamedAlike, AreNamedAlike, IsNamedAlikeIn, IsNamedAlikeAt, HasAlikeFunctions, IsItemAt, SayTheSame, DoTheSame, IsResolvedAlike, HaveItemsAlikeByText}
 use Rattle.binding_laws.proofs.Using.{IsOne}
 use Rattle.binding_laws.proofs.Applied.{alike_sense, alike_usage}
 use Rattle.binding_laws.proofs.AlikeModels.{alike_at}
@@ -236,7 +236,7 @@ item_same : (m : Matching) (is js : List ℕ) (s o : Scope) → SeesSame m is js
     (record { functions = js; names = o.names }) own other c
     → HasSameNamesIn m.pairing s o own other c
 item_same m is js s o same own other (Group true bs) h =
-    bounds_same m is js (with_names s own) (with_names o other) same bs h
+    bounds_same m is js (scope_with_names s own) (scope_with_names o other) same bs h
 item_same m is js s o same own other (Group false bs) h = bounds_same m is js s o same bs h
 item_same m is js s o same own other (Check w e) h = names_same m is js s o same [] e h
 item_same m is js s o same own other Mute h = tt

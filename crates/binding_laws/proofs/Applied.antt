@@ -11,7 +11,7 @@ use Rattle.binding_kinds.specs.declared.scope.Found.{Found}
 use Rattle.binding_kinds.specs.declared.scope.Used.{Used}
 use Rattle.binding_kinds.specs.Value.{Naming}
 use Rattle.binding_kinds.specs.Combinations.{has_any}
-use Rattle.binding_kinds.specs.Kinds.{found, kind_found, joined, marked, narrowed}
+use Rattle.binding_kinds.specs.Kinds.{found, kind_found, joined_kind, marked, narrowed}
 use Rattle.binding_kinds.specs.Meanings.{parameter_of}
 use Rattle.binding_kinds.specs.Senses.{Sense, sense_of, count_of}
 use Rattle.binding_kinds.specs.Functions.{with_parameters, sense_seen, kind_of_sense, kind_of_body, kinds_of_body, sense_of_function}
@@ -102,7 +102,7 @@ module _ (p : Pairing) (s o : Scope) (ps : List (List ℕ)) (ks : List Kind)
     body_kind_same EmptyRelation h = refl
     body_kind_same EmptySet h = refl
     body_kind_same (Join op a b) h =
-        λ i. joined op (body_kind_same a h.0 i) (body_kind_same b h.1 i)
+        λ i. joined_kind op (body_kind_same a h.0 i) (body_kind_same b h.1 i)
     body_kind_same (Mark op a) h = λ i. marked (body_kind_same a h i)
     body_kind_same (Not a) h = body_kind_same a h
     body_kind_same (On a) h = λ i. narrowed (body_kind_same a h i)

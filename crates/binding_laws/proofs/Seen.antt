@@ -19,7 +19,7 @@ use Rattle.binding_graph.specs.declared.resolved.Role.{Role}
 use Rattle.binding_graph.specs.declared.resolved.Role.TheVariants as roles
 use Rattle.binding_graph.specs.Resolved.{AreBodies, IsGroupRole, IsResolvedIn}
 use Rattle.binding_graph.specs.Usages.{Usage, with_values}
-use Rattle.binding_laws.specs.ItemLaws.{Scope, with_names, first_scope}
+use Rattle.binding_laws.specs.ItemLaws.{Scope, scope_with_names, first_scope}
 use Rattle.binding_laws.specs.Reread.{ReadModel, HasNumber, outer_namings, IsReadModel, SeenName, seen_body, bodies_of, seen_at}
 use Rattle.binding_laws.proofs.AlikeModels.{item_at}
 use Rattle.binding_laws.proofs.Lists.{each_reverse}
@@ -100,7 +100,7 @@ bounds_of (Defined n ps b) = []
 -- each name of an item stands for something of its sort: the bodies of a recursive group see its
 -- own names too
 abbrev pub HasNamesIn : Scope → List Naming → BareItem → Type 0
-HasNamesIn s own (Group true bs) = Each (λ b. HasNames (with_names s own) [] b.body) bs
+HasNamesIn s own (Group true bs) = Each (λ b. HasNames (scope_with_names s own) [] b.body) bs
 HasNamesIn s own (Group false bs) = Each (λ b. HasNames s [] b.body) bs
 HasNamesIn s own (Check w e) = HasNames s [] e
 HasNamesIn s own Mute = Unit {0}
@@ -110,7 +110,7 @@ sound_item : (s : Scope) (at : ℕ) (c : BareItem) → HasCounts s
     → ((i : ℕ) (k : ModelFault) → IsFaultOfItem s.senses s.names at c i k → ⊥)
     → HasNamesIn s (names_after s.senses s.names at c) c
 sound_item s at (Group true bs) counts none =
-    sound_group (with_names s (names_after s.senses s.names at (Group true bs))) counts
+    sound_group (scope_with_names s (names_after s.senses s.names at (Group true bs))) counts
     (length s.names) true [] bs none
 sound_item s at (Group false bs) counts none =
     sound_group s counts (length s.names) false [] bs none

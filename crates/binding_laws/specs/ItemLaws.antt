@@ -22,7 +22,7 @@ use Rattle.binding_kinds.specs.Faults.{names_after, senses_after}
 use Rattle.binding_kinds.specs.Functions.{sense_seen, sense_of_function}
 use Rattle.binding_graph.specs.declared.resolved.ResolvedItem.{ResolvedItem}
 use Rattle.binding_graph.specs.Usages.{Usage, values_of, usage_seen, usage_of_function, usages_after}
-use Rattle.binding_graph.specs.Resolved.{IsResolvedIn, AreResolved, IsLabelledAs, AreLabelled}
+use Rattle.binding_graph.specs.Resolved.{IsResolvedIn, AreResolved, IsLabelledAs, AreLabelledAs}
 use Rattle.binding_graph.specs.Contents.{role_content}
 
 -- what an expression sees: functions, what they use, and names
@@ -134,13 +134,13 @@ IsAlikeFunction p s o =
 
 -- ---- items
 
-abbrev pub with_names : Scope → List Naming → Scope
-with_names s names = record s { names = names }
+abbrev pub scope_with_names : Scope → List Naming → Scope
+scope_with_names s names = record s { names = names }
 
 -- each name of an item stands for the same: the bodies of a recursive group see its own names too
 abbrev pub HasSameNamesIn : Pairing → Scope → Scope → List Naming → List Naming → BareItem → Type 0
 HasSameNamesIn p s o own other (Group true bs) =
-    AllByRecursion (λ b. HasSameNames p (with_names s own) (with_names o other) [] b.body) bs
+    AllByRecursion (λ b. HasSameNames p (scope_with_names s own) (scope_with_names o other) [] b.body) bs
 HasSameNamesIn p s o own other (Group false bs) =
     AllByRecursion (λ b. HasSameNames p s o [] b.body) bs
 HasSameNamesIn p s o own other (Check w e) = HasSameNames p s o [] e
@@ -211,7 +211,7 @@ first_scope names = record { senses = []; usages = []; names = names }
 pub record IsItemAt (names : List Naming) (model : List Item) (resolved : List ResolvedItem)
     (index : ℕ) (x : Item) (r : ResolvedItem) : Type 0 where
   pub all : AreResolved [] [] names 0 (map bare_item model) resolved
-  pub labels : AreLabelled model resolved
+  pub labels : AreLabelledAs model resolved
   pub text : slice_get model index ≡ Some x
   pub item : slice_get resolved index ≡ Some r
 

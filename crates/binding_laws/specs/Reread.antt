@@ -15,7 +15,7 @@ use Rattle.binding_graph.specs.declared.resolved.ResolvedItem.{ResolvedItem}
 use Rattle.binding_graph.specs.declared.resolved.Role.{Role}
 use Rattle.binding_graph.specs.declared.resolved.Role.TheVariants as roles
 use Rattle.binding_graph.specs.Contents.{role_content}
-use Rattle.binding_graph.specs.Resolved.{AreResolved, AreLabelled}
+use Rattle.binding_graph.specs.Resolved.{AreResolved, AreLabelledAs}
 use Rattle.binding_laws.specs.ItemLaws.{SayTheSame}
 
 -- ---- models
@@ -43,7 +43,7 @@ pub record IsReadModel (names : List Naming) (m : ReadModel) : Type 0 where
   pub whole : length m.resolved ≡ length m.items
   pub no_fault : HasNoFault [] names 0 (map bare_item m.items)
   pub as_resolved : AreResolved [] [] names 0 (map bare_item m.items) m.resolved
-  pub labelled : AreLabelled m.items m.resolved
+  pub labelled : AreLabelledAs m.items m.resolved
 
 -- The items that both models have stand in one order. Without this the law would fail: of two items
 -- that bind one name the later is found.

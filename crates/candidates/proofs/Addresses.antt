@@ -24,8 +24,8 @@ use Rattle.thread_runs.specs.declared.instruction.Line.{Line}
 use Rattle.thread_runs.specs.declared.instruction.Line.TheVariants.{Label, Does}
 use Rattle.thread_runs.specs.declared.instruction.Program.{Program}
 use Rattle.thread_runs.specs.declared.state.State.{State}
-use Rattle.thread_runs.specs.Machine.{register, with_register, sum_of, outcome_of, operated, cancels, state_after, event_of, is_fault, is_load, is_branch, takes_branch}
-use Rattle.thread_runs.specs.Runs.{Walk, Outcome, Thread, InDomain, walk_at, walk_after, walk_past, ends, after_load, after_instruction, after_line, run_from, free_ends, after_free_instruction, after_free_line, free_from}
+use Rattle.thread_runs.specs.Machine.{register, with_register, sum_of, operation_value, operated, cancels, state_after, event_of, is_fault, is_load, is_branch, takes_branch}
+use Rattle.thread_runs.specs.Runs.{Walk, RunOutcome, Thread, InDomain, walk_at, walk_after, walk_past, ends, after_load, after_instruction, after_line, run_from, free_ends, after_free_instruction, after_free_line, free_from}
 use Rattle.thread_runs.specs.AllRuns.{thread_of, first_of}
 use Rattle.ppc_semantics.proofs.Starting.{number_at}
 use Rattle.ppc_semantics.specs.Domain.{threads_from, threads_of}
@@ -76,7 +76,7 @@ module _ (n : ℕ) where
   sum_below NoValue (Address l) h g = tt
   sum_below NoValue NoValue h g = tt
 
-  outcome_below : (o : Operation) (v w : Value) → Below n v → Below n w → Below n (outcome_of o v w)
+  outcome_below : (o : Operation) (v w : Value) → Below n v → Below n w → Below n (operation_value o v w)
   outcome_below Add v w h g = sum_below v w h g
   outcome_below SubtractFrom (Number m) (Number k) h g = tt
   outcome_below SubtractFrom (Number m) (Address l) h g = tt
@@ -125,7 +125,7 @@ module _ (n : ℕ) where
   operated_below : (o : Operation) (a b : ℕ) (s : State) → RegistersBelow s
       → Below n (operated o a b s)
   operated_below o a b s h =
-      either_below (cancels o a b) (Number 0) (outcome_of o (register s a) (register s b)) tt
+      either_below (cancels o a b) (Number 0) (operation_value o (register s a) (register s b)) tt
       (outcome_below o (register s a) (register s b) (h a) (h b))
 
   after_below : (i : Instruction) (v : Value) (s : State) → (is_load i ≡ true → Below n v)
@@ -182,16 +182,16 @@ module _ (n : ℕ) where
   kept_passing : (x : Line) (l : ℕ) (w : Walk) → IsKept w → IsKept (walk_past x l w)
   kept_passing x l w h = record { registers = h.registers; events = h.events }
 
-  ends_kept : (f : Bool) (w : Walk) (vs : List Value) (o : Outcome) → ends f w vs ≡ Some o
+  ends_kept : (f : Bool) (w : Walk) (vs : List Value) (o : RunOutcome) → ends f w vs ≡ Some o
       → IsKept w → IsKept o.walk
-  ends_kept f w [] o e h = subst (λ (q : Outcome). IsKept q.walk) (same_Some _ _ e) h
+  ends_kept f w [] o e h = subst (λ (q : RunOutcome). IsKept q.walk) (same_Some _ _ e) h
   ends_kept f w (v ∷ vs) o e h = absurd cc
 
-  module _ (go : Walk → List Value → Option Outcome)
-      (rest : (w : Walk) (vs : List Value) (o : Outcome) → go w vs ≡ Some o → All (Below n) vs
+  module _ (go : Walk → List Value → Option RunOutcome)
+      (rest : (w : Walk) (vs : List Value) (o : RunOutcome) → go w vs ≡ Some o → All (Below n) vs
       → IsKept w → IsKept o.walk) where
     supplied_kept : (l : Bool) (i : Instruction) (b : Bool) (w : Walk) (vs : List Value)
-        (o : Outcome) → after_load l i b go w vs ≡ Some o → All (Below n) vs → IsKept w
+        (o : RunOutcome) → after_load l i b go w vs ≡ Some o → All (Below n) vs → IsKept w
         → IsKept o.walk
     supplied_kept true i b w [] o e all h = absurd cc
     supplied_kept true i b w (v ∷ vs) o e all h =
@@ -202,18 +202,18 @@ module _ (n : ℕ) where
 
   abbrev Keeps : List Line → Type 0
   Keeps xs =
-      (w : Walk) (vs : List Value) (o : Outcome) → run_from xs w vs ≡ Some o → All (Below n) vs
+      (w : Walk) (vs : List Value) (o : RunOutcome) → run_from xs w vs ≡ Some o → All (Below n) vs
       → IsKept w → IsKept o.walk
 
   obeyed_kept : (xs : List Line) → Keeps xs
-      → (f : Bool) (i : Instruction) (w : Walk) (vs : List Value) (o : Outcome)
+      → (f : Bool) (i : Instruction) (w : Walk) (vs : List Value) (o : RunOutcome)
       → after_instruction f i (run_from xs) w vs ≡ Some o → All (Below n) vs → IsKept w → IsKept o.walk
   obeyed_kept xs rest true i w vs o e all h = ends_kept true w vs o e h
   obeyed_kept xs rest false i w vs o e all h =
       supplied_kept (run_from xs) rest (is_load i) i (takes_branch i w.state) w vs o e all h
 
   line_kept : (xs : List Line) → Keeps xs
-      → (s : Option ℕ) (x : Line) (w : Walk) (vs : List Value) (o : Outcome)
+      → (s : Option ℕ) (x : Line) (w : Walk) (vs : List Value) (o : RunOutcome)
       → after_line s x (run_from xs) w vs ≡ Some o → All (Below n) vs → IsKept w → IsKept o.walk
   line_kept xs rest (Some l) x w vs o e all h =
       rest (walk_past x l w) vs o e all (kept_passing x l w h)
@@ -227,16 +227,16 @@ module _ (n : ℕ) where
 
   abbrev KeepsFreely : List Line → Type 0
   KeepsFreely xs =
-      (bs : List Bool) (w : Walk) (vs : List Value) (o : Outcome) → free_from xs w bs vs ≡ Some o
+      (bs : List Bool) (w : Walk) (vs : List Value) (o : RunOutcome) → free_from xs w bs vs ≡ Some o
       → All (Below n) vs → IsKept w → IsKept o.walk
 
-  free_end_kept : (w : Walk) (bs : List Bool) (vs : List Value) (o : Outcome)
+  free_end_kept : (w : Walk) (bs : List Bool) (vs : List Value) (o : RunOutcome)
       → free_ends w bs vs ≡ Some o → IsKept w → IsKept o.walk
   free_end_kept w [] vs o e h = ends_kept false w vs o e h
   free_end_kept w (b ∷ bs) vs o e h = absurd cc
 
   free_step_kept : (xs : List Line) → KeepsFreely xs
-      → (b : Bool) (i : Instruction) (bs : List Bool) (w : Walk) (vs : List Value) (o : Outcome)
+      → (b : Bool) (i : Instruction) (bs : List Bool) (w : Walk) (vs : List Value) (o : RunOutcome)
       → after_free_instruction b i (free_from xs) w bs vs ≡ Some o → All (Below n) vs → IsKept w
       → IsKept o.walk
   free_step_kept xs rest true i [] w vs o e all h = absurd cc
@@ -246,7 +246,7 @@ module _ (n : ℕ) where
       supplied_kept (λ u us. free_from xs u bs us) (rest bs) (is_load i) i false w vs o e all h
 
   free_line_kept : (xs : List Line) → KeepsFreely xs
-      → (s : Option ℕ) (x : Line) (bs : List Bool) (w : Walk) (vs : List Value) (o : Outcome)
+      → (s : Option ℕ) (x : Line) (bs : List Bool) (w : Walk) (vs : List Value) (o : RunOutcome)
       → after_free_line s x (free_from xs) w bs vs ≡ Some o → All (Below n) vs → IsKept w → IsKept o.walk
   free_line_kept xs rest (Some l) x bs w vs o e all h =
       rest bs (walk_past x l w) vs o e all (kept_passing x l w h)

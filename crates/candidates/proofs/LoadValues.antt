@@ -14,7 +14,7 @@ use Rattle.thread_runs.specs.declared.instruction.Line.{Line}
 use Rattle.thread_runs.specs.declared.instruction.Line.TheVariants.{Label, Does}
 use Rattle.thread_runs.specs.declared.state.State.{State}
 use Rattle.thread_runs.specs.Machine.{is_load, is_fault, takes_branch, event_of}
-use Rattle.thread_runs.specs.Runs.{Walk, Outcome, walk_at, walk_after, walk_past, ends, after_load, after_instruction, after_line, run_from, run_of}
+use Rattle.thread_runs.specs.Runs.{Walk, RunOutcome, walk_at, walk_after, walk_past, ends, after_load, after_instruction, after_line, run_from, run_of}
 use Rattle.ppc_semantics.specs.Domain.{has_load}
 
 -- the values that events read
@@ -58,20 +58,20 @@ read_more es i v s is =
     ∙ ap (λ (b : Bool). read_in es ++ given b v) is ∙ append-nil (read_in es)
 
 -- the values that are left are those of the loads to come, at most so many
-record Takes (n : ℕ) (w : Walk) (vs : List Value) (o : Outcome) : Type 0 where
+record Takes (n : ℕ) (w : Walk) (vs : List Value) (o : RunOutcome) : Type 0 where
   values : read_in o.walk.events ≡ read_in w.events ++ vs
   few : length vs ≤ n
 
 abbrev TakesAll : List Line → ℕ → Type 0
 TakesAll xs n =
-    (w : Walk) (vs : List Value) (o : Outcome) → run_from xs w vs ≡ Some o → Takes n w vs o
+    (w : Walk) (vs : List Value) (o : RunOutcome) → run_from xs w vs ≡ Some o → Takes n w vs o
 
-ends_taken : (f : Bool) (w : Walk) (vs : List Value) (o : Outcome) (n : ℕ) → ends f w vs ≡ Some o
+ends_taken : (f : Bool) (w : Walk) (vs : List Value) (o : RunOutcome) (n : ℕ) → ends f w vs ≡ Some o
     → Takes n w vs o
 ends_taken f w [] o n e =
     record {
       values =
-          ap (λ (q : Outcome). read_in q.walk.events) (sym (same_Some _ _ e))
+          ap (λ (q : RunOutcome). read_in q.walk.events) (sym (same_Some _ _ e))
           ∙ sym (append-nil (read_in w.events));
       few = omega arith;
     }
@@ -79,7 +79,7 @@ ends_taken f w (v ∷ vs) o n e = absurd cc
 
 module _ (xs : List Line) (n : ℕ) (rest : TakesAll xs n) where
   advanced_taken : (i : Instruction) (b : Bool) (v : Value) (w : Walk) (vs : List Value)
-      (o : Outcome) → run_from xs (walk_after i b v w) vs ≡ Some o
+      (o : RunOutcome) → run_from xs (walk_after i b v w) vs ≡ Some o
       → (read_in o.walk.events ≡ read_in w.events ++ (given (is_load i) v ++ vs)) × (length vs ≤ n)
   advanced_taken i b v w vs o e =
       let t : Takes n (walk_after i b v w) vs o = rest (walk_after i b v w) vs o e in (
@@ -92,7 +92,7 @@ module _ (xs : List Line) (n : ℕ) (rest : TakesAll xs n) where
       )
 
   supplied_taken : (l : Bool) (i : Instruction) (b : Bool) (w : Walk) (vs : List Value)
-      (o : Outcome) → is_load i ≡ l → after_load l i b (run_from xs) w vs ≡ Some o
+      (o : RunOutcome) → is_load i ≡ l → after_load l i b (run_from xs) w vs ≡ Some o
       → Takes (cond l 1 0 + n) w vs o
   supplied_taken true i b w [] o is e = absurd cc
   supplied_taken true i b w (v ∷ vs) o is e =
@@ -102,12 +102,12 @@ module _ (xs : List Line) (n : ℕ) (rest : TakesAll xs n) where
       let t : (read_in o.walk.events ≡ read_in w.events ++ (given (is_load i) NoValue ++ vs)) × (length vs ≤ n) = advanced_taken i b NoValue w vs o e in
       record { values = t.0 ∙ ap (λ (k : Bool). read_in w.events ++ (given k NoValue ++ vs)) is; few = omega (arith, t.1) }
 
-  obeyed_taken : (f : Bool) (i : Instruction) (w : Walk) (vs : List Value) (o : Outcome)
+  obeyed_taken : (f : Bool) (i : Instruction) (w : Walk) (vs : List Value) (o : RunOutcome)
       → after_instruction f i (run_from xs) w vs ≡ Some o → Takes (cond (is_load i) 1 0 + n) w vs o
   obeyed_taken true i w vs o e = ends_taken true w vs o (cond (is_load i) 1 0 + n) e
   obeyed_taken false i w vs o e = supplied_taken (is_load i) i (takes_branch i w.state) w vs o refl e
 
-  one_taken : (s : Option ℕ) (x : Line) (w : Walk) (vs : List Value) (o : Outcome)
+  one_taken : (s : Option ℕ) (x : Line) (w : Walk) (vs : List Value) (o : RunOutcome)
       → after_line s x (run_from xs) w vs ≡ Some o → Takes (cond (has_load x) 1 0 + n) w vs o
   one_taken (Some l) x w vs o e =
       let t : Takes n (walk_past x l w) vs o = rest (walk_past x l w) vs o e in
@@ -123,10 +123,10 @@ lines_taken (x ∷ xs) w vs o e =
     let t : Takes (cond (has_load x) 1 0 + count_by has_load xs) w vs o = one_taken xs (count_by has_load xs) (lines_taken xs) w.seeking x w vs o e in
     record { values = t.values; few = omega (arith, t.few, sum_by-cons (λ (y : Line). cond (has_load y) 1 0) x xs) }
 
-pub values_read : (lines : List Line) (s : State) (vs : List Value) (o : Outcome)
+pub values_read : (lines : List Line) (s : State) (vs : List Value) (o : RunOutcome)
     → run_of lines s vs ≡ Some o → read_in o.walk.events ≡ vs
 values_read lines s vs o e = (lines_taken lines (walk_at s) vs o e).values
 
-pub loads_few : (lines : List Line) (s : State) (vs : List Value) (o : Outcome)
+pub loads_few : (lines : List Line) (s : State) (vs : List Value) (o : RunOutcome)
     → run_of lines s vs ≡ Some o → length vs ≤ count_by has_load lines
 loads_few lines s vs o e = (lines_taken lines (walk_at s) vs o e).few

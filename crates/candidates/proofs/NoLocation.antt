@@ -19,8 +19,8 @@ use Rattle.thread_runs.specs.declared.instruction.Instruction.TheVariants.{Immed
 use Rattle.thread_runs.specs.declared.instruction.Line.{Line}
 use Rattle.thread_runs.specs.declared.instruction.Program.{Program}
 use Rattle.thread_runs.specs.declared.state.State.{State}
-use Rattle.thread_runs.specs.Machine.{register, with_register, sum_of, outcome_of, operated, cancels, state_after, is_address, is_fault, is_load}
-use Rattle.thread_runs.specs.Runs.{Walk, Outcome, Thread, Run, IsThreadRun, walk_at, walk_after, run_of}
+use Rattle.thread_runs.specs.Machine.{register, with_register, sum_of, operation_value, operated, cancels, state_after, is_address, is_fault, is_load}
+use Rattle.thread_runs.specs.Runs.{Walk, RunOutcome, Thread, Run, IsThreadRun, walk_at, walk_after, run_of}
 use Rattle.thread_runs.specs.AllRuns.{thread_of, first_of}
 use Rattle.thread_runs.specs.ValueSet.{IsProperValue}
 use Rattle.ppc_semantics.specs.Domain.{IsDomainAt, load_total, threads_from, threads_of}
@@ -62,7 +62,7 @@ sum_plain NoValue (Address l) h k = refl
 sum_plain NoValue NoValue h k = refl
 
 outcome_plain : (o : Operation) (v w : Value) → is_address v ≡ false → is_address w ≡ false
-    → is_address (outcome_of o v w) ≡ false
+    → is_address (operation_value o v w) ≡ false
 outcome_plain o (Address l) w h k = absurd (true_false h)
 outcome_plain o (Number m) (Address l) h k = absurd (true_false k)
 outcome_plain o NoValue (Address l) h k = absurd (true_false k)
@@ -92,7 +92,7 @@ operated_plain : (o : Operation) (a b : ℕ) (s : State) → HasNoAddress s
 operated_plain o a b s h = go (cancels o a b)
   where
     go : (c : Bool)
-        → is_address (if c then Number 0 else outcome_of o (register s a) (register s b)) ≡ false
+        → is_address (if c then Number 0 else operation_value o (register s a) (register s b)) ≡ false
     go true = refl
     go false = outcome_plain o (register s a) (register s b) (h a) (h b)
 
@@ -133,7 +133,7 @@ quiet_more i b v w sound q =
     let a : (is_load i ≡ false) × HasNoAddress (state_after i v w.state) = after_quiet i v w.state sound q.registers in
     record { registers = a.1; loads = read_more w.events i v w.state a.0 ∙ q.loads }
 
-none_loaded : (lines : List Line) (s : State) (vs : List Value) (o : Outcome) → HasNoAddress s
+none_loaded : (lines : List Line) (s : State) (vs : List Value) (o : RunOutcome) → HasNoAddress s
     → run_of lines s vs ≡ Some o → vs ≡ []
 none_loaded lines s vs o h e =
     sym (values_read lines s vs o e)

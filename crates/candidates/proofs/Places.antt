@@ -11,7 +11,7 @@ use Rattle.thread_runs.specs.declared.instruction.Line.TheVariants.{Label, Does}
 use Rattle.thread_runs.specs.declared.instruction.RunStep.{RunStep}
 use Rattle.thread_runs.specs.declared.state.State.{State}
 use Rattle.thread_runs.specs.Machine.{is_load, is_fault, takes_branch, event_of}
-use Rattle.thread_runs.specs.Runs.{Walk, Outcome, walk_at, walk_after, walk_past, ends, after_load, after_instruction, after_line, run_from, run_of, executed, no_step}
+use Rattle.thread_runs.specs.Runs.{Walk, RunOutcome, walk_at, walk_after, walk_past, ends, after_load, after_instruction, after_line, run_from, run_of, executed, no_step}
 use Rattle.dataflow.specs.Chains.{Executed, event_index, is_event}
 
 -- what each step of a run keeps holds at its end
@@ -19,14 +19,14 @@ module _ (P : Walk → Type 0)
     (step : (i : Instruction) (b : Bool) (v : Value) (w : Walk) → is_fault i w.state ≡ false → P w
     → P (walk_after i b v w))
     (pass : (x : Line) (l : ℕ) (w : Walk) → P w → P (walk_past x l w)) where
-  at_end : (f : Bool) (w : Walk) (vs : List Value) (o : Outcome) → ends f w vs ≡ Some o → P w
+  at_end : (f : Bool) (w : Walk) (vs : List Value) (o : RunOutcome) → ends f w vs ≡ Some o → P w
       → P o.walk
-  at_end f w [] o e h = subst (λ (q : Outcome). P q.walk) (same_Some _ _ e) h
+  at_end f w [] o e h = subst (λ (q : RunOutcome). P q.walk) (same_Some _ _ e) h
   at_end f w (v ∷ vs) o e h = absurd cc
 
   at_load : (xs : List Line)
-      → ((w : Walk) (vs : List Value) (o : Outcome) → run_from xs w vs ≡ Some o → P w → P o.walk)
-      → (l : Bool) (i : Instruction) (b : Bool) (w : Walk) (vs : List Value) (o : Outcome)
+      → ((w : Walk) (vs : List Value) (o : RunOutcome) → run_from xs w vs ≡ Some o → P w → P o.walk)
+      → (l : Bool) (i : Instruction) (b : Bool) (w : Walk) (vs : List Value) (o : RunOutcome)
       → is_fault i w.state ≡ false → after_load l i b (run_from xs) w vs ≡ Some o → P w → P o.walk
   at_load xs rest true i b w [] o sound e h = absurd cc
   at_load xs rest true i b w (v ∷ vs) o sound e h =
@@ -35,22 +35,22 @@ module _ (P : Walk → Type 0)
       rest (walk_after i b NoValue w) vs o e (step i b NoValue w sound h)
 
   at_step : (xs : List Line)
-      → ((w : Walk) (vs : List Value) (o : Outcome) → run_from xs w vs ≡ Some o → P w → P o.walk)
-      → (f : Bool) (i : Instruction) (w : Walk) (vs : List Value) (o : Outcome)
+      → ((w : Walk) (vs : List Value) (o : RunOutcome) → run_from xs w vs ≡ Some o → P w → P o.walk)
+      → (f : Bool) (i : Instruction) (w : Walk) (vs : List Value) (o : RunOutcome)
       → is_fault i w.state ≡ f → after_instruction f i (run_from xs) w vs ≡ Some o → P w → P o.walk
   at_step xs rest true i w vs o is e h = at_end true w vs o e h
   at_step xs rest false i w vs o is e h =
       at_load xs rest (is_load i) i (takes_branch i w.state) w vs o is e h
 
   at_line : (xs : List Line)
-      → ((w : Walk) (vs : List Value) (o : Outcome) → run_from xs w vs ≡ Some o → P w → P o.walk)
-      → (s : Option ℕ) (x : Line) (w : Walk) (vs : List Value) (o : Outcome)
+      → ((w : Walk) (vs : List Value) (o : RunOutcome) → run_from xs w vs ≡ Some o → P w → P o.walk)
+      → (s : Option ℕ) (x : Line) (w : Walk) (vs : List Value) (o : RunOutcome)
       → after_line s x (run_from xs) w vs ≡ Some o → P w → P o.walk
   at_line xs rest (Some l) x w vs o e h = rest (walk_past x l w) vs o e (pass x l w h)
   at_line xs rest None (Label m) w vs o e h = rest w vs o e h
   at_line xs rest None (Does i) w vs o e h = at_step xs rest (is_fault i w.state) i w vs o refl e h
 
-  pub along : (xs : List Line) (w : Walk) (vs : List Value) (o : Outcome)
+  pub along : (xs : List Line) (w : Walk) (vs : List Value) (o : RunOutcome)
       → run_from xs w vs ≡ Some o → P w → P o.walk
   along [] w vs o e h = at_end false w vs o e h
   along (x ∷ xs) w vs o e h = at_line xs (along xs) w.seeking x w vs o e h
@@ -113,7 +113,7 @@ placed_more i b v w h =
     ∙ sym (length-append w.events (event_of i v w.state))
 
 -- the event places of a run end where its events do
-pub places_are_events : (lines : List Line) (s : State) (vs : List Value) (o : Outcome)
+pub places_are_events : (lines : List Line) (s : State) (vs : List Value) (o : RunOutcome)
     → run_of lines s vs ≡ Some o
     → event_index (executed o.walk.steps) (length o.walk.steps) ≡ length o.walk.events
 places_are_events lines s vs o e =

@@ -18,7 +18,7 @@ use Rattle.thread_runs.specs.declared.instruction.Program.{Program}
 use Rattle.thread_runs.specs.declared.run.Run as made
 use Rattle.thread_runs.specs.declared.state.State.{State}
 use Rattle.thread_runs.specs.Machine.{is_load, is_fault, takes_branch, event_of}
-use Rattle.thread_runs.specs.Runs.{Walk, Outcome, Run, walk_at, walk_after, walk_past, ends, after_load, after_instruction, after_line, run_from}
+use Rattle.thread_runs.specs.Runs.{Walk, RunOutcome, Run, walk_at, walk_after, walk_past, ends, after_load, after_instruction, after_line, run_from}
 use Rattle.thread_runs.specs.AllRuns.{ShownRun, run_shown, shown_run, lines_at, thread_of}
 use Rattle.thread_runs.specs.LocationValues.{IsUnserved, ShowsServed}
 use Rattle.thread_runs.proofs.Serving.{left_contains}
@@ -55,39 +55,39 @@ event_few (Fence f) v s = omega arith
 -- what is left of the text adds so many
 abbrev pub Adds : List Line → ℕ → Type 0
 Adds xs n =
-    (w : Walk) (vs : List Value) (o : Outcome) → run_from xs w vs ≡ Some o
+    (w : Walk) (vs : List Value) (o : RunOutcome) → run_from xs w vs ≡ Some o
     → length o.walk.events ≤ length w.events + n
 
-ends_few : (f : Bool) (w : Walk) (vs : List Value) (o : Outcome) (n : ℕ) → ends f w vs ≡ Some o
+ends_few : (f : Bool) (w : Walk) (vs : List Value) (o : RunOutcome) (n : ℕ) → ends f w vs ≡ Some o
     → length o.walk.events ≤ length w.events + n
 ends_few f w [] o n e =
     let a : length w.events ≡ length o.walk.events =
-    ap (λ (q : Outcome). length q.walk.events) (same_Some _ _ e) in
+    ap (λ (q : RunOutcome). length q.walk.events) (same_Some _ _ e) in
     omega (arith, a)
 ends_few f w (v ∷ vs) o n e = absurd cc
 
 module _ (xs : List Line) (n : ℕ) (rest : Adds xs n) where
-  advanced_few : (i : Instruction) (b : Bool) (v : Value) (w : Walk) (vs : List Value) (o : Outcome)
+  advanced_few : (i : Instruction) (b : Bool) (v : Value) (w : Walk) (vs : List Value) (o : RunOutcome)
       → run_from xs (walk_after i b v w) vs ≡ Some o
       → length o.walk.events ≤ length w.events + (cond (makes_event i) 1 0 + n)
   advanced_few i b v w vs o e =
       let a : length o.walk.events ≤ length (w.events ++ event_of i v w.state) + n = rest (walk_after i b v w) vs o e in
       omega (arith, a, length-append w.events (event_of i v w.state), event_few i v w.state)
 
-  supplied_few : (l : Bool) (i : Instruction) (b : Bool) (w : Walk) (vs : List Value) (o : Outcome)
+  supplied_few : (l : Bool) (i : Instruction) (b : Bool) (w : Walk) (vs : List Value) (o : RunOutcome)
       → after_load l i b (run_from xs) w vs ≡ Some o
       → length o.walk.events ≤ length w.events + (cond (makes_event i) 1 0 + n)
   supplied_few true i b w [] o e = absurd cc
   supplied_few true i b w (v ∷ vs) o e = advanced_few i b v w vs o e
   supplied_few false i b w vs o e = advanced_few i b NoValue w vs o e
 
-  obeyed_few : (f : Bool) (i : Instruction) (w : Walk) (vs : List Value) (o : Outcome)
+  obeyed_few : (f : Bool) (i : Instruction) (w : Walk) (vs : List Value) (o : RunOutcome)
       → after_instruction f i (run_from xs) w vs ≡ Some o
       → length o.walk.events ≤ length w.events + (cond (makes_event i) 1 0 + n)
   obeyed_few true i w vs o e = ends_few true w vs o (cond (makes_event i) 1 0 + n) e
   obeyed_few false i w vs o e = supplied_few (is_load i) i (takes_branch i w.state) w vs o e
 
-  one_few : (s : Option ℕ) (x : Line) (w : Walk) (vs : List Value) (o : Outcome)
+  one_few : (s : Option ℕ) (x : Line) (w : Walk) (vs : List Value) (o : RunOutcome)
       → after_line s x (run_from xs) w vs ≡ Some o
       → length o.walk.events ≤ length w.events + (cond (has_event x) 1 0 + n)
   one_few (Some l) x w vs o e =

@@ -15,7 +15,7 @@ use Rattle.thread_runs.specs.declared.instruction.Line.{Line}
 use Rattle.thread_runs.specs.declared.instruction.RunStep.{RunStep}
 use Rattle.thread_runs.specs.declared.state.State.{State}
 use Rattle.thread_runs.specs.Machine.{register, sum_of, is_load as loads, is_fault, is_address, event_of}
-use Rattle.thread_runs.specs.Runs.{Walk, Outcome, walk_at, walk_after, run_of, executed, no_step}
+use Rattle.thread_runs.specs.Runs.{Walk, RunOutcome, walk_at, walk_after, run_of, executed, no_step}
 use Rattle.dataflow.specs.Chains.{Executed, event_index, is_event}
 use Rattle.candidates.proofs.Elements.{behind_first, in_first}
 use Rattle.candidates.proofs.Places.{along, Placed, placed_more, places_same}
@@ -199,7 +199,7 @@ in_run steps n is = elim (cases_lt n (length steps)) [
     no : false ≡ true → ⊥
     no e = cc
 
-pub events_stand : (t : ℕ) (lines : List Line) (s : State) (vs : List Value) (o : Outcome)
+pub events_stand : (t : ℕ) (lines : List Line) (s : State) (vs : List Value) (o : RunOutcome)
     → run_of lines s vs ≡ Some o → (n : ℕ) → is_event (executed o.walk.steps n) ≡ true
     → Stands t o.walk.steps o.walk.events n
 events_stand t lines s vs o e n is =

@@ -11,14 +11,14 @@ use Rattle.thread_runs.specs.declared.instruction.Instruction.TheVariants.{Immed
 use Rattle.thread_runs.specs.declared.instruction.Line.{Line}
 use Rattle.thread_runs.specs.declared.state.State.{State}
 use Rattle.thread_runs.specs.Machine.{register, is_load, event_of}
-use Rattle.thread_runs.specs.Runs.{Outcome, walk_at, run_of, executed, loaded_at}
+use Rattle.thread_runs.specs.Runs.{RunOutcome, walk_at, run_of, executed, loaded_at}
 use Rattle.dataflow.specs.Chains.{Executed, Register, IsStoredRegister, event_index, is_event}
 use Rattle.dataflow.specs.Law.{state_at, events_before, IsWalkFrom}
 use Rattle.dataflow.proofs.Walks.{IsWalk-advanced, IsWalk-started}
 use Rattle.candidates.proofs.Elements.{behind_first, in_first, within_first}
 use Rattle.candidates.proofs.Places.{along, event_count, one_place_more}
 
-run_is_walk : (lines : List Line) (s : State) (vs : List Value) (o : Outcome)
+run_is_walk : (lines : List Line) (s : State) (vs : List Value) (o : RunOutcome)
     → run_of lines s vs ≡ Some o → IsWalkFrom s o.walk
 run_is_walk lines s vs o e =
     along (IsWalkFrom s) (λ i b v w sound h. IsWalk-advanced s i b v w h)
@@ -157,13 +157,13 @@ module _ (f : Executed) (l : ℕ → Value) (s : State) where
   ]
 
 -- where a store of a run stands, and what it stores
-pub record StoredAt (s : State) (o : Outcome) (k : ℕ) (w : Value) : Type 0 where
+pub record StoredAt (s : State) (o : RunOutcome) (k : ℕ) (w : Value) : Type 0 where
   pub step : ℕ
   pub place : event_index (executed o.walk.steps) step ≡ k
   pub stores : StoresValue (executed o.walk.steps step)
       (state_at (executed o.walk.steps) (loaded_at o.walk.steps) s step) w
 
-pub stored_at : (lines : List Line) (s : State) (vs : List Value) (o : Outcome)
+pub stored_at : (lines : List Line) (s : State) (vs : List Value) (o : RunOutcome)
     → run_of lines s vs ≡ Some o → (k : ℕ) (a w : Value)
     → slice_get o.walk.events k ≡ Some (run_event.Store a w) → StoredAt s o k w
 stored_at lines s vs o e k a w is =
@@ -174,7 +174,7 @@ stored_at lines s vs o e k a w is =
     record { step = r.step; place = r.place; stores = store_of (f r.step) (l r.step) (state_at f l s r.step) a w r.event }
 
 -- and what a load reads
-pub loaded_there : (lines : List Line) (s : State) (vs : List Value) (o : Outcome)
+pub loaded_there : (lines : List Line) (s : State) (vs : List Value) (o : RunOutcome)
     → run_of lines s vs ≡ Some o → (j : ℕ) → j < length o.walk.steps
     → is_load (executed o.walk.steps j) ≡ true
     → (a : Value)

@@ -12,7 +12,7 @@ use Rattle.thread_runs.specs.declared.instruction.Line.{Line}
 use Rattle.thread_runs.specs.declared.instruction.Line.TheVariants.{Label, Does}
 use Rattle.thread_runs.specs.declared.state.State.{State}
 use Rattle.thread_runs.specs.Machine.{register, sum_of, is_load, is_fault, is_address, takes_branch, event_of}
-use Rattle.thread_runs.specs.Runs.{Walk, Outcome, walk_at, walk_after, walk_past, ends, after_load, after_instruction, after_line, run_from, run_of}
+use Rattle.thread_runs.specs.Runs.{Walk, RunOutcome, walk_at, walk_after, walk_past, ends, after_load, after_instruction, after_line, run_from, run_of}
 use Rattle.run_combinations.specs.Events.{action_in, with_action, thread_events}
 use Rattle.run_combinations.specs.declared.combination.Action.{Action}
 use Rattle.run_combinations.specs.declared.combination.Action.TheVariants as actions
@@ -56,37 +56,37 @@ event_located (Fence f) v s h = ((actions.Fence f, refl), tt)
 -- what is left of the text keeps it so
 abbrev Keeps : List Line → Type 0
 Keeps xs =
-    (w : Walk) (vs : List Value) (o : Outcome) → run_from xs w vs ≡ Some o → AreLocated w.events
+    (w : Walk) (vs : List Value) (o : RunOutcome) → run_from xs w vs ≡ Some o → AreLocated w.events
     → AreLocated o.walk.events
 
-ends_located : (f : Bool) (w : Walk) (vs : List Value) (o : Outcome) → ends f w vs ≡ Some o
+ends_located : (f : Bool) (w : Walk) (vs : List Value) (o : RunOutcome) → ends f w vs ≡ Some o
     → AreLocated w.events → AreLocated o.walk.events
-ends_located f w [] o e h = subst (λ (q : Outcome). AreLocated q.walk.events) (same_Some _ _ e) h
+ends_located f w [] o e h = subst (λ (q : RunOutcome). AreLocated q.walk.events) (same_Some _ _ e) h
 ends_located f w (v ∷ vs) o e h = absurd cc
 
 module _ (xs : List Line) (rest : Keeps xs) where
   advanced_located : (i : Instruction) (b : Bool) (v : Value) (w : Walk) (vs : List Value)
-      (o : Outcome) → is_fault i w.state ≡ false → run_from xs (walk_after i b v w) vs ≡ Some o
+      (o : RunOutcome) → is_fault i w.state ≡ false → run_from xs (walk_after i b v w) vs ≡ Some o
       → AreLocated w.events → AreLocated o.walk.events
   advanced_located i b v w vs o sound e h =
       rest (walk_after i b v w) vs o e (located_both w.events (event_of i v w.state) h
       (event_located i v w.state sound))
 
   supplied_located : (l : Bool) (i : Instruction) (b : Bool) (w : Walk) (vs : List Value)
-      (o : Outcome) → is_fault i w.state ≡ false → after_load l i b (run_from xs) w vs ≡ Some o
+      (o : RunOutcome) → is_fault i w.state ≡ false → after_load l i b (run_from xs) w vs ≡ Some o
       → AreLocated w.events → AreLocated o.walk.events
   supplied_located true i b w [] o sound e h = absurd cc
   supplied_located true i b w (v ∷ vs) o sound e h = advanced_located i b v w vs o sound e h
   supplied_located false i b w vs o sound e h = advanced_located i b NoValue w vs o sound e h
 
-  obeyed_located : (f : Bool) (i : Instruction) (w : Walk) (vs : List Value) (o : Outcome)
+  obeyed_located : (f : Bool) (i : Instruction) (w : Walk) (vs : List Value) (o : RunOutcome)
       → is_fault i w.state ≡ f → after_instruction f i (run_from xs) w vs ≡ Some o → AreLocated w.events
       → AreLocated o.walk.events
   obeyed_located true i w vs o is e h = ends_located true w vs o e h
   obeyed_located false i w vs o is e h =
       supplied_located (is_load i) i (takes_branch i w.state) w vs o is e h
 
-  one_located : (s : Option ℕ) (x : Line) (w : Walk) (vs : List Value) (o : Outcome)
+  one_located : (s : Option ℕ) (x : Line) (w : Walk) (vs : List Value) (o : RunOutcome)
       → after_line s x (run_from xs) w vs ≡ Some o → AreLocated w.events → AreLocated o.walk.events
   one_located (Some l) x w vs o e h = rest (walk_past x l w) vs o e h
   one_located None (Label m) w vs o e h = rest w vs o e h
@@ -110,7 +110,7 @@ located_all thread (e ∷ es) h =
     omega (arith, a, b, c)
 
 -- no event of a run is left out
-pub none_left_out : (thread : ℕ) (lines : List Line) (s : State) (vs : List Value) (o : Outcome)
+pub none_left_out : (thread : ℕ) (lines : List Line) (s : State) (vs : List Value) (o : RunOutcome)
     → run_of lines s vs ≡ Some o
     → length (thread_events thread o.walk.events) ≡ length o.walk.events
 none_left_out thread lines s vs o e =

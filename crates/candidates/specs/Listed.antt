@@ -92,8 +92,7 @@ abbrev pub IsSpaceFault : Test → SpaceFault → Type 0
 IsSpaceFault t (Refused r) = IsSpaceRefusal t r
 IsSpaceFault t (OutOfMemory e) = Unit {0}
 
--- reads-from and coherence are chosen apart: the executions of some runs are each reads-from, that
--- is one, with each coherence, that is one
+-- for given runs, executions are the product of the valid reads-from and the valid coherences
 abbrev pub IsReadsFrom : List Value → List Run → List ℕ → Type 0
 IsReadsFrom initial runs reads_from =
     AllZip (MayRead (events initial runs)) (loads (events initial runs)) reads_from

@@ -11,7 +11,7 @@ use Rattle.binding_graph.specs.declared.resolved.Step.{Step}
 use Rattle.binding_graph.specs.declared.resolved.Step.TheVariants as steps
 use Rattle.binding_graph.specs.Trees.{SetTree, SetName, AllEvents, NoEvent, BlendSets, ComplementSet, RelTree, RelName, NoPair, BlendRelations, Compose, Multiply, IdentityOn, Close, ComplementRelation, set_code, rel_code}
 use Rattle.cat_eval.specs.Least.{IsLeast, body}
-use Rattle.cat_eval.specs.Meaning.{MeansSet, Means}
+use Rattle.cat_eval.specs.Meaning.{MeansSet, MeansRelation}
 use Rattle.cat_eval.specs.Named.{WithOwn, OwnPairs}
 use Rattle.cat_eval.specs.Needed.{source_names, step_names, predefined_names_in, bodies_names}
 use Rattle.cat_eval.specs.Rising.{AreCodes}
@@ -179,7 +179,7 @@ module _ (n : ℕ) (sets others : Source → ℕ → Type 0) (rels further : Sou
   set_agrees (ComplementSet s) h = same_others n _ _ (set_agrees s h)
 
   pub relation_agrees : (e : RelTree) → OfRelation Agree e
-      → Same (Means n sets rels e) (Means n others further e)
+      → Same (MeansRelation n sets rels e) (MeansRelation n others further e)
   relation_agrees (RelName source) h = h.1
   relation_agrees NoPair h = λ a b. ((λ x. x), (λ x. x))
   relation_agrees (BlendRelations how e f) h =
@@ -194,8 +194,8 @@ module _ (n : ℕ) (sets others : Source → ℕ → Type 0) (rels further : Sou
 pub least_agrees : (n : ℕ) (sets others : Source → ℕ → Type 0)
     (outer further : Source → ℕ → ℕ → Type 0) (trees : List RelTree) (values : List Relation)
     → ((x : ℕ) → x < length trees → (own : ℕ → ℕ → ℕ → Type 0)
-    → Same (Means n sets (WithOwn outer own) (body trees x))
-    (Means n others (WithOwn further own) (body trees x)))
+    → Same (MeansRelation n sets (WithOwn outer own) (body trees x))
+    (MeansRelation n others (WithOwn further own) (body trees x)))
     → IsLeast n sets outer trees values → IsLeast n others further trees values
 least_agrees n sets others outer further trees values same h = record {
   as_many = h.as_many;

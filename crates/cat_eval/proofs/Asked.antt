@@ -9,7 +9,7 @@ use Rattle.cat_eval.specs.declared.column.Column.{Column}
 use Rattle.cat_eval.specs.Kept.{AreWhere, AreAskedOver, IsLastAnswer, is_asked_at}
 use Rattle.cat_eval.specs.OverNames.{IsAnswerOver}
 use Rattle.cat_eval.specs.Seen.{NamedValues}
-use Rattle.cat_eval.specs.Steady.{HaveSameInputs, IsSteady, EndsWith}
+use Rattle.cat_eval.specs.Steady.{HaveSameInputs, IsSteady, HasAsLast}
 use Rattle.cat_eval.proofs.Columns.{get_last}
 use Rattle.cat_eval.proofs.Deciding.{some_answer}
 use Rattle.cat_eval.proofs.Repeating.{answer_again, ends_long}
@@ -99,7 +99,7 @@ asked_more check inputs kept bases base answers new known n asked answer here (a
 -- the answer of the last candidate, where the next one is the same
 pub answer_before : (check : CheckCode) (inputs : List (Bor Column)) (bases : List NamedValues)
     (base : NamedValues) (known : Option Bool) (answer : Bool) (n steady : ℕ) → n ≡ length bases
-    → EndsWith bases base → IsLastAnswer check inputs bases known → IsSteady inputs n steady
+    → HasAsLast bases base → IsLastAnswer check inputs bases known → IsSteady inputs n steady
     → n < steady → known ≡ Some answer → IsAnswerOver check inputs base n check.code.kind answer
 answer_before check inputs bases base known answer n steady here ends last still lt e =
     let same : HaveSameInputs inputs (n - 1) n = still n (omega arith) lt in

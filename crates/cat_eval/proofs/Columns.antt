@@ -22,9 +22,9 @@ use Rattle.cat_eval.specs.Candidates.{name_count}
 use Rattle.cat_eval.specs.Columns.{HasColumnValue, ColumnsOf, HasOwn}
 use Rattle.cat_eval.specs.OverNames.{HaveValuesOver, AreColumnsOver, IsMeaningOver}
 use Rattle.cat_eval.specs.Least.{IsLeast, AreMonotone}
-use Rattle.cat_eval.specs.Meaning.{MeansSet, Means}
+use Rattle.cat_eval.specs.Meaning.{MeansSet, MeansRelation}
 use Rattle.cat_eval.specs.Named.{EventsIn, PairsOutside, WithOwn, OwnPairs}
-use Rattle.cat_eval.specs.Values.{Adds, IsFor, column_len}
+use Rattle.cat_eval.specs.Values.{AddsValue, IsFor, column_len}
 use Rattle.cat_eval.specs.Rising.{AreCodes}
 use Rattle.cat_eval.proofs.Visits.{get_more, get_within}
 
@@ -65,7 +65,7 @@ pub meant_is : (inputs : List (Bor Column)) (base : NamedValues) (k : ℕ) (step
     × IsEvents v base.count (MeansSet base.count (EventsIn base inputs k) t))
     → ((t : RelTree) → steps ≡ rel_code t []
     → (v : Relation) × (vs ≡ v ∷ [])
-    × IsRelation v base.count (Means base.count (EventsIn base inputs k)
+    × IsRelation v base.count (MeansRelation base.count (EventsIn base inputs k)
     (WithOwn (PairsOutside base inputs k) (OwnPairs base.count [])) t))
     → ((v : Events) (rest : List Events) → us ≡ v ∷ rest → s ≡ v)
     → ((v : Relation) (rest : List Relation) → vs ≡ v ∷ rest → r ≡ v)
@@ -77,13 +77,13 @@ meant_is inputs base k steps s r us vs sets rels set_is rel_is kinds.OfSet = λ 
 meant_is inputs base k steps s r us vs sets rels set_is rel_is kinds.OfRelation = λ t code.
     let made = rels t code in
     subst
-    (λ (v : Relation). IsRelation v base.count (Means base.count (EventsIn base inputs k)
+    (λ (v : Relation). IsRelation v base.count (MeansRelation base.count (EventsIn base inputs k)
     (WithOwn (PairsOutside base inputs k) (OwnPairs base.count [])) t))
     (sym (rel_is made.0 [] made.1)) made.2
 meant_is inputs base k steps s r us vs sets rels set_is rel_is kinds.OfAny = λ t code.
     let made = rels t code in
     subst
-    (λ (v : Relation). IsRelation v base.count (Means base.count (EventsIn base inputs k)
+    (λ (v : Relation). IsRelation v base.count (MeansRelation base.count (EventsIn base inputs k)
     (WithOwn (PairsOutside base inputs k) (OwnPairs base.count [])) t))
     (sym (rel_is made.0 [] made.1)) made.2
 
@@ -102,7 +102,7 @@ one_of [] j lt = absurd (omega (arith, lt))
 one_of (x ∷ xs) j lt = x
 
 -- a value more: the kind is the same
-pub adds_for : (kind : Kind) (a b : Column) (s : Events) (r : Relation) → Adds a b s r
+pub adds_for : (kind : Kind) (a b : Column) (s : Events) (r : Relation) → AddsValue a b s r
     → IsFor kind a → IsFor kind b
 adds_for kinds.OfSet (columns.Sets xs) (columns.Sets ys) s r adds fits = tt
 adds_for kinds.OfSet (columns.Sets xs) (columns.Relations ys) s r adds fits = absurd adds
@@ -114,7 +114,7 @@ adds_for kinds.OfAny (columns.Sets xs) b s r adds fits = absurd fits
 adds_for kinds.OfAny (columns.Relations xs) (columns.Sets ys) s r adds fits = absurd adds
 adds_for kinds.OfAny (columns.Relations xs) (columns.Relations ys) s r adds fits = tt
 
-pub adds_long : (a b : Column) (s : Events) (r : Relation) → Adds a b s r
+pub adds_long : (a b : Column) (s : Events) (r : Relation) → AddsValue a b s r
     → column_len b ≡ column_len a + 1
 adds_long (columns.Sets xs) (columns.Sets ys) s r adds = ap length adds ∙ length-append xs (s ∷ [])
 adds_long (columns.Sets xs) (columns.Relations ys) s r adds = absurd adds
@@ -123,7 +123,7 @@ adds_long (columns.Relations xs) (columns.Relations ys) s r adds =
     ap length adds ∙ length-append xs (r ∷ [])
 
 -- the values of the candidates before stay
-pub adds_old : (a b : Column) (s : Events) (r : Relation) → Adds a b s r
+pub adds_old : (a b : Column) (s : Events) (r : Relation) → AddsValue a b s r
     → (k : ℕ) (t : Events) (q : Relation) → HasColumnValue a k t q → HasColumnValue b k t q
 adds_old (columns.Sets xs) (columns.Sets ys) s r adds k t q has =
     rw adds (get_kept xs (s ∷ []) k t has)
@@ -133,7 +133,7 @@ adds_old (columns.Relations xs) (columns.Relations ys) s r adds k t q has =
     rw adds (get_kept xs (r ∷ []) k q has)
 
 -- the new value is that of the next candidate
-pub adds_new : (a b : Column) (s : Events) (r : Relation) → Adds a b s r → (k : ℕ)
+pub adds_new : (a b : Column) (s : Events) (r : Relation) → AddsValue a b s r → (k : ℕ)
     → k ≡ column_len a → HasColumnValue b k s r
 adds_new (columns.Sets xs) (columns.Sets ys) s r adds k at = rw (adds, at) (get_last xs s)
 adds_new (columns.Sets xs) (columns.Relations ys) s r adds k at = absurd adds
@@ -142,7 +142,7 @@ adds_new (columns.Relations xs) (columns.Relations ys) s r adds k at = rw (adds,
 
 module _ (bodies : List Body) (inputs : List (Bor Column)) (olds news : List Column)
     (added : (j : ℕ) → j < length bodies → (c : Column)
-    → (s : Events) × (r : Relation) × Adds (get_or olds j c) (get_or news j c) s r) where
+    → (s : Events) × (r : Relation) × AddsValue (get_or olds j c) (get_or news j c) s r) where
   pub values_stay : (recursive : Bool) (base : NamedValues) (k : ℕ)
       → HaveValuesOver recursive bodies inputs base k olds
       → HaveValuesOver recursive bodies inputs base k news
@@ -208,7 +208,7 @@ module _ (bodies : List Body) (inputs : List (Bor Column)) (bases : List NamedVa
     pub evaluated_more : (recursive : Bool) → recursive ≡ false
         → AreColumnsOver recursive bodies inputs bases olds
         → ((j : ℕ) → j < length bodies → j < length olds → (c : Column)
-        → (s : Events) × (r : Relation) × Adds (get_or olds j c) (get_or news j c) s r
+        → (s : Events) × (r : Relation) × AddsValue (get_or olds j c) (get_or news j c) s r
         × ((b : Body)
         → IsMeaningOver (get_or bodies j b).code.kind
         (get_or bodies j b).code.steps.items inputs base k s r))
@@ -221,7 +221,7 @@ module _ (bodies : List Body) (inputs : List (Bor Column)) (bases : List NamedVa
         inside j lt = rw before.as_many lt
 
         each : (j : ℕ) → j < length bodies → (c : Column)
-            → (s : Events) × (r : Relation) × Adds (get_or olds j c) (get_or news j c) s r
+            → (s : Events) × (r : Relation) × AddsValue (get_or olds j c) (get_or news j c) s r
         each j lt c =
             let (s, r, adds, meant) = added j lt (inside j lt) c in
             (s, r, adds)
@@ -243,7 +243,7 @@ module _ (bodies : List Body) (inputs : List (Bor Column)) (bases : List NamedVa
     pub solved_more : (recursive : Bool) (own values : List Relation) → recursive ≡ true
         → HasOwn recursive bodies own → AreColumnsOver recursive bodies inputs bases olds
         → ((j : ℕ) → j < length own → j < length olds → (c : Column)
-        → (s : Events) × Adds (get_or olds j c) (get_or news j c) s (get_or values j no_slot))
+        → (s : Events) × AddsValue (get_or olds j c) (get_or news j c) s (get_or values j no_slot))
         → (length own ≡ length bodies → (trees : List RelTree) → AreCodes trees bodies
         → AreMonotone trees
         → IsLeast base.count (EventsIn base inputs k) (PairsOutside base inputs k) trees
@@ -254,11 +254,11 @@ module _ (bodies : List Body) (inputs : List (Bor Column)) (bases : List NamedVa
         columns_more bodies inputs olds news each true bases base many before now
       where
         gets : (j : ℕ) → j < length bodies → (c : Column)
-            → (s : Events) × Adds (get_or olds j c) (get_or news j c) s (get_or values j no_slot)
+            → (s : Events) × AddsValue (get_or olds j c) (get_or news j c) s (get_or values j no_slot)
         gets j lt c = added j (rw held lt) (rw before.as_many lt) c
 
         each : (j : ℕ) → j < length bodies → (c : Column)
-            → (s : Events) × (r : Relation) × Adds (get_or olds j c) (get_or news j c) s r
+            → (s : Events) × (r : Relation) × AddsValue (get_or olds j c) (get_or news j c) s r
         each j lt c =
             let (s, adds) = gets j lt c in
             (s, get_or values j no_slot, adds)

@@ -29,11 +29,11 @@ use Rattle.binding_graph.specs.Trees.{SetTree, SetName, AllEvents, NoEvent, Blen
 use Rattle.cat_eval.specs.declared.column.Column.{Column}
 use Rattle.cat_eval.specs.declared.column.Column.TheVariants as columns
 use Rattle.cat_eval.specs.Checks.{Holds, IsEmptySet}
-use Rattle.cat_eval.specs.Meaning.{MeansSet, Means, BlendedSets, Blended, Closed, Others}
+use Rattle.cat_eval.specs.Meaning.{MeansSet, MeansRelation, BlendedSets, Blended, Closed, Others}
 use Rattle.cat_eval.specs.Named.{ColumnEvents, ColumnPairs, InputEvents, InputPairs, EventsIn, PairsOutside, WithOwn, OwnPairs}
 use Rattle.cat_eval.specs.OverNames.{IsAnswerOver}
 use Rattle.cat_eval.specs.Running.{BuildsTrees, sets_after, rels_after}
-use Rattle.cat_eval.specs.Seen.{NamedValues, Value, PairsFound, EventsAmong, PairsAmong}
+use Rattle.cat_eval.specs.Seen.{NamedValues, NamedValue, PairsFound, EventsAmong, PairsAmong}
 use Rattle.cat_eval.specs.Values.{Unless}
 use Rattle.cat_eval.proofs.Codes.{code_leads, set_code_leads}
 use mathlib.Core.List.{nil≢cons, head-eq_of_cons-eq}
@@ -234,7 +234,7 @@ module _ (n : ℕ) (sets : Source → ℕ → Type 0) (rels : Source → ℕ →
   told_set (BlendSets how s t) = blended_sets how _ _ (told_set s) (told_set t)
   told_set (ComplementSet s) = other_events n _ (told_set s)
 
-  told_relation : (e : RelTree) → IsTold (Means n sets rels e)
+  told_relation : (e : RelTree) → IsTold (MeansRelation n sets rels e)
   told_relation (RelName source) = told_rels source
   told_relation NoPair = no_pairs
   told_relation (BlendRelations how e f) = blended how _ _ (told_relation e) (told_relation f)
@@ -332,13 +332,13 @@ pairs_where_so P R S p r s = record {
       (told_both (P → ⊥) (S a b) (told_not P p) (s.told a b));
 }
 
-events_among : (xs : List Value) (name : Predefined) (n : ℕ) → IsToldSet (EventsAmong xs name n)
+events_among : (xs : List NamedValue) (name : Predefined) (n : ℕ) → IsToldSet (EventsAmong xs name n)
 events_among [] name n = no_events
 events_among (x ∷ xs) name n =
     where_so (x.name ≡ name) (EventsFound x.events n) (EventsAmong xs name n)
     (same_name x.name name) (events_found x.events n) (events_among xs name n)
 
-pairs_among : (xs : List Value) (name : Predefined) (n : ℕ) → IsTold (PairsAmong xs name n)
+pairs_among : (xs : List NamedValue) (name : Predefined) (n : ℕ) → IsTold (PairsAmong xs name n)
 pairs_among [] name n = no_pairs
 pairs_among (x ∷ xs) name n =
     pairs_where_so (x.name ≡ name) (PairsFound x.pairs n) (PairsAmong xs name n)
@@ -457,7 +457,7 @@ module _ (check : CheckCode) (inputs : List (Bor Column)) (base : NamedValues) (
   a_relation : (answer : Bool) × IsAnswerOver check inputs base k kinds.OfRelation answer
   a_relation =
       rel_answer
-      (λ t. Holds check.word (Means base.count (EventsIn base inputs k)
+      (λ t. Holds check.word (MeansRelation base.count (EventsIn base inputs k)
       (WithOwn (PairsOutside base inputs k) (OwnPairs base.count [])) t)) check.negated
       check.code.steps.items
       (ends_of check.code.steps.items [] []).1

@@ -9,7 +9,7 @@ use Rattle.std.proofs.lemmas.List.Elements.{Contains-append_right}
 use Rattle.std.proofs.Math.Seq.{take-suc}
 use Rattle.run_combinations.specs.declared.combination.Combination.{Combination}
 use Rattle.base_names.specs.Known.{Known, set_names}
-use Rattle.base_names.specs.Candidate.{Gives}
+use Rattle.base_names.specs.Candidate.{SuppliesName}
 use Rattle.run_combinations.specs.Lists.{lists_of}
 use Rattle.run_combinations.specs.Combinations.{pairs, candidates_of}
 use Rattle.candidates.specs.Space.{candidates_in, Candidate}
@@ -20,7 +20,7 @@ use Rattle.cat_eval.specs.Worlds.{AreNamesHeld, AreWorlds}
 
 -- what holds all sets among the names, and what the relations among them need, holds the names
 pub held_of : (base : Known) (names : List Predefined) → set_names base.sets ≡ filter is_set names
-    → ((name : Predefined) → Contains names name → is_set name ≡ false → Gives base name)
+    → ((name : Predefined) → Contains names name → is_set name ≡ false → SuppliesName base name)
     → AreNamesHeld names base
 held_of base names sets relations = record {
   sets = λ name inside set. rw sets (filter_keeps is_set names name inside set);

@@ -12,7 +12,7 @@ use Rattle.binding_graph.specs.declared.resolved.Step.{Step}
 use Rattle.binding_graph.specs.Trees.{SetTree, RelTree, set_code, rel_code}
 use Rattle.text_values.specs.declared.predefined.Predefined.{Predefined}
 use Rattle.cat_eval.specs.declared.seen.NamedColumn.{NamedColumn}
-use Rattle.cat_eval.specs.Seen.{NamedValues, seen, seen_in}
+use Rattle.cat_eval.specs.Seen.{NamedValues, values_seen, seen_in}
 use Rattle.cat_eval.specs.Tables.{AreColumnsFor, column_names}
 use Rattle.cat_eval.proofs.Seeing.{in_long, first_at}
 use Rattle.cat_eval.proofs.Looking.{IsSeen, seen_right}
@@ -22,9 +22,9 @@ use Rattle.cat_eval.specs.Columns.{HaveValues, AreGroupColumns}
 use Rattle.cat_eval.specs.Executions.{events_of, EventsAt, PairsAt}
 use Rattle.cat_eval.specs.OverNames.{IsAnswerOver, AreAnswersOver, IsMeaningOver, HaveValuesOver, AreColumnsOver}
 use Rattle.cat_eval.specs.Least.{body}
-use Rattle.cat_eval.specs.Meaning.{MeansSet, Means}
+use Rattle.cat_eval.specs.Meaning.{MeansSet, MeansRelation}
 use Rattle.cat_eval.specs.Named.{EventsIn, PairsOutside, WithOwn, OwnPairs}
-use Rattle.cat_eval.specs.Needed.{AreListed, predefined_names_in, bodies_names}
+use Rattle.cat_eval.specs.Needed.{ListsNeeded, predefined_names_in, bodies_names}
 use Rattle.cat_eval.specs.Values.{IsCheckAnswer, AreAnswers, IsMeaning, Unless}
 use Rattle.cat_eval.proofs.Agreeing.{Agree, OfSteps, of_steps, set_parts, relation_parts, set_agrees, relation_agrees, least_agrees, body_named, code_at}
 use Rattle.cat_eval.proofs.Same.{Same, SameSet, changed, changed_set}
@@ -71,8 +71,8 @@ module _ (names : List Predefined) (base : NamedValues) (one : Candidate) (world
       → ((name : Predefined) → Contains (predefined_names_in xs) name → Contains names name)
       → xs ≡ rel_code t []
       → Same
-      (Means base.count (EventsIn base inputs k) (WithOwn (PairsOutside base inputs k) own) t)
-      (Means base.count (EventsAt base.count one inputs k)
+      (MeansRelation base.count (EventsIn base inputs k) (WithOwn (PairsOutside base inputs k) own) t)
+      (MeansRelation base.count (EventsAt base.count one inputs k)
       (WithOwn (PairsAt base.count one inputs k) own) t)
   relation_same own t xs within code =
       relation_agrees base.count (EventsIn base inputs k) (EventsAt base.count one inputs k)
@@ -170,12 +170,12 @@ module _ (names : List Predefined) (base : NamedValues) (one : Candidate) (world
 -- the answers of a check
 pub answers_exact : (check : CheckCode) (inputs : List (Bor Column)) (xs : List NamedColumn)
     (cs : List Candidate) (answers : List Bool)
-    → AreColumnsFor xs cs → AreListed (column_names xs) (predefined_names_in check.code.steps.items)
+    → AreColumnsFor xs cs → ListsNeeded (column_names xs) (predefined_names_in check.code.steps.items)
     → AreAnswersOver check inputs (seen_in xs 0 cs) answers → AreAnswers check inputs cs answers
 answers_exact check inputs xs cs answers right listed h = (
   h.0 ∙ in_long xs 0 cs,
   (λ k one answer at_c at_a.
-      let base = seen xs k (events_of one) in
+      let base = values_seen xs k (events_of one) in
       let world : IsSeen (column_names xs) base one = seen_right xs cs right k one at_c in
       answer_exact (column_names xs) base one world inputs k check listed check.code.kind answer
       (h.1 k base answer (first_at xs cs k one at_c) at_a)),
@@ -184,7 +184,7 @@ answers_exact check inputs xs cs answers right listed h = (
 -- the columns of a group
 pub columns_exact : (recursive : Bool) (bodies : List Body) (inputs : List (Bor Column))
     (xs : List NamedColumn) (cs : List Candidate) (columns : List Column)
-    → AreColumnsFor xs cs → AreListed (column_names xs) (bodies_names bodies)
+    → AreColumnsFor xs cs → ListsNeeded (column_names xs) (bodies_names bodies)
     → AreColumnsOver recursive bodies inputs (seen_in xs 0 cs) columns
     → AreGroupColumns recursive bodies inputs cs columns
 columns_exact recursive bodies inputs xs cs columns right listed h = record {
@@ -192,7 +192,7 @@ columns_exact recursive bodies inputs xs cs columns right listed h = record {
   suited = h.suited;
   long = λ j lt c. h.long j lt c ∙ in_long xs 0 cs;
   values = λ k one at.
-      let base = seen xs k (events_of one) in
+      let base = values_seen xs k (events_of one) in
       let world : IsSeen (column_names xs) base one = seen_right xs cs right k one at in
       values_exact (column_names xs) base one world inputs k recursive bodies columns listed
       (h.values k base (first_at xs cs k one at));

@@ -20,9 +20,9 @@ use Rattle.cat_eval.specs.Executions.{events_of}
 use Rattle.cat_eval.specs.Needs.{AreSuited}
 use Rattle.cat_eval.specs.Seen.{PairsFound}
 use Rattle.cat_eval.specs.Reordered.{HoldsSame}
-use Rattle.cat_eval.specs.Steady.{EndsWith, Repeats}
+use Rattle.cat_eval.specs.Steady.{HasAsLast, Repeats}
 use Rattle.cat_eval.specs.Tables.{StandsFor, IsColumnOf, IsBlock, IsHeld, IsEntryFilled, AreFilled, entry_names, kind_for}
-use Rattle.cat_eval.specs.Values.{Adds, IsFor, column_len}
+use Rattle.cat_eval.specs.Values.{AddsValue, IsFor, column_len}
 use Rattle.cat_eval.specs.Worlds.{IsWorld, AreWorlds}
 use Rattle.cat_eval.proofs.Columns.{get_last, adds_for, adds_long, adds_old, adds_new}
 use Rattle.cat_eval.proofs.Same.{Same, SameSet}
@@ -38,7 +38,7 @@ held_one false name base s r events pairs = pairs
 
 -- one value more
 pub filled_more : (old new : Entry) (bases : List Known) (base : Known) (s : Events) (r : Relation)
-    → new.name ≡ old.name → Adds old.column new.column s r
+    → new.name ≡ old.name → AddsValue old.column new.column s r
     → IsHeld (is_set old.name) old.name base s r → IsEntryFilled old bases
     → IsEntryFilled new (bases ++ base ∷ [])
 filled_more old new bases base s r name adds held before = record {
@@ -68,7 +68,7 @@ filled_more old new bases base s r name adds held before = record {
 
 -- the last value once more, where it is that of the next base too
 pub filled_again : (old new : Entry) (bases : List Known) (end base : Known) → new.name ≡ old.name
-    → EndsWith bases end → HoldsSame old.name end base → Repeats old.column new.column
+    → HasAsLast bases end → HoldsSame old.name end base → Repeats old.column new.column
     → IsEntryFilled old bases → IsEntryFilled new (bases ++ base ∷ [])
 filled_again old new bases end base name ends same repeats before =
     let long : length bases ≡ length ends.0 + 1 = ap length ends.1 ∙ length-append ends.0 (end ∷ []) in

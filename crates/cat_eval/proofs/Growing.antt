@@ -10,7 +10,7 @@ use Rattle.binding_graph.specs.declared.resolved.Body.{Body}
 use Rattle.binding_graph.specs.declared.resolved.Step.{Step}
 use Rattle.binding_graph.specs.declared.resolved.Step.TheVariants as steps
 use Rattle.binding_graph.specs.Trees.{SetTree, SetName, AllEvents, NoEvent, BlendSets, ComplementSet, RelTree, RelName, NoPair, BlendRelations, Compose, Multiply, IdentityOn, Close, ComplementRelation, set_code, rel_code}
-use Rattle.cat_eval.specs.Meaning.{Means}
+use Rattle.cat_eval.specs.Meaning.{MeansRelation}
 use Rattle.cat_eval.specs.Named.{OwnPairs, WithOwn}
 use Rattle.cat_eval.specs.Least.{AreMonotone, SolvesAt, IsLeast, body}
 use Rattle.cat_eval.specs.Rising.{IsBelowSolution, IsFixpointRound, HoldsOne, AreEmpty, AreCodes, rooms}
@@ -147,7 +147,7 @@ module _ (n : ℕ) (sets : Source → ℕ → Type 0) (outer : Source → ℕ �
   -- where the names that it holds have the same pairs, an expression means the same
   agree : (R S : ℕ → ℕ → ℕ → Type 0) (e : RelTree)
       → ((y : ℕ) → Mentions y e → (a b : ℕ) → R y a b ↔ S y a b) → (a b : ℕ)
-      → Means n sets (WithOwn outer R) e a b ↔ Means n sets (WithOwn outer S) e a b
+      → MeansRelation n sets (WithOwn outer R) e a b ↔ MeansRelation n sets (WithOwn outer S) e a b
   agree R S (RelName (sources.Predefined x)) same a b = ((λ m. m), (λ m. m))
   agree R S (RelName (sources.Input x)) same a b = ((λ m. m), (λ m. m))
   agree R S (RelName (sources.Own x)) same a b = same x refl a b
@@ -204,7 +204,7 @@ rooms-set (v ∷ vs) (suc x) r lt less =
 module _ (n : ℕ) (sets : Source → ℕ → Type 0) (outer : Source → ℕ → ℕ → Type 0)
     (bodies : List RelTree) (values : List Relation) (x : ℕ) (r : Relation)
     (fit : AreMonotone bodies) (sound : IsBelowSolution n sets outer bodies values) (lt : x < length bodies)
-    (next : IsRelation r n (Means n sets (WithOwn outer (OwnPairs n values)) (body bodies x))) where
+    (next : IsRelation r n (MeansRelation n sets (WithOwn outer (OwnPairs n values)) (body bodies x))) where
   in_values : x < length values
   in_values = rw sound.as_many lt
 
@@ -250,7 +250,7 @@ module _ (n : ℕ) (sets : Source → ℕ → Type 0) (outer : Source → ℕ �
 
   -- what the new values have, they have of the new relation or of the old values
   either_way : (y a b : ℕ) → OwnPairs n (set values x r) y a b
-      → ((y ≡ x) × Means n sets (WithOwn outer (OwnPairs n values)) (body bodies x) a b)
+      → ((y ≡ x) × MeansRelation n sets (WithOwn outer (OwnPairs n values)) (body bodies x) a b)
       ⊎ OwnPairs n values y a b
   either_way y a b h =
       elim (cases_eq y x) [
@@ -273,7 +273,7 @@ module _ (n : ℕ) (sets : Source → ℕ → Type 0) (outer : Source → ℕ �
     ];
     inside = λ test closed y in_bodies a b h. elim (either_way y a b h) [
       | inl t ↦
-          let passes : Means n sets (WithOwn outer (λ z c d. IsTrue (test z c d))) (body bodies x) a b =
+          let passes : MeansRelation n sets (WithOwn outer (λ z c d. IsTrue (test z c d))) (body bodies x) a b =
           monotone n sets outer (OwnPairs n values) (λ z c d. IsTrue (test z c d))
           (λ z c d k. sound.inside test closed z
           (rw (← sound.as_many) (found_past n values z c d k)) c d k)

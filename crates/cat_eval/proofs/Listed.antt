@@ -5,13 +5,13 @@ use Rattle.std.proofs.lemmas.Bool.{false≢true}
 use Rattle.std.proofs.lemmas.List.Folds.{list_any_more}
 use Rattle.std.proofs.lemmas.List.Elements.{Contains-append_left, Contains-append_right, Contains-append_cases}
 use Rattle.text_values.specs.declared.predefined.Predefined.{Predefined}
-use Rattle.cat_eval.specs.Needed.{AreListed, changes_with_reads, changes_with_orders}
+use Rattle.cat_eval.specs.Needed.{ListsNeeded, changes_with_reads, changes_with_orders}
 use Rattle.cat_eval.specs.Needs.{AreSuited}
 use Rattle.std.proofs.Math.Bool.{or_assoc}
 
 -- what was listed stays so, and more is
-pub listed_more : (old now new prefix back : List Predefined) → AreListed now (old ++ prefix)
-    → AreListed new (now ++ back) → AreListed new (old ++ (prefix ++ back))
+pub listed_more : (old now new prefix back : List Predefined) → ListsNeeded now (old ++ prefix)
+    → ListsNeeded new (now ++ back) → ListsNeeded new (old ++ (prefix ++ back))
 listed_more old now new prefix back before step name inside =
     elim (Contains-append_cases old (prefix ++ back) name inside) [
       | inl h ↦ step name (Contains-append_left now back name
@@ -38,7 +38,7 @@ single n x (suc k, lt, is) = absurd (omega (arith, lt))
 
 -- what is listed stays so with a name that is listed
 pub listed_with : (list : List Predefined) (n : Predefined) → Contains list n
-    → AreListed list (list ++ n ∷ [])
+    → ListsNeeded list (list ++ n ∷ [])
 listed_with list n there x inside = elim (Contains-append_cases list (n ∷ []) x inside) [
   | inl h ↦ h
   | inr last ↦ subst (λ (y : Predefined). Contains list y) (single n x last) there
@@ -54,7 +54,7 @@ either_right false b h = h
 
 -- one name more, and what it changes with
 pub suited_more : (old new : List Predefined) (n : Predefined)
-    (reads orders more_reads more_orders : Bool) → AreListed (old ++ n ∷ []) new
+    (reads orders more_reads more_orders : Bool) → ListsNeeded (old ++ n ∷ []) new
     → more_reads ≡ (reads || changes_with_reads n) → more_orders ≡ (orders || changes_with_orders n)
     → AreSuited old reads orders → AreSuited new more_reads more_orders
 suited_more old new n reads orders more_reads more_orders within is_read is_ordered h = record {

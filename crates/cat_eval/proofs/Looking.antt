@@ -7,7 +7,7 @@ use Rattle.base_names.proofs.Same.{same_or_not}
 use Rattle.candidates.specs.Space.{Candidate}
 use Rattle.cat_eval.specs.declared.seen.NamedColumn.{NamedColumn}
 use Rattle.cat_eval.specs.Executions.{events_of}
-use Rattle.cat_eval.specs.Seen.{NamedValues, EventsAmong, PairsAmong, EventsNamedBy, PairsNamedBy, value_at, seen}
+use Rattle.cat_eval.specs.Seen.{NamedValues, EventsAmong, PairsAmong, EventsNamedBy, PairsNamedBy, value_at, values_seen}
 use Rattle.cat_eval.specs.Tables.{StandsFor, AreColumnsFor, column_names}
 use Rattle.cat_eval.proofs.Same.{Same, SameSet}
 use Rattle.cat_eval.proofs.Seeing.{events_found, pairs_found}
@@ -80,7 +80,7 @@ module _ (k : ℕ) (one : Candidate) where
 
 pub seen_right : (xs : List NamedColumn) (cs : List Candidate) → AreColumnsFor xs cs
     → (k : ℕ) (one : Candidate) → slice_get cs k ≡ Some one
-    → IsSeen (column_names xs) (seen xs k (events_of one)) one
+    → IsSeen (column_names xs) (values_seen xs k (events_of one)) one
 seen_right xs cs right k one at = record {
   count = refl;
   events = λ name inside. events_right k one xs name (all_right k one xs cs right at) inside;

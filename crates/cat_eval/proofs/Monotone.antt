@@ -6,7 +6,7 @@ use Rattle.binding_graph.specs.declared.resolved.Source.{Source}
 use Rattle.binding_graph.specs.declared.resolved.Source.TheVariants as sources
 use Rattle.binding_graph.specs.Trees.{RelTree, RelName, NoPair, BlendRelations, Compose, Multiply, IdentityOn, Close, ComplementRelation}
 use Rattle.text_values.specs.declared.model.Postfix.{Postfix}
-use Rattle.cat_eval.specs.Meaning.{Means, Closed}
+use Rattle.cat_eval.specs.Meaning.{MeansRelation, Closed}
 use Rattle.cat_eval.specs.Named.{WithOwn}
 use Rattle.cat_eval.specs.Least.{HasNoOwnName, IsMonotone}
 use Rattle.bit_relations.proofs.Closing.{Plus-map}
@@ -24,7 +24,7 @@ closed_wider postfix.Closure n R S wider a b (inr m) = inr (Plus-map R S wider a
 module _ (n : ℕ) (sets : Source → ℕ → Type 0) (outer : Source → ℕ → ℕ → Type 0) where
   -- an expression without names of the group means the same, whatever these are
   pub fixed : (R S : ℕ → ℕ → ℕ → Type 0) (e : RelTree) → HasNoOwnName e → (a b : ℕ)
-      → Means n sets (WithOwn outer R) e a b → Means n sets (WithOwn outer S) e a b
+      → MeansRelation n sets (WithOwn outer R) e a b → MeansRelation n sets (WithOwn outer S) e a b
   fixed R S (RelName (sources.Predefined x)) f a b m = m
   fixed R S (RelName (sources.Input x)) f a b m = m
   fixed R S (RelName (sources.Own x)) f a b m = absurd f
@@ -43,8 +43,8 @@ module _ (n : ℕ) (sets : Source → ℕ → Type 0) (outer : Source → ℕ �
 
   -- where the names of the group have more pairs, so has a monotone expression
   pub monotone : (R S : ℕ → ℕ → ℕ → Type 0) → ((x a b : ℕ) → R x a b → S x a b) → (e : RelTree)
-      → IsMonotone e → (a b : ℕ) → Means n sets (WithOwn outer R) e a b
-      → Means n sets (WithOwn outer S) e a b
+      → IsMonotone e → (a b : ℕ) → MeansRelation n sets (WithOwn outer R) e a b
+      → MeansRelation n sets (WithOwn outer S) e a b
   monotone R S wider (RelName (sources.Predefined x)) f a b m = m
   monotone R S wider (RelName (sources.Input x)) f a b m = m
   monotone R S wider (RelName (sources.Own x)) f a b m = wider x a b m

@@ -17,11 +17,11 @@ use Rattle.cat_eval.specs.declared.column.Column.{Column}
 use Rattle.cat_eval.specs.declared.column.Column.TheVariants as columns
 use Rattle.cat_eval.specs.Columns.{HasColumnValue}
 use Rattle.cat_eval.specs.Least.{body}
-use Rattle.cat_eval.specs.Meaning.{MeansSet, Means}
+use Rattle.cat_eval.specs.Meaning.{MeansSet, MeansRelation}
 use Rattle.cat_eval.specs.Named.{ColumnEvents, ColumnPairs, InputEvents, InputPairs, EventsIn, PairsOutside, WithOwn, OwnPairs}
 use Rattle.cat_eval.specs.OverNames.{IsAnswerOver, IsMeaningOver, HaveValuesOver, AreColumnsOver}
-use Rattle.cat_eval.specs.Steady.{HasSame, HaveSameInputs, IsSteady, Repeats, EndsWith}
-use Rattle.cat_eval.specs.Values.{Adds, column_len}
+use Rattle.cat_eval.specs.Steady.{HasSame, HaveSameInputs, IsSteady, Repeats, HasAsLast}
+use Rattle.cat_eval.specs.Values.{AddsValue, column_len}
 use Rattle.cat_eval.proofs.Agreeing.{Agree, OfSet, OfRelation, set_agrees, relation_agrees, least_agrees}
 use Rattle.cat_eval.proofs.Columns.{get_last, adds_new, columns_more}
 use Rattle.cat_eval.proofs.Exact.{unless_same}
@@ -96,8 +96,8 @@ module _ (base : NamedValues) (inputs : List (Bor Column)) (j k : ℕ) (same : H
 
   relation_again : (own : ℕ → ℕ → ℕ → Type 0) (t : RelTree)
       → Same
-      (Means base.count (EventsIn base inputs j) (WithOwn (PairsOutside base inputs j) own) t)
-      (Means base.count (EventsIn base inputs k) (WithOwn (PairsOutside base inputs k) own) t)
+      (MeansRelation base.count (EventsIn base inputs j) (WithOwn (PairsOutside base inputs j) own) t)
+      (MeansRelation base.count (EventsIn base inputs k) (WithOwn (PairsOutside base inputs k) own) t)
   relation_again own t =
       relation_agrees base.count (EventsIn base inputs j) (EventsIn base inputs k)
       (WithOwn (PairsOutside base inputs j) own) (WithOwn (PairsOutside base inputs k) own) t
@@ -166,7 +166,7 @@ value_there (columns.Relations values) k lt =
     let (r, at) = has_one values k lt in (record { count = 0; word = 0 }, r, at)
 
 -- how many bases there are where they end with one
-pub ends_long : (bases : List NamedValues) (base : NamedValues) (ends : EndsWith bases base)
+pub ends_long : (bases : List NamedValues) (base : NamedValues) (ends : HasAsLast bases base)
     → (length bases ≡ length ends.0 + 1) × (slice_get bases (length ends.0) ≡ Some base)
 ends_long bases base ends =
     (ap length ends.1 ∙ length-append ends.0 (base ∷ []), rw ends.1 (get_last ends.0 base))
@@ -174,7 +174,7 @@ ends_long bases base ends =
 -- one value more in each column, that of the last candidate
 pub columns_again : (recursive : Bool) (bodies : List Body) (inputs : List (Bor Column))
     (bases : List NamedValues) (base : NamedValues) (olds news : List Column) (k steady : ℕ)
-    → EndsWith bases base → AreColumnsOver recursive bodies inputs bases olds
+    → HasAsLast bases base → AreColumnsOver recursive bodies inputs bases olds
     → k ≡ length bases → IsSteady inputs (length bases) steady → k < steady
     → length news ≡ length olds
     → ((x : ℕ) → x < length olds → (c : Column) → Repeats (get_or olds x c) (get_or news x c))
@@ -191,13 +191,13 @@ columns_again recursive bodies inputs bases base olds news k steady ends before 
 
     adds : (x : ℕ) → x < length bodies → (c : Column) (s : Events) (r : Relation)
         → HasColumnValue (get_or olds x c) (length ends.0) s r
-        → Adds (get_or olds x c) (get_or news x c) s r
+        → AddsValue (get_or olds x c) (get_or news x c) s r
     adds x less c s r has =
         repeats x (rw before.as_many less) c s r (subst
         (λ (n : ℕ). HasColumnValue (get_or olds x c) n s r) (sym (last_is x less c)) has)
 
     added : (x : ℕ) → x < length bodies → (c : Column)
-        → (s : Events) × (r : Relation) × Adds (get_or olds x c) (get_or news x c) s r
+        → (s : Events) × (r : Relation) × AddsValue (get_or olds x c) (get_or news x c) s r
     added x less c =
         let (s, r, has) = value_there (get_or olds x c) (length ends.0) (omega (arith, before.long x less c, long)) in
         (s, r, adds x less c s r has)

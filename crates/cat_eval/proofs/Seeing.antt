@@ -13,8 +13,8 @@ use Rattle.cat_eval.specs.declared.visit.Place.{Place}
 use Rattle.cat_eval.specs.Executions.{events_of}
 use Rattle.cat_eval.specs.Named.{ColumnEvents, ColumnPairs}
 use Rattle.cat_eval.specs.Places.{IsAt}
-use Rattle.cat_eval.specs.Seen.{PairsFound, Value, NamedValues, set_of, relation_of, value_at, columns_of, seen, seen_run, seen_in}
-use Rattle.cat_eval.specs.Steady.{HasSame, HaveSameInputs, IsSteady, EndsWith}
+use Rattle.cat_eval.specs.Seen.{PairsFound, NamedValue, NamedValues, set_of, relation_of, value_at, columns_of, values_seen, seen_run, seen_in}
+use Rattle.cat_eval.specs.Steady.{HasSame, HaveSameInputs, IsSteady, HasAsLast}
 
 -- what a column has for a candidate is what is found there
 pub events_found : (c : Column) (k n a : ℕ) → ColumnEvents c k n a ↔ EventsFound (set_of c k) n a
@@ -46,9 +46,9 @@ values_same (x ∷ xs) j k same =
     rw (e, f, rest) refl
 
 pub seen_same : (xs : List NamedColumn) (j k n : ℕ) → HaveSameInputs (columns_of xs) j k
-    → seen xs j n ≡ seen xs k n
+    → values_seen xs j n ≡ values_seen xs k n
 seen_same xs j k n same =
-    ap (λ (vs : List Value). record { count = n; values = vs }) (values_same xs j k same)
+    ap (λ (vs : List NamedValue). record { count = n; values = vs }) (values_same xs j k same)
 
 -- ---- one candidate further
 
@@ -56,26 +56,26 @@ seen_same xs j k n same =
 -- the same is seen
 pub seen_again : (xs : List NamedColumn) (place : Place) (bases : List NamedValues) (n : ℕ)
     → IsAt xs place bases → place.before ≡ Some n → place.candidate < place.steady
-    → EndsWith bases (seen xs (length bases) n)
+    → HasAsLast bases (values_seen xs (length bases) n)
 seen_again xs place bases n at before lt =
     let ends = at.last n before in
     let same : HaveSameInputs (columns_of xs) (place.candidate - 1) place.candidate = at.steady place.candidate (omega arith) lt in
-    subst (λ (k : ℕ). EndsWith bases (seen xs k n)) at.number (subst
-    (λ (known : NamedValues). EndsWith bases known)
+    subst (λ (k : ℕ). HasAsLast bases (values_seen xs k n)) at.number (subst
+    (λ (known : NamedValues). HasAsLast bases known)
     (seen_same xs (place.candidate - 1) place.candidate n same) ends)
 
 pub at_more : (xs : List NamedColumn) (bases : List NamedValues) (place new : Place) (n : ℕ)
     → IsAt xs place bases → new.candidate ≡ place.candidate + 1 → new.before ≡ Some n
     → IsSteady (columns_of xs) (place.candidate + 1) new.steady
-    → IsAt xs new (bases ++ seen xs (length bases) n ∷ [])
+    → IsAt xs new (bases ++ values_seen xs (length bases) n ∷ [])
 at_more xs bases place new n at next before steady = record {
-  number = omega (arith, next, at.number, length-append bases (seen xs (length bases) n ∷ []));
+  number = omega (arith, next, at.number, length-append bases (values_seen xs (length bases) n ∷ []));
   steady = subst (λ (k : ℕ). IsSteady (columns_of xs) k new.steady) (sym next) steady;
   last = λ m is. (bases, ap (λ (known : NamedValues). bases ++ known ∷ []) (is_last m is));
 }
   where
     is_last : (m : ℕ) → new.before ≡ Some m
-        → seen xs (length bases) n ≡ seen xs (new.candidate - 1) m
+        → values_seen xs (length bases) n ≡ values_seen xs (new.candidate - 1) m
     is_last m is =
         let same : n ≡ m = cc in
         let here : length bases ≡ new.candidate - 1 = omega (arith, next, at.number) in
@@ -87,10 +87,10 @@ pub run_long : (xs : List NamedColumn) (k n m : ℕ) → length (seen_run xs k n
 run_long xs k n zero = refl
 run_long xs k n (suc m) =
     let e : length (seen_run xs k n m) ≡ m = run_long xs k n m in
-    omega (arith, e, length-append (seen_run xs k n m) (seen xs (k + m) n ∷ []))
+    omega (arith, e, length-append (seen_run xs k n m) (values_seen xs (k + m) n ∷ []))
 
 pub run_step : (xs : List NamedColumn) (k n m : ℕ)
-    → seen_run xs k n (m + 1) ≡ seen_run xs k n m ++ seen xs (k + m) n ∷ []
+    → seen_run xs k n (m + 1) ≡ seen_run xs k n m ++ values_seen xs (k + m) n ∷ []
 run_step xs k n m = let e : m + 1 ≡ suc m = omega arith in rw e refl
 
 pub run_more : (xs : List NamedColumn) (k n a b : ℕ)
@@ -101,16 +101,16 @@ run_more xs k n a zero =
 run_more xs k n a (suc b) =
     let e : a + suc b ≡ suc (a + b) = omega arith in
     let f : k + (a + b) ≡ k + a + b = omega arith in
-    rw e (ap (λ (ks : List NamedValues). ks ++ seen xs (k + (a + b)) n ∷ []) (run_more xs k n a b)
-    ∙ append_assoc (seen_run xs k n a) (seen_run xs (k + a) n b) (seen xs (k + (a + b)) n ∷ [])
-    ∙ ap (λ (j : ℕ). seen_run xs k n a ++ (seen_run xs (k + a) n b ++ seen xs j n ∷ [])) f)
+    rw e (ap (λ (ks : List NamedValues). ks ++ values_seen xs (k + (a + b)) n ∷ []) (run_more xs k n a b)
+    ∙ append_assoc (seen_run xs k n a) (seen_run xs (k + a) n b) (values_seen xs (k + (a + b)) n ∷ [])
+    ∙ ap (λ (j : ℕ). seen_run xs k n a ++ (seen_run xs (k + a) n b ++ values_seen xs j n ∷ [])) f)
 
 pub in_append : (xs : List NamedColumn) (k : ℕ) (cs ds : List Candidate)
     → seen_in xs k (cs ++ ds) ≡ seen_in xs k cs ++ seen_in xs (k + length cs) ds
 in_append xs k [] ds = let e : k + 0 ≡ k = omega arith in rw e refl
 in_append xs k (c ∷ cs) ds =
     let e : k + 1 + length cs ≡ k + length (c ∷ cs) = omega arith in
-    ap (λ (ks : List NamedValues). seen xs k (events_of c) ∷ ks) (in_append xs (k + 1) cs ds
+    ap (λ (ks : List NamedValues). values_seen xs k (events_of c) ∷ ks) (in_append xs (k + 1) cs ds
     ∙ ap (λ (j : ℕ). seen_in xs (k + 1) cs ++ seen_in xs j ds) e)
 
 pub in_run : (xs : List NamedColumn) (k : ℕ) (c : Combination) (ts : List (List ℕ × List ℕ))
@@ -120,8 +120,8 @@ in_run xs k c (t ∷ ts) =
     let n = length c.events.items in
     let e : length (t ∷ ts) ≡ 1 + length ts = omega arith in
     let f : k + 0 ≡ k = omega arith in
-    ap (λ (ks : List NamedValues). seen xs k n ∷ ks) (in_run xs (k + 1) c ts)
-    ∙ ap (λ (j : ℕ). seen xs j n ∷ seen_run xs (k + 1) n (length ts)) (sym f)
+    ap (λ (ks : List NamedValues). values_seen xs k n ∷ ks) (in_run xs (k + 1) c ts)
+    ∙ ap (λ (j : ℕ). values_seen xs j n ∷ seen_run xs (k + 1) n (length ts)) (sym f)
     ∙ sym (ap (λ (m : ℕ). seen_run xs k n m) e ∙ run_more xs k n 1 (length ts))
 
 pub in_long : (xs : List NamedColumn) (k : ℕ) (cs : List Candidate)
@@ -132,7 +132,7 @@ in_long xs k (c ∷ cs) =
 
 pub in_at : (xs : List NamedColumn) (k : ℕ) (cs : List Candidate) (j : ℕ) (one : Candidate)
     → slice_get cs j ≡ Some one
-    → slice_get (seen_in xs k cs) j ≡ Some (seen xs (k + j) (events_of one))
+    → slice_get (seen_in xs k cs) j ≡ Some (values_seen xs (k + j) (events_of one))
 in_at xs k [] j one at = absurd (none-some one at)
 in_at xs k (c ∷ cs) zero one at =
     let same : c ≡ one = same_Some c one at in
@@ -150,7 +150,7 @@ first_append xs cs ds =
     in_append xs 0 cs ds ∙ ap (λ (j : ℕ). seen_in xs 0 cs ++ seen_in xs j ds) e
 
 pub first_at : (xs : List NamedColumn) (cs : List Candidate) (j : ℕ) (one : Candidate)
-    → slice_get cs j ≡ Some one → slice_get (seen_in xs 0 cs) j ≡ Some (seen xs j (events_of one))
+    → slice_get cs j ≡ Some one → slice_get (seen_in xs 0 cs) j ≡ Some (values_seen xs j (events_of one))
 first_at xs cs j one at =
     let e : 0 + j ≡ j = omega arith in
-    in_at xs 0 cs j one at ∙ ap (λ (k : ℕ). Some (seen xs k (events_of one))) e
+    in_at xs 0 cs j one at ∙ ap (λ (k : ℕ). Some (values_seen xs k (events_of one))) e

@@ -9,7 +9,7 @@ use Rattle.run_combinations.specs.declared.combination.Combination.{Combination}
 use Rattle.base_names.specs.declared.names.Named.{Named}
 use Rattle.base_names.specs.declared.names.Shared.{Shared}
 use Rattle.base_names.specs.Known.{Known, IsConsistent, EventsUnder, PairsUnder, KnownEvents, KnownPairs, SharedPairs, set_names, shared_names}
-use Rattle.base_names.specs.Candidate.{IsEntered, HasReadsFrom, HasCoherence, Gives, SetIn, SharedIn, RelationIn, FromReadsIn}
+use Rattle.base_names.specs.Candidate.{IsEntered, HasReadsFrom, HasCoherence, SuppliesName, SetIn, SharedIn, RelationIn, FromReadsIn}
 use Rattle.cat_eval.specs.Needed.{changes_with_reads, changes_with_orders}
 use Rattle.cat_eval.proofs.Same.{Same, SameSet}
 use Rattle.base_names.proofs.Meant.{both, either}
@@ -105,7 +105,7 @@ module _ (known : Known) (c : Combination) (entered : IsEntered known c) where
     pub relation_meant : (name : Predefined)
         → (IsTrue (changes_with_reads name) → HasReadsFrom known c reads_from)
         → (IsTrue (changes_with_orders name) → HasCoherence known c coherence)
-        → (is_set name ≡ false → Gives known name)
+        → (is_set name ≡ false → SuppliesName known name)
         → Same (KnownPairs known name) (RelationIn name known.count c reads_from coherence)
     relation_meant names.Loads reads orders given = no_relation names.Loads (λ a b h. absurd h.2)
     relation_meant names.Stores reads orders given = no_relation names.Stores (λ a b h. absurd h.2)

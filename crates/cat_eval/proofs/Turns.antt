@@ -5,7 +5,7 @@ use Rattle.binding_graph.specs.declared.resolved.Source.{Source}
 use Rattle.binding_graph.specs.declared.resolved.Body.{Body}
 use Rattle.binding_graph.specs.Trees.{RelTree, rel_code}
 use Rattle.cat_eval.specs.Least.{AreMonotone, body}
-use Rattle.cat_eval.specs.Meaning.{Means}
+use Rattle.cat_eval.specs.Meaning.{MeansRelation}
 use Rattle.cat_eval.specs.Named.{OwnPairs, WithOwn}
 use Rattle.cat_eval.specs.Rising.{IsFixpointRound, AreCodes}
 use Rattle.cat_eval.specs.Uses.{ShareBit, IsAmong}
@@ -23,7 +23,7 @@ module _ (n : ℕ) (sets : Source → ℕ → Type 0) (outer : Source → ℕ �
     (here : b ≡ get_or bodies x b)
     (evaluated : (t : RelTree) → b.code.steps.items ≡ rel_code t []
     → (v : Relation) × (stack ≡ v ∷ [])
-    × IsRelation v n (Means n sets (WithOwn outer (OwnPairs n values)) t)) where
+    × IsRelation v n (MeansRelation n sets (WithOwn outer (OwnPairs n values)) t)) where
   lt : x < length trees
   lt = rw (codes_long trees bodies codes) inside
 
@@ -31,7 +31,7 @@ module _ (n : ℕ) (sets : Source → ℕ → Type 0) (outer : Source → ℕ �
   in_values = rw round.sound.as_many lt
 
   value : (v : Relation) × (stack ≡ v ∷ [])
-      × IsRelation v n (Means n sets (WithOwn outer (OwnPairs n values)) (body trees x))
+      × IsRelation v n (MeansRelation n sets (WithOwn outer (OwnPairs n values)) (body trees x))
   value =
       evaluated (body trees x) (ap (λ (y : Body). y.code.steps.items) here
       ∙ code_at trees bodies x b codes lt)

@@ -8,7 +8,7 @@ use Rattle.bit_relations.specs.Relation.{Relation, Has, IsRelation, Events, IsMe
 use Rattle.binding_kinds.specs.declared.kinds.Kind.{Kind}
 use Rattle.binding_kinds.specs.declared.kinds.Kind.TheVariants as kinds
 use Rattle.binding_graph.specs.Trees.{SetTree, RelTree, set_code, rel_code}
-use Rattle.cat_eval.specs.Meaning.{MeansSet, Means}
+use Rattle.cat_eval.specs.Meaning.{MeansSet, MeansRelation}
 use Rattle.cat_eval.specs.Named.{EventsIn, PairsOutside, WithOwn, OwnPairs}
 use denote.Ref.{Bor}
 use Rattle.text_values.specs.declared.model.CheckWord.{CheckWord}
@@ -94,7 +94,7 @@ module _ (check : CheckCode) (inputs : List (Bor Column)) (base : NamedValues) (
       × IsEvents v base.count (MeansSet base.count (EventsIn base inputs k) t))
       → ((t : RelTree) → check.code.steps.items ≡ rel_code t []
       → (v : Relation) × (vs ≡ v ∷ [])
-      × IsRelation v base.count (Means base.count (EventsIn base inputs k)
+      × IsRelation v base.count (MeansRelation base.count (EventsIn base inputs k)
       (WithOwn (PairsOutside base inputs k) (OwnPairs base.count [])) t))
       → ((s : Events) (rest : List Events) → check.code.kind ≡ kinds.OfSet → us ≡ s ∷ rest
       → IsTrue met ↔ IsEmptySet (IsMember s))
@@ -110,12 +110,12 @@ module _ (check : CheckCode) (inputs : List (Bor Column)) (base : NamedValues) (
   answer_is sets rels set_met rel_met kinds.OfRelation is = λ t code.
       let made = rels t code in
       let same = rel_met made.0 [] (λ e. false≢true (ap is_of_set (sym is ∙ e))) made.1 in
-      let other = holds_same check.word (Has made.0) (Means base.count (EventsIn base inputs k) (WithOwn (PairsOutside base inputs k) (OwnPairs base.count [])) t) made.2.pairs in
+      let other = holds_same check.word (Has made.0) (MeansRelation base.count (EventsIn base inputs k) (WithOwn (PairsOutside base inputs k) (OwnPairs base.count [])) t) made.2.pairs in
       turned_if met check.negated _ ((λ h. other.0 (same.0 h)), (λ h. same.1 (other.1 h)))
   answer_is sets rels set_met rel_met kinds.OfAny is = λ t code.
       let made = rels t code in
       let same = rel_met made.0 [] (λ e. false≢true (ap is_of_set (sym is ∙ e))) made.1 in
-      let other = holds_same check.word (Has made.0) (Means base.count (EventsIn base inputs k) (WithOwn (PairsOutside base inputs k) (OwnPairs base.count [])) t) made.2.pairs in
+      let other = holds_same check.word (Has made.0) (MeansRelation base.count (EventsIn base inputs k) (WithOwn (PairsOutside base inputs k) (OwnPairs base.count [])) t) made.2.pairs in
       turned_if met check.negated _ ((λ h. other.0 (same.0 h)), (λ h. same.1 (other.1 h)))
 
 -- before the first candidate

@@ -18,11 +18,11 @@ use Rattle.cat_eval.specs.Least.{IsLeast, AreMonotone}
 use Rattle.cat_eval.specs.Named.{EventsIn, PairsOutside}
 use Rattle.cat_eval.specs.OverNames.{IsMeaningOver, AreColumnsOver}
 use Rattle.cat_eval.specs.Rising.{AreCodes}
-use Rattle.cat_eval.specs.Needed.{AreListed, bodies_names}
+use Rattle.cat_eval.specs.Needed.{ListsNeeded, bodies_names}
 use Rattle.cat_eval.specs.Seen.{NamedValues, seen_in}
-use Rattle.cat_eval.specs.Steady.{IsSteady, Repeats, EndsWith}
+use Rattle.cat_eval.specs.Steady.{IsSteady, Repeats, HasAsLast}
 use Rattle.cat_eval.specs.Tables.{AreColumnsFor, column_names}
-use Rattle.cat_eval.specs.Values.{Adds, IsFor, column_len}
+use Rattle.cat_eval.specs.Values.{AddsValue, IsFor, column_len}
 use Rattle.cat_eval.specs.Wanted.{is_wanted, AreWantedColumns, AreWantedOver, IsWantedColumn, WantedColumnsOf, AddsIf, RepeatsIf}
 use Rattle.cat_eval.proofs.Bodies.{AreBodyColumns, bodies_more, bodies_all}
 use Rattle.cat_eval.proofs.Columns.{columns_none, columns_moved, evaluated_more, solved_more}
@@ -53,11 +53,11 @@ abbrev grown : Column → Events → Relation → Column
 grown (columns.Sets xs) s r = columns.Sets (xs ++ s ∷ [])
 grown (columns.Relations xs) s r = columns.Relations (xs ++ r ∷ [])
 
-adds_grown : (a : Column) (s : Events) (r : Relation) → Adds a (grown a s r) s r
+adds_grown : (a : Column) (s : Events) (r : Relation) → AddsValue a (grown a s r) s r
 adds_grown (columns.Sets xs) s r = refl
 adds_grown (columns.Relations xs) s r = refl
 
-is_grown : (a b : Column) (s : Events) (r : Relation) → Adds a b s r → b ≡ grown a s r
+is_grown : (a b : Column) (s : Events) (r : Relation) → AddsValue a b s r → b ≡ grown a s r
 is_grown (columns.Sets xs) (columns.Sets ys) s r adds = ap columns.Sets adds
 is_grown (columns.Sets xs) (columns.Relations ys) s r adds = absurd adds
 is_grown (columns.Relations xs) (columns.Sets ys) s r adds = absurd adds
@@ -78,7 +78,7 @@ module _ (wanted : List Bool) (V : ℕ → Events → Relation → Type 0) (whol
     × AddsIf (is_wanted wanted j) (get_or olds j c) (get_or news j c) s r × V j s r) where
   abbrev IsNext : ℕ → Column → Column → Type 0
   IsNext j x y =
-      (s : Events) × (r : Relation) × Adds x y s r × V j s r
+      (s : Events) × (r : Relation) × AddsValue x y s r × V j s r
       × (is_wanted wanted j ≡ true → (c : Column) → get_or news j c ≡ y)
 
   next_at : (j : ℕ) → j < length whole → (d : Column) → (y : Column) × IsNext j (get_or whole j d) y
@@ -97,7 +97,7 @@ module _ (wanted : List Bool) (V : ℕ → Events → Relation → Type 0) (whol
 
   pub whole_more : (next : List Column) × AreWantedColumns wanted next news × (length next ≡ length whole)
       × ((j : ℕ) → j < length whole → (c : Column)
-      → (s : Events) × (r : Relation) × Adds (get_or whole j c) (get_or next j c) s r
+      → (s : Events) × (r : Relation) × AddsValue (get_or whole j c) (get_or next j c) s r
       × V j s r)
   whole_more = (
     all_next.0,
@@ -163,7 +163,7 @@ module _ (wanted : List Bool) (bodies : List Body) (inputs : List (Bor Column)) 
         solved_more bodies inputs bases base whole next k long at true own values is held over
             (λ j lt inside c.
             let (s, r, adds, same) = each j inside c in
-            (s, subst (λ (q : Relation). Adds (get_or whole j c) (get_or next j c) s q) same adds))
+            (s, subst (λ (q : Relation). AddsValue (get_or whole j c) (get_or next j c) s q) same adds))
             least,
         still,
       )
@@ -177,8 +177,8 @@ repeats_adds true old new whole s r same repeats has =
     repeats s r (subst (λ (c : Column). HasColumnValue c (column_len c - 1) s r) (sym (same refl)) has)
 repeats_adds false old new whole s r same repeats has = repeats
 
-adds_other : (a b : Column) (k : ℕ) (s t : Events) (r q : Relation) → Adds a b s r
-    → HasColumnValue a k s r → HasColumnValue a k t q → Adds a b t q
+adds_other : (a b : Column) (k : ℕ) (s t : Events) (r q : Relation) → AddsValue a b s r
+    → HasColumnValue a k s r → HasColumnValue a k t q → AddsValue a b t q
 adds_other (columns.Sets xs) (columns.Sets ys) k s t r q adds has other =
     subst (λ (z : Events). ys ≡ xs ++ z ∷ []) (same_Some s t (sym has ∙ other)) adds
 adds_other (columns.Sets xs) (columns.Relations ys) k s t r q adds has other = absurd adds
@@ -192,7 +192,7 @@ HasLast whole j s r =
     (c : Column) → HasColumnValue (get_or whole j c) (column_len (get_or whole j c) - 1) s r
 
 module _ (wanted : List Bool) (recursive : Bool) (bodies : List Body) (inputs : List (Bor Column))
-    (bases : List NamedValues) (base : NamedValues) (olds news whole : List Column) (ends : EndsWith bases base)
+    (bases : List NamedValues) (base : NamedValues) (olds news whole : List Column) (ends : HasAsLast bases base)
     (over : AreColumnsOver recursive bodies inputs bases whole) (shown : AreWantedColumns wanted whole olds)
     (many : length news ≡ length olds)
     (repeats : (x : ℕ) → x < length olds → (c : Column)
@@ -215,7 +215,7 @@ module _ (wanted : List Bool) (recursive : Bool) (bodies : List Body) (inputs : 
 
   repeats_whole : (next : List Column)
       → ((j : ℕ) → j < length whole → (c : Column)
-      → (s : Events) × (r : Relation) × Adds (get_or whole j c) (get_or next j c) s r
+      → (s : Events) × (r : Relation) × AddsValue (get_or whole j c) (get_or next j c) s r
       × HasLast whole j s r) → (j : ℕ) → j < length whole → (c : Column)
       → Repeats (get_or whole j c) (get_or next j c)
   repeats_whole next each j inside c = λ t q other.
@@ -225,7 +225,7 @@ module _ (wanted : List Bool) (recursive : Bool) (bodies : List Body) (inputs : 
 
 pub repeated_shown : (wanted : List Bool) (recursive : Bool) (bodies : List Body)
     (inputs : List (Bor Column)) (bases : List NamedValues) (base : NamedValues) (olds news : List Column)
-    (k steady : ℕ) → EndsWith bases base
+    (k steady : ℕ) → HasAsLast bases base
     → AreWantedOver wanted recursive bodies inputs bases olds
     → k ≡ length bases → IsSteady inputs (length bases) steady → k < steady
     → length news ≡ length olds
@@ -362,7 +362,7 @@ all_wanted role inputs space cs h =
 pub shown_exact : (wanted : List Bool) (recursive : Bool) (bodies : List Body)
     (inputs : List (Bor Column)) (xs : List NamedColumn) (cs : List Candidate)
     (columns : List Column)
-    → AreColumnsFor xs cs → AreListed (column_names xs) (bodies_names bodies)
+    → AreColumnsFor xs cs → ListsNeeded (column_names xs) (bodies_names bodies)
     → AreWantedOver wanted recursive bodies inputs (seen_in xs 0 cs) columns
     → (whole : List Column) × AreGroupColumns recursive bodies inputs cs whole
     × AreWantedColumns wanted whole columns

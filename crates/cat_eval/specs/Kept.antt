@@ -7,7 +7,7 @@ use Rattle.candidates.specs.declared.candidate.Space.{Space}
 use Rattle.cat_eval.specs.declared.column.Column.{Column}
 use Rattle.cat_eval.specs.OverNames.{IsAnswerOver, AreAnswersOver}
 use Rattle.cat_eval.specs.Seen.{NamedValues}
-use Rattle.cat_eval.specs.Steady.{EndsWith}
+use Rattle.cat_eval.specs.Steady.{HasAsLast}
 use Rattle.cat_eval.specs.Values.{AnswersOf}
 
 -- whether the candidate of that number is kept
@@ -41,5 +41,5 @@ AreAskedOver check inputs kept bases answers =
 -- what is known of the last candidate is its answer
 abbrev pub IsLastAnswer : CheckCode → List (Bor Column) → List NamedValues → Option Bool → Type 0
 IsLastAnswer check inputs bases known =
-    (answer : Bool) (base : NamedValues) → known ≡ Some answer → EndsWith bases base
+    (answer : Bool) (base : NamedValues) → known ≡ Some answer → HasAsLast bases base
     → IsAnswerOver check inputs base (length bases - 1) check.code.kind answer

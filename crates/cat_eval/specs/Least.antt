@@ -5,7 +5,7 @@ use Rattle.binding_graph.specs.declared.resolved.Blend.TheVariants as blends
 use Rattle.binding_graph.specs.declared.resolved.Source.{Source}
 use Rattle.binding_graph.specs.declared.resolved.Source.TheVariants as sources
 use Rattle.binding_graph.specs.Trees.{RelTree, RelName, NoPair, BlendRelations, Compose, Multiply, IdentityOn, Close, ComplementRelation}
-use Rattle.cat_eval.specs.Meaning.{Means}
+use Rattle.cat_eval.specs.Meaning.{MeansRelation}
 use Rattle.cat_eval.specs.Named.{OwnPairs, WithOwn}
 
 -- the name is not one of the group itself
@@ -49,14 +49,14 @@ abbrev pub SolvesAt : ℕ → (Source → ℕ → Type 0) → (Source → ℕ �
     → List Relation → ℕ → Type 0
 SolvesAt n sets outer bodies values x =
     (a b : ℕ)
-    → OwnPairs n values x a b ↔ Means n sets (WithOwn outer (OwnPairs n values)) (body bodies x) a b
+    → OwnPairs n values x a b ↔ MeansRelation n sets (WithOwn outer (OwnPairs n values)) (body bodies x) a b
 
 -- the tests hold of all that the bodies give where the names have the pairs that pass them
 abbrev pub IsClosedUnder : ℕ → (Source → ℕ → Type 0) → (Source → ℕ → ℕ → Type 0) → List RelTree
     → (ℕ → ℕ → ℕ → Bool) → Type 0
 IsClosedUnder n sets outer bodies test =
     (x : ℕ) → x < length bodies → (a b : ℕ)
-    → Means n sets (WithOwn outer (λ y c d. IsTrue (test y c d))) (body bodies x) a b
+    → MeansRelation n sets (WithOwn outer (λ y c d. IsTrue (test y c d))) (body bodies x) a b
     → IsTrue (test x a b)
 
 -- each value is a relation on n events

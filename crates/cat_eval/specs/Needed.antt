@@ -110,5 +110,5 @@ role_names (roles.Check check) = predefined_names_in check.code.steps.items
 role_names roles.Silent = []
 
 -- all of these names are listed
-abbrev pub AreListed : List Predefined → List Predefined → Type 0
-AreListed list some = (name : Predefined) → Contains some name → Contains list name
+abbrev pub ListsNeeded : List Predefined → List Predefined → Type 0
+ListsNeeded list some = (name : Predefined) → Contains some name → Contains list name

@@ -4,7 +4,7 @@ use Rattle.bit_relations.specs.Relation.{Relation, Events}
 use Rattle.text_values.specs.declared.predefined.Predefined.{Predefined}
 use Rattle.text_values.specs.PredefinedNames.{is_set}
 use Rattle.base_names.specs.Known.{Known}
-use Rattle.cat_eval.specs.Steady.{EndsWith}
+use Rattle.cat_eval.specs.Steady.{HasAsLast}
 use Rattle.cat_eval.specs.Tables.{IsHeld}
 
 -- the second is the first but for the order of the stores
@@ -16,7 +16,7 @@ pub record IsReordered (first second : Known) : Type 0 where
 
 -- the base is the last of them but for the order of the stores
 abbrev pub EndsReordered : List Known → Known → Type 0
-EndsReordered bases base = (last : Known) × EndsWith bases last × IsReordered last base
+EndsReordered bases base = (last : Known) × HasAsLast bases last × IsReordered last base
 
 -- what is held under the name in the first is held under it in the second
 abbrev pub HoldsSame : Predefined → Known → Known → Type 0

@@ -4,7 +4,7 @@ use Rattle.bit_relations.specs.Relation.{Relation, IsRelation, room_of, no_slot}
 use Rattle.binding_graph.specs.declared.resolved.Source.{Source}
 use Rattle.binding_graph.specs.declared.resolved.Body.{Body}
 use Rattle.binding_graph.specs.Trees.{RelTree, RelName, NoPair, BlendRelations, Compose, Multiply, IdentityOn, Close, ComplementRelation, rel_code}
-use Rattle.cat_eval.specs.Meaning.{Means}
+use Rattle.cat_eval.specs.Meaning.{MeansRelation}
 use Rattle.cat_eval.specs.Named.{OwnPairs, WithOwn}
 use Rattle.cat_eval.specs.Least.{SolvesAt, IsClosedUnder, AreRelationsOn, body}
 use Rattle.cat_eval.specs.Uses.{IsAmong, StandsForOne}
@@ -20,7 +20,7 @@ pub record IsBelowSolution (n : ℕ) (sets : Source → ℕ → Type 0) (outer :
   pub as_many : length values ≡ length bodies
   pub on : AreRelationsOn n values
   pub rising : (x : ℕ) → x < length bodies → (a b : ℕ) → OwnPairs n values x a b
-      → Means n sets (WithOwn outer (OwnPairs n values)) (body bodies x) a b
+      → MeansRelation n sets (WithOwn outer (OwnPairs n values)) (body bodies x) a b
   pub inside : (test : ℕ → ℕ → ℕ → Bool) → IsClosedUnder n sets outer bodies test → (x : ℕ)
       → x < length bodies → (a b : ℕ) → OwnPairs n values x a b → IsTrue (test x a b)
 

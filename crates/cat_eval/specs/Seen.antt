@@ -24,12 +24,12 @@ relation_of (columns.Sets values) k = None
 relation_of (columns.Relations values) k = slice_get values k
 
 -- a name, and what stands under it
-pub record Value : Type 0 where
+pub record NamedValue : Type 0 where
   pub name : Predefined
   pub events : Option Events
   pub pairs : Option Relation
 
-abbrev pub value_at : ℕ → NamedColumn → Value
+abbrev pub value_at : ℕ → NamedColumn → NamedValue
 value_at k named =
     record {
       name = named.name;
@@ -40,16 +40,16 @@ value_at k named =
 -- the number of events, and what stands under the names
 pub record NamedValues : Type 0 where
   pub count : ℕ
-  pub values : List Value
+  pub values : List NamedValue
 
 -- the events of the first value of this name, if it is a set of n events
-abbrev pub EventsAmong : List Value → Predefined → ℕ → ℕ → Type 0
+abbrev pub EventsAmong : List NamedValue → Predefined → ℕ → ℕ → Type 0
 EventsAmong [] name n a = ⊥
 EventsAmong (x ∷ xs) name n a =
     ((x.name ≡ name) × EventsFound x.events n a) ⊎ ((x.name ≡ name → ⊥) × EventsAmong xs name n a)
 
 -- its pairs, if it is a relation of n events
-abbrev pub PairsAmong : List Value → Predefined → ℕ → ℕ → ℕ → Type 0
+abbrev pub PairsAmong : List NamedValue → Predefined → ℕ → ℕ → ℕ → Type 0
 PairsAmong [] name n a b = ⊥
 PairsAmong (x ∷ xs) name n a b =
     ((x.name ≡ name) × PairsFound x.pairs n a b) ⊎ ((x.name ≡ name → ⊥) × PairsAmong xs name n a b)
@@ -64,15 +64,15 @@ abbrev pub columns_of : List NamedColumn → List (Bor Column)
 columns_of xs = map (λ x. x.column) xs
 
 -- what is seen of the names in the candidate of number k, of n events
-abbrev pub seen : List NamedColumn → ℕ → ℕ → NamedValues
-seen xs k n = record { count = n; values = map (value_at k) xs }
+abbrev pub values_seen : List NamedColumn → ℕ → ℕ → NamedValues
+values_seen xs k n = record { count = n; values = map (value_at k) xs }
 
 -- in so many candidates of n events, the first of number k
 abbrev pub seen_run : List NamedColumn → ℕ → ℕ → ℕ → List NamedValues
 seen_run xs k n zero = []
-seen_run xs k n (suc m) = seen_run xs k n m ++ seen xs (k + m) n ∷ []
+seen_run xs k n (suc m) = seen_run xs k n m ++ values_seen xs (k + m) n ∷ []
 
 -- in each of these candidates, the first of number k
 abbrev pub seen_in : List NamedColumn → ℕ → List Candidate → List NamedValues
 seen_in xs k [] = []
-seen_in xs k (one ∷ rest) = seen xs k (length one.0.events.items) ∷ seen_in xs (k + 1) rest
+seen_in xs k (one ∷ rest) = values_seen xs k (length one.0.events.items) ∷ seen_in xs (k + 1) rest

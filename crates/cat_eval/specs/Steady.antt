@@ -6,7 +6,7 @@ use Rattle.bit_relations.specs.Relation.{Relation, Events}
 use Rattle.cat_eval.specs.declared.column.Column.{Column}
 use Rattle.cat_eval.specs.declared.column.Column.TheVariants as columns
 use Rattle.cat_eval.specs.Columns.{HasColumnValue}
-use Rattle.cat_eval.specs.Values.{Adds, column_len}
+use Rattle.cat_eval.specs.Values.{AddsValue, column_len}
 
 -- in both candidates it has the same value, or in neither one
 abbrev pub HasSame : Column → ℕ → ℕ → Type 0
@@ -30,8 +30,8 @@ IsSteady inputs next until = (k : ℕ) → next ≤ k → k < until → HaveSame
 -- the new column has its last value once more
 abbrev pub Repeats : Column → Column → Type 0
 Repeats old new =
-    (s : Events) (r : Relation) → HasColumnValue old (column_len old - 1) s r → Adds old new s r
+    (s : Events) (r : Relation) → HasColumnValue old (column_len old - 1) s r → AddsValue old new s r
 
 -- the last of them
-abbrev pub EndsWith : {X : Type 0} → List X → X → Type 0
-EndsWith bases base = (before : _) × (bases ≡ before ++ base ∷ [])
+abbrev pub HasAsLast : {X : Type 0} → List X → X → Type 0
+HasAsLast bases base = (before : _) × (bases ≡ before ++ base ∷ [])

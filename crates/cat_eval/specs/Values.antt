@@ -13,7 +13,7 @@ use Rattle.cat_eval.specs.declared.column.Column.{Column}
 use Rattle.candidates.specs.Space.{candidates_in, Candidate}
 use Rattle.cat_eval.specs.Checks.{Holds, IsEmptySet}
 use Rattle.cat_eval.specs.Executions.{events_of, EventsAt, PairsAt}
-use Rattle.cat_eval.specs.Meaning.{MeansSet, Means}
+use Rattle.cat_eval.specs.Meaning.{MeansSet, MeansRelation}
 use Rattle.cat_eval.specs.Named.{WithOwn, OwnPairs}
 use Rattle.bit_relations.specs.Relation.{Relation, Events, IsRelation, IsEvents}
 use Rattle.binding_graph.specs.declared.resolved.Step.{Step}
@@ -34,11 +34,11 @@ IsCheckAnswer check n sets outer kinds.OfSet answer =
 IsCheckAnswer check n sets outer kinds.OfRelation answer =
     (t : RelTree) → check.code.steps.items ≡ rel_code t []
     → IsTrue answer
-    ↔ Unless check.negated (Holds check.word (Means n sets (WithOwn outer (OwnPairs n [])) t))
+    ↔ Unless check.negated (Holds check.word (MeansRelation n sets (WithOwn outer (OwnPairs n [])) t))
 IsCheckAnswer check n sets outer kinds.OfAny answer =
     (t : RelTree) → check.code.steps.items ≡ rel_code t []
     → IsTrue answer
-    ↔ Unless check.negated (Holds check.word (Means n sets (WithOwn outer (OwnPairs n [])) t))
+    ↔ Unless check.negated (Holds check.word (MeansRelation n sets (WithOwn outer (OwnPairs n [])) t))
 
 -- one answer for each candidate, in order: whether the expression meets the check there
 abbrev pub AreAnswers : CheckCode → List (Bor Column) → List Candidate → List Bool → Type 0
@@ -60,12 +60,12 @@ abbrev pub column_len : Column → ℕ
 column_len (columns.Sets values) = length values
 column_len (columns.Relations values) = length values
 
--- the new column has one value more: of the two the one of its kind
-abbrev pub Adds : Column → Column → Events → Relation → Type 0
-Adds (columns.Sets xs) (columns.Sets ys) s r = ys ≡ xs ++ s ∷ []
-Adds (columns.Sets xs) (columns.Relations ys) s r = ⊥
-Adds (columns.Relations xs) (columns.Sets ys) s r = ⊥
-Adds (columns.Relations xs) (columns.Relations ys) s r = ys ≡ xs ++ r ∷ []
+-- the column gains one value: `s` if it holds sets, `r` if relations
+abbrev pub AddsValue : Column → Column → Events → Relation → Type 0
+AddsValue (columns.Sets xs) (columns.Sets ys) s r = ys ≡ xs ++ s ∷ []
+AddsValue (columns.Sets xs) (columns.Relations ys) s r = ⊥
+AddsValue (columns.Relations xs) (columns.Sets ys) s r = ⊥
+AddsValue (columns.Relations xs) (columns.Relations ys) s r = ys ≡ xs ++ r ∷ []
 
 -- it has so many values more, all the same: of the two the one of its kind
 abbrev pub AddsRun : Column → Column → ℕ → Events → Relation → Type 0
@@ -91,7 +91,7 @@ IsMeaning kinds.OfSet steps n sets outer s r =
     (t : SetTree) → steps ≡ set_code t [] → IsEvents s n (MeansSet n sets t)
 IsMeaning kinds.OfRelation steps n sets outer s r =
     (t : RelTree) → steps ≡ rel_code t []
-    → IsRelation r n (Means n sets (WithOwn outer (OwnPairs n [])) t)
+    → IsRelation r n (MeansRelation n sets (WithOwn outer (OwnPairs n [])) t)
 IsMeaning kinds.OfAny steps n sets outer s r =
     (t : RelTree) → steps ≡ rel_code t []
-    → IsRelation r n (Means n sets (WithOwn outer (OwnPairs n [])) t)
+    → IsRelation r n (MeansRelation n sets (WithOwn outer (OwnPairs n [])) t)

@@ -12,7 +12,7 @@ use Rattle.cat_eval.specs.OverNames.{AreColumnsOver}
 use Rattle.cat_eval.specs.Runs.{IsBodyColumn}
 use Rattle.cat_eval.specs.Seen.{NamedValues}
 use Rattle.cat_eval.specs.Steady.{Repeats}
-use Rattle.cat_eval.specs.Values.{Adds, column_len}
+use Rattle.cat_eval.specs.Values.{AddsValue, column_len}
 
 -- whether the name at that position is wanted: a name without an entry is
 abbrev pub is_wanted : List Bool → ℕ → Bool
@@ -47,7 +47,7 @@ AreWantedOver wanted recursive bodies inputs bases cs =
 
 -- the new column has one value more, or it is the old one
 abbrev pub AddsIf : Bool → Column → Column → Events → Relation → Type 0
-AddsIf true old new s r = Adds old new s r
+AddsIf true old new s r = AddsValue old new s r
 AddsIf false old new s r = new ≡ old
 
 -- the new column has its last value once more, or it is the old one

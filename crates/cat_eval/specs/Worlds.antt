@@ -4,14 +4,14 @@ use Rattle.text_values.specs.declared.predefined.Predefined.{Predefined}
 use Rattle.text_values.specs.PredefinedNames.{is_set}
 use Rattle.run_combinations.specs.declared.combination.Combination.{Combination}
 use Rattle.base_names.specs.Known.{Known, IsConsistent, set_names}
-use Rattle.base_names.specs.Candidate.{IsEntered, HasReadsFrom, HasCoherence, Gives}
+use Rattle.base_names.specs.Candidate.{IsEntered, HasReadsFrom, HasCoherence, SuppliesName}
 use Rattle.candidates.specs.Space.{Candidate}
 
 -- what these names need is held: the sets among them, and what the relations among them are made of
 pub record AreNamesHeld (names : List Predefined) (base : Known) : Type 0 where
   pub sets : (name : Predefined) → Contains names name → IsTrue (is_set name)
       → Contains (set_names base.sets) name
-  pub relations : (name : Predefined) → Contains names name → is_set name ≡ false → Gives base name
+  pub relations : (name : Predefined) → Contains names name → is_set name ≡ false → SuppliesName base name
 
 -- these names are held, and what is held is that of the combination where this fixes it
 pub record IsBaseReady (names : List Predefined) (base : Known) (c : Combination) : Type 0 where

@@ -2,7 +2,7 @@
 
 ghost use Rattle.std.specs.Prelude.{◌≡◌, ◌<◌, ◌≤◌, ◌+◌, ◌^◌, ◌++◌, ◌∷◌, [], List, length, Some, IsTrue, OnOk};
 ghost use Rattle.cat_eval.specs.Runs.{IsAskedAt};
-ghost use Rattle.cat_eval.specs.Seen.{NamedValues, seen};
+ghost use Rattle.cat_eval.specs.Seen.{NamedValues, values_seen};
 
 use crate::check::{is_asked_at, is_held};
 use crate::column::Column;
@@ -85,7 +85,7 @@ impl AskedRun<'_> {
             → IsAskedAt named.now self.old.check.now self.old.inputs.now self.old.kept bases
             self.old
             → OnOk result (IsAskedAt named.now self.old.check.now self.old.inputs.now self.old.kept
-            (bases ++ seen named.now (length bases) count ∷ []) self.new) }
+            (bases ++ values_seen named.now (length bases) count ∷ []) self.new) }
     {
         let candidate = self.answers.len();
         if candidate == usize::MAX {

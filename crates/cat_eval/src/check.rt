@@ -128,6 +128,7 @@ impl Visit for CheckRun<'_> {
 }
 
 /// Whether a check holds, where candidates are kept.
+#[inline(never)]
 fn asked_answers<'a>(
     alloc: Global,
     check: &'a CheckCode,
@@ -159,6 +160,7 @@ fn asked_answers<'a>(
 }
 
 /// The answers of a check that is evaluated in each candidate by itself.
+#[inline(never)]
 fn visited_answers<'a>(
     alloc: Global,
     check: &'a CheckCode,
@@ -207,6 +209,7 @@ fn answers_over<'a>(
 
 /// Whether a check or flag holds, for each candidate of a space. `inputs` are the values of the
 /// item's inputs, in their order. An item of another kind has no answers. Errors: want of memory.
+#[inline(never)]
 pub fn eval_check(
     alloc: Global,
     item: &ResolvedItem,

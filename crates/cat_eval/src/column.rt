@@ -4,7 +4,7 @@ ghost use Rattle.std.specs.Prelude.{◌≡◌, ◌+◌, ◌-◌, ◌^◌, ◌<�
 ghost use Rattle.bit_relations.specs.Relation.{IsRelation, IsEvents};
 ghost use Rattle.base_names.specs.Known.{EventsFound};
 ghost use Rattle.binding_kinds.specs.declared.kinds.Kind.TheVariants as kinds;
-ghost use Rattle.cat_eval.specs.Values.{Adds, AddsRun, IsFor, column_len};
+ghost use Rattle.cat_eval.specs.Values.{AddsValue, AddsRun, IsFor, column_len};
 ghost use Rattle.cat_eval.specs.Named.{ColumnEvents, ColumnPairs, PairsFound};
 ghost use Rattle.cat_eval.specs.Steady.{HasSame, Repeats};
 
@@ -151,7 +151,7 @@ impl Column {
 
     /// Adds the value of the next candidate, of which the one of its kind counts.
     pub(crate) fn push(&mut self, set: &EventSet, relation: &Rel) -> Result<(), AllocError>
-        ensures { OnOk result (Adds self.old self.new set.now relation.now) }
+        ensures { OnOk result (AddsValue self.old self.new set.now relation.now) }
     {
         match self {
             Column::Sets(values) => values.push(set)?,

@@ -1,7 +1,7 @@
 //! Where items are evaluated.
 
 ghost use Rattle.candidates.specs.declared.candidate.Space.{Space};
-ghost use Rattle.cat_eval.specs.Needed.{AreListed, role_names};
+ghost use Rattle.cat_eval.specs.Needed.{ListsNeeded, role_names};
 ghost use Rattle.cat_eval.specs.Tables.{IsOver, HasName};
 ghost use Rattle.std.specs.Prelude.{OnOk, Contains};
 
@@ -84,7 +84,7 @@ impl Evaluator {
     ) -> Result<(), AllocError>
         requires { IsOver self.old space.now }
         ensures over { IsOver self.new space.now }
-        ensures names { OnOk result (AreListed self.new.needs.names.items
+        ensures names { OnOk result (ListsNeeded self.new.needs.names.items
             (role_names item.now.role)) }
         ensures there { OnOk result ((name : _) → Contains self.new.needs.names.items name
             → HasName self.new.table.blocks.items name) }

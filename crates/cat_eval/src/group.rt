@@ -365,6 +365,7 @@ fn wanted_column(
 }
 
 /// The values of bodies that are wanted, which use no name of their own group.
+#[inline(never)]
 fn plain_columns(
     alloc: Global,
     bodies: &[Body],
@@ -387,6 +388,7 @@ fn plain_columns(
 }
 
 /// The values of bodies that are wanted, evaluated in each candidate by itself.
+#[inline(never)]
 fn visited_columns(
     alloc: Global,
     is_recursive: bool,
@@ -418,6 +420,7 @@ fn visited_columns(
 /// its equations: said of bodies that are expressions and grow with their names, as those of a
 /// model without fault are by `evaluation_laws::items_are_coded`. An item of another kind has no
 /// names. Errors: want of memory.
+#[inline(never)]
 pub fn eval_group(
     alloc: Global,
     item: &ResolvedItem,

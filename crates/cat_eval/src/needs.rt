@@ -3,7 +3,7 @@
 ghost use Rattle.std.specs.Prelude.{◌≡◌, ◌++◌, ◌∷◌, ◌||◌, [], false, OnOk, IsTrue, Contains};
 ghost use Rattle.text_values.specs.declared.predefined.Predefined.{Predefined};
 ghost use Rattle.cat_eval.specs.Needs.{AreSuited, is_changing_name};
-ghost use Rattle.cat_eval.specs.Needed.{changes_with_reads, changes_with_orders, step_passes, steps_read, steps_order, bodies_read, bodies_order, role_reads, role_orders, step_names, predefined_names_in, bodies_names, role_names, AreListed};
+ghost use Rattle.cat_eval.specs.Needed.{changes_with_reads, changes_with_orders, step_passes, steps_read, steps_order, bodies_read, bodies_order, role_reads, role_orders, step_names, predefined_names_in, bodies_names, role_names, ListsNeeded};
 
 use binding_graph::{Body, ResolvedItem, Role, Source, Step};
 use std::alloc::{AllocError, Global};
@@ -83,7 +83,7 @@ impl Needs {
     pub(crate) fn replace_by(&mut self, item: &ResolvedItem) -> Result<(), AllocError>
         ensures changes { OnOk result ((self.new.reads ≡ role_reads item.now.role)
             × (self.new.orders ≡ role_orders item.now.role)) }
-        ensures names { OnOk result (AreListed self.new.names.items (role_names item.now.role)) }
+        ensures names { OnOk result (ListsNeeded self.new.names.items (role_names item.now.role)) }
     {
         self.clear();
         self.add_item(item)?;
@@ -105,7 +105,7 @@ impl Needs {
         ensures changes { OnOk result ((self.new.reads
             ≡ (self.old.reads || role_reads item.now.role))
             × (self.new.orders ≡ (self.old.orders || role_orders item.now.role))) }
-        ensures names { OnOk result (AreListed self.new.names.items
+        ensures names { OnOk result (ListsNeeded self.new.names.items
             (self.old.names.items ++ role_names item.now.role)) }
     {
         match &item.role {
@@ -119,7 +119,7 @@ impl Needs {
     fn add_bodies(&mut self, bodies: &[Body]) -> Result<(), AllocError>
         ensures changes { OnOk result ((self.new.reads ≡ (self.old.reads || bodies_read bodies.now))
             × (self.new.orders ≡ (self.old.orders || bodies_order bodies.now))) }
-        ensures names { OnOk result (AreListed self.new.names.items
+        ensures names { OnOk result (ListsNeeded self.new.names.items
             (self.old.names.items ++ bodies_names bodies.now)) }
     {
         for body in bodies {
@@ -132,7 +132,7 @@ impl Needs {
     fn add_all(&mut self, steps: &[Step]) -> Result<(), AllocError>
         ensures changes { OnOk result ((self.new.reads ≡ (self.old.reads || steps_read steps.now))
             × (self.new.orders ≡ (self.old.orders || steps_order steps.now))) }
-        ensures names { OnOk result (AreListed self.new.names.items
+        ensures names { OnOk result (ListsNeeded self.new.names.items
             (self.old.names.items ++ predefined_names_in steps.now)) }
     {
         for step in steps {
@@ -146,7 +146,7 @@ impl Needs {
         ensures changes { OnOk result ((self.new.reads
             ≡ (self.old.reads || step_passes changes_with_reads step))
             × (self.new.orders ≡ (self.old.orders || step_passes changes_with_orders step))) }
-        ensures names { OnOk result (AreListed self.new.names.items
+        ensures names { OnOk result (ListsNeeded self.new.names.items
             (self.old.names.items ++ step_names step)) }
     {
         match step {
@@ -163,7 +163,7 @@ impl Needs {
         ensures changes { OnOk result ((self.new.reads
             ≡ (self.old.reads || changes_with_reads name))
             × (self.new.orders ≡ (self.old.orders || changes_with_orders name))) }
-        ensures names { OnOk result (AreListed self.new.names.items
+        ensures names { OnOk result (ListsNeeded self.new.names.items
             (self.old.names.items ++ (name ∷ []))) }
         ensures suited { AreSuited self.old.names.items self.old.reads self.old.orders
             → AreSuited self.new.names.items self.new.reads self.new.orders }
@@ -186,9 +186,9 @@ impl Needs {
     /// Adds a name to the list, if it is not there.
     fn list(&mut self, name: Predefined) -> Result<(), AllocError>
         ensures fixed { (self.new.reads ≡ self.old.reads) × (self.new.orders ≡ self.old.orders) }
-        ensures listed { OnOk result (AreListed self.new.names.items
+        ensures listed { OnOk result (ListsNeeded self.new.names.items
             (self.old.names.items ++ (name ∷ []))) }
-        ensures within { AreListed (self.old.names.items ++ (name ∷ [])) self.new.names.items }
+        ensures within { ListsNeeded (self.old.names.items ++ (name ∷ [])) self.new.names.items }
     {
         if is_listed(&self.names, name) {
             return Ok(());

@@ -3,7 +3,7 @@
 ghost use Rattle.std.specs.Prelude.{◌≡◌, ℕ, ◌≤◌, ◌↔◌, [], map};
 ghost use Rattle.bit_relations.specs.Relation.{IsRelation, IsEvents};
 ghost use Rattle.cat_eval.specs.Named.{InputEvents, InputPairs};
-ghost use Rattle.cat_eval.specs.Seen.{EventsNamedBy, PairsNamedBy, EventsAmong, PairsAmong, seen, value_at};
+ghost use Rattle.cat_eval.specs.Seen.{EventsNamedBy, PairsNamedBy, EventsAmong, PairsAmong, values_seen, value_at};
 
 use crate::column::Column;
 use crate::few::Few;
@@ -47,11 +47,11 @@ pub(crate) struct Seen<'a> {
 
 impl<'a> Model for Seen<'a> {
     ghost use Rattle.std.specs.Prelude.{◌≤◌};
-    ghost use Rattle.cat_eval.specs.Seen.{NamedValues, seen};
+    ghost use Rattle.cat_eval.specs.Seen.{NamedValues, values_seen};
 
     ghost Value = { NamedValues };
 
-    ghost view = { λ s. seen s.named.now s.candidate s.count };
+    ghost view = { λ s. values_seen s.named.now s.candidate s.count };
 
     ghost invariant = { λ s. s.count ≤ 128 };
 }
@@ -75,7 +75,7 @@ impl<'a> Seen<'a> {
     /// The names in a candidate of so many events.
     pub(crate) fn new(named: &'a [NamedColumn<'a>], candidate: usize, count: usize) -> Seen<'a>
         requires { count ≤ 128 }
-        ensures { result ≡ seen named.now candidate count }
+        ensures { result ≡ values_seen named.now candidate count }
     {
         Seen {
             named,

@@ -3,7 +3,7 @@
 ghost use Rattle.std.specs.Prelude.{ℕ, ◌+◌, ◌^◌, ◌<◌, ◌≤◌, ◌↔◌};
 ghost use Rattle.bit_relations.specs.Relation.{IsRelation, IsEvents};
 ghost use Rattle.cat_eval.specs.Named.{InputEvents, InputPairs, EventsIn, PairsOutside};
-ghost use Rattle.cat_eval.specs.Seen.{seen};
+ghost use Rattle.cat_eval.specs.Seen.{values_seen};
 
 use crate::column::Column;
 use crate::seen::{NamedColumn, column_of};
@@ -24,10 +24,10 @@ impl<'a> Spread<'a> {
     fn column(&self, source: Source) -> Option<&'a Column>
         ensures events { (k n a : ℕ)
             → InputEvents result k n a
-            ↔ EventsIn (seen self.now.named.now k n) self.now.inputs.now k source a }
+            ↔ EventsIn (values_seen self.now.named.now k n) self.now.inputs.now k source a }
         ensures pairs { (k n a b : ℕ)
             → InputPairs result k n a b
-            ↔ PairsOutside (seen self.now.named.now k n) self.now.inputs.now k source a b }
+            ↔ PairsOutside (values_seen self.now.named.now k n) self.now.inputs.now k source a b }
     {
         match source {
             Source::Predefined(name) => column_of(self.named, name),
@@ -46,7 +46,7 @@ impl<'a> Spread<'a> {
         requires more { candidate + 1 < 2 ^ 64 }
         ensures after { candidate < result.1 }
         ensures value { (k : ℕ) → candidate ≤ k → k < result.1
-            → IsEvents result.0 count (EventsIn (seen self.now.named.now k count)
+            → IsEvents result.0 count (EventsIn (values_seen self.now.named.now k count)
             self.now.inputs.now k source) }
     {
         match self.column(source) {
@@ -68,7 +68,7 @@ impl<'a> Spread<'a> {
         requires more { candidate + 1 < 2 ^ 64 }
         ensures after { candidate < result }
         ensures value { (k : ℕ) → candidate ≤ k → k < result
-            → IsRelation target.new count (PairsOutside (seen self.now.named.now k count)
+            → IsRelation target.new count (PairsOutside (values_seen self.now.named.now k count)
             self.now.inputs.now k source) }
     {
         match self.column(source) {

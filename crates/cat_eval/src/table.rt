@@ -8,7 +8,7 @@ ghost use Rattle.text_values.specs.PredefinedNames.{is_set};
 ghost use Rattle.cat_eval.specs.Needs.{AreSuited, is_changing_name};
 ghost use Rattle.cat_eval.specs.Needed.{changes_with_orders};
 ghost use Rattle.cat_eval.specs.Reordered.{EndsReordered, HoldsSame};
-ghost use Rattle.cat_eval.specs.Steady.{EndsWith};
+ghost use Rattle.cat_eval.specs.Steady.{HasAsLast};
 ghost use Rattle.cat_eval.specs.Tables.{IsColumnOf, IsBlock, AreBlocks, HasName, AreColumnsFor, AreFilled, IsEntryFilled, entry_names, column_names, kind_for};
 ghost use Rattle.cat_eval.specs.Values.{IsFor, column_len};
 
@@ -61,7 +61,7 @@ fn push_value(entry: &mut Entry, base: &Base, made: &mut Rel) -> Result<(), Allo
 /// Gives a name its last value once more.
 fn push_again(entry: &mut Entry) -> Result<(), AllocError>
     ensures name { entry.new.name ≡ entry.old.name }
-    ensures filled { OnOk result ((bases : List Known) (last base : Known) → EndsWith bases last
+    ensures filled { OnOk result ((bases : List Known) (last base : Known) → HasAsLast bases last
         → HoldsSame entry.old.name last base → IsEntryFilled entry.old bases
         → IsEntryFilled entry.new (bases ++ base ∷ [])) }
 {
@@ -90,7 +90,7 @@ fn fill(
     made: &mut Rel,
 ) -> Result<(), AllocError>
     ensures name { entry.new.name ≡ entry.old.name }
-    ensures filled { OnOk result ((bases : List Known) → (IsTrue again → EndsWith bases base.now)
+    ensures filled { OnOk result ((bases : List Known) → (IsTrue again → HasAsLast bases base.now)
         → (IsTrue reordered → EndsReordered bases base.now) → IsEntryFilled entry.old bases
         → IsEntryFilled entry.new (bases ++ base.now ∷ [])) }
 {
@@ -117,7 +117,7 @@ fn fill_at(
     ensures name { (d : Entry)
         → (slice_index_or entries.new.items index d).name
         ≡ (slice_index_or entries.old.items index d).name }
-    ensures filled { OnOk result ((bases : List Known) → (IsTrue again → EndsWith bases base.now)
+    ensures filled { OnOk result ((bases : List Known) → (IsTrue again → HasAsLast bases base.now)
         → (IsTrue reordered → EndsReordered bases base.now) → (d : Entry)
         → IsEntryFilled (slice_index_or entries.old.items index d) bases
         → IsEntryFilled (slice_index_or entries.new.items index d) (bases ++ base.now ∷ [])) }
@@ -324,6 +324,7 @@ impl Table {
     }
 
     /// Makes those of the names that are not there, of both sorts.
+    #[inline(never)]
     fn need_both(
         &mut self,
         alloc: Global,

@@ -4,8 +4,8 @@
 ghost use Rattle.std.specs.Prelude.{◌≡◌, ◌≤◌, ◌*◌, ◌++◌, List, [], ◌∷◌, length, Some, IsTrue, OnOk};
 ghost use Rattle.candidates.specs.Space.{candidates_in};
 ghost use Rattle.cat_eval.specs.Places.{IsAt};
-ghost use Rattle.cat_eval.specs.Seen.{NamedValues, seen, seen_run, seen_in};
-ghost use Rattle.cat_eval.specs.Steady.{EndsWith};
+ghost use Rattle.cat_eval.specs.Seen.{NamedValues, values_seen, seen_run, seen_in};
+ghost use Rattle.cat_eval.specs.Steady.{HasAsLast};
 
 use crate::machine::Machine;
 use crate::seen::{NamedColumn, Seen};
@@ -29,7 +29,7 @@ pub(crate) trait Visit {
         again: bool,
     ) -> Result<(), AllocError>
         ensures { (first : _) (bases : List NamedValues) → candidate ≡ length bases
-            → (IsTrue again → EndsWith bases base.now) → has_taken first bases self.old
+            → (IsTrue again → HasAsLast bases base.now) → has_taken first bases self.old
             → OnOk result (has_taken first (bases ++ base.now ∷ []) self.new) };
 }
 
@@ -65,7 +65,7 @@ fn visit_next<V: Visit>(
     requires { count ≤ 128 }
     ensures { (first : _) (bases : List NamedValues) → IsAt named.now place.old bases
         → V.has_taken first bases visitor.old
-        → OnOk result (let next = seen named.now (length bases) count in
+        → OnOk result (let next = values_seen named.now (length bases) count in
         IsAt named.now place.new (bases ++ next ∷ [])
         × V.has_taken first (bases ++ next ∷ []) visitor.new) }
 {

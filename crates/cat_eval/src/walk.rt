@@ -5,7 +5,7 @@ ghost use Rattle.candidates.specs.Space.{candidates_in};
 ghost use Rattle.base_names.specs.Known.{Known, IsConsistent};
 ghost use Rattle.base_names.specs.Candidate.{IsEntered, HasReadsFrom, HasCoherence};
 ghost use Rattle.cat_eval.specs.Candidates.{reading_so, reading_in};
-ghost use Rattle.cat_eval.specs.Steady.{EndsWith};
+ghost use Rattle.cat_eval.specs.Steady.{HasAsLast};
 ghost use Rattle.cat_eval.specs.Reordered.{IsReordered, EndsReordered};
 ghost use Rattle.cat_eval.specs.Worlds.{AreNamesHeld, IsBaseReady, AreWorlds};
 
@@ -25,7 +25,7 @@ pub(crate) trait Enter {
     /// those of the one before: `again` all of them, `reordered` those that do not change with the
     /// order of the stores.
     fn enter(&mut self, base: &Base, again: bool, reordered: bool) -> Result<(), AllocError>
-        ensures { (first : _) (bases : List Known) → (IsTrue again → EndsWith bases base.now)
+        ensures { (first : _) (bases : List Known) → (IsTrue again → HasAsLast bases base.now)
             → (IsTrue reordered → EndsReordered bases base.now) → has_taken first bases self.old
             → OnOk result (has_taken first (bases ++ base.now ∷ []) self.new) };
 }
@@ -130,13 +130,13 @@ fn enter_orders<V: Enter>(
     ensures ready { IsBaseReady needs.now.names.items base.new combination.now }
     ensures worlds { (reads_from : List ℕ)
         → (IsTrue needs.now.reads → HasReadsFrom base.old combination.now reads_from)
-        → (first : _) (bases : List Known) → (IsTrue again → EndsWith bases base.old)
+        → (first : _) (bases : List Known) → (IsTrue again → HasAsLast bases base.old)
         → V.has_taken first bases visitor.old
         → IfOk result (λ ends. (more : List Known)
         × AreWorlds needs.now.names.items needs.now.reads needs.now.orders more
         (reading_so combination.now reads_from combination.now.orders)
         × V.has_taken first (bases ++ more) visitor.new
-        × (IsTrue ends → EndsWith (bases ++ more) base.new)) }
+        × (IsTrue ends → HasAsLast (bases ++ more) base.new)) }
 {
     let mut again = again;
     let mut previous: Option<&[u8]> = None;
@@ -160,13 +160,13 @@ fn enter_combination<V: Enter>(
 ) -> Result<bool, AllocError>
     requires { IsBaseReady needs.now.names.items base.old combination.now }
     ensures ready { IsBaseReady needs.now.names.items base.new combination.now }
-    ensures worlds { (first : _) (bases : List Known) → (IsTrue again → EndsWith bases base.old)
+    ensures worlds { (first : _) (bases : List Known) → (IsTrue again → HasAsLast bases base.old)
         → V.has_taken first bases visitor.old
         → IfOk result (λ ends. (more : List Known)
         × AreWorlds needs.now.names.items needs.now.reads needs.now.orders more
         (reading_in combination.now combination.now.reads_from.items)
         × V.has_taken first (bases ++ more) visitor.new
-        × (IsTrue ends → EndsWith (bases ++ more) base.new)) }
+        × (IsTrue ends → HasAsLast (bases ++ more) base.new)) }
 {
     let mut again = again;
     for reads_from in &combination.reads_from {

@@ -20,10 +20,10 @@ use Rattle.cat_eval.specs.Executions.{events_of, EventsAt, PairsAt}
 use Rattle.cat_eval.specs.Rising.{AreCodes}
 use Rattle.cat_eval.specs.Values.{IsCheckAnswer, AreAnswers, IsFor, IsMeaning, Unless}
 use Rattle.cat_eval.specs.Checks.{Holds, IsEmptySet}
-use Rattle.cat_eval.specs.Meaning.{MeansSet, Means}
+use Rattle.cat_eval.specs.Meaning.{MeansSet, MeansRelation}
 use Rattle.cat_eval.specs.Named.{WithOwn, OwnPairs}
 use Rattle.cat_eval_laws.specs.Items.{CodeContent, BodyContent, RoleContent, Group, Check, Silent, code_content, body_content, role_content}
-use Rattle.cat_eval_laws.specs.Laws.{AreSame, KeepsColumns, KeepsAnswers}
+use Rattle.cat_eval_laws.specs.Laws.{AreSameItems, KeepsColumns, KeepsAnswers}
 use Rattle.cat_eval_laws.proofs.Naming.{HaveSameNames, count_kept, events_kept, pairs_kept}
 
 -- ---- lists
@@ -207,14 +207,14 @@ answer_kept c d negated word steps n sets outer kinds.OfSet a h =
     (h t (steps ∙ is))
 answer_kept c d negated word steps n sets outer kinds.OfRelation a h =
     λ t is.
-    asked_kept c d negated word (Means n sets (WithOwn outer (OwnPairs n [])) t) a (h t (steps ∙ is))
+    asked_kept c d negated word (MeansRelation n sets (WithOwn outer (OwnPairs n [])) t) a (h t (steps ∙ is))
 answer_kept c d negated word steps n sets outer kinds.OfAny a h =
     λ t is.
-    asked_kept c d negated word (Means n sets (WithOwn outer (OwnPairs n [])) t) a (h t (steps ∙ is))
+    asked_kept c d negated word (MeansRelation n sets (WithOwn outer (OwnPairs n [])) t) a (h t (steps ∙ is))
 
 -- the answers of a check
 check_kept : (c d : CheckCode) (space another : Space) (inputs others : List (Bor Column))
-    (answers : List Bool) → AreSame (roles.Check c) (roles.Check d) space another inputs others
+    (answers : List Bool) → AreSameItems (roles.Check c) (roles.Check d) space another inputs others
     → AreAnswers c inputs (candidates_in space.combinations.items) answers
     → AreAnswers d others (candidates_in another.combinations.items) answers
 check_kept c d space another inputs others answers e h =

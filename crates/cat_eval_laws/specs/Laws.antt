@@ -12,7 +12,7 @@ use Rattle.cat_eval_laws.specs.Items.{role_content}
 
 -- two items say the same, over spaces whose candidates show the same, with inputs that have the
 -- same values
-pub record AreSame (role other : Role) (space another : Space) (inputs others : List (Bor Column))
+pub record AreSameItems (role other : Role) (space another : Space) (inputs others : List (Bor Column))
     : Type 0 where
   pub roles : role_content role ≡ role_content other
   pub candidates : shown_in space ≡ shown_in another
@@ -22,12 +22,12 @@ pub record AreSame (role other : Role) (space another : Space) (inputs others : 
 abbrev pub KeepsColumns : Role → Role → Space → Space → Type 0
 KeepsColumns role other space another =
     (inputs others : List (Bor Column)) (cs : List Column)
-    → AreSame role other space another inputs others → ColumnsOf role inputs space cs
+    → AreSameItems role other space another inputs others → ColumnsOf role inputs space cs
     → ColumnsOf other others another cs
 
 -- answers of the one are answers of the other
 abbrev pub KeepsAnswers : Role → Role → Space → Space → Type 0
 KeepsAnswers role other space another =
     (inputs others : List (Bor Column)) (answers : List Bool)
-    → AreSame role other space another inputs others → AnswersOf role inputs space answers
+    → AreSameItems role other space another inputs others → AnswersOf role inputs space answers
     → AnswersOf other others another answers

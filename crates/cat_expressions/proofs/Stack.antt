@@ -24,12 +24,12 @@ use Rattle.cat_tokens.specs.declared.token.Token.TheVariants as tokens
 use Rattle.text_values.specs.ModelValue.{Term, Join, Not, On, Apply, gathered}
 use Rattle.cat_expressions.specs.declared.frames.Frame as code_frame
 use Rattle.cat_grammar.specs.Machine as machine
-use Rattle.cat_grammar.specs.Grammar.{level, limits}
+use Rattle.cat_grammar.specs.Grammar.{infix_level, model_limits}
 use Rattle.text_values.specs.ModelValues.{term_of}
 use Rattle.text_values.proofs.Arguments.{applied_term}
 use Rattle.cat_expressions.specs.declared.terms.OpenExpression.{OpenExpression}
-use Rattle.cat_expressions.specs.Reading.{frame_of, stacked, stack_of, is_open, is_square, is_no_bracket, takes_operand}
-use Rattle.cat_expressions.specs.OpenReading.{StepsTo}
+use Rattle.cat_expressions.specs.Reading.{frame_of, stacked, term_stack_of, is_open, is_square, is_no_bracket, takes_operand}
+use Rattle.cat_expressions.specs.OpenReading.{StepsExpression}
 
 pub stacked-push : (fs : List code_frame.Frame) (f : code_frame.Frame) (below : List machine.TermFrame)
     → stacked (fs ++ f ∷ []) below ≡ frame_of f ∷ stacked fs below
@@ -37,39 +37,39 @@ stacked-push [] f below = refl
 stacked-push (g ∷ fs) f below = stacked-push fs f (frame_of g ∷ below)
 
 pub stack_of-push : (fs : List code_frame.Frame) (f : code_frame.Frame)
-    → stack_of (fs ++ f ∷ []) ≡ frame_of f ∷ stack_of fs
+    → term_stack_of (fs ++ f ∷ []) ≡ frame_of f ∷ term_stack_of fs
 stack_of-push fs f = stacked-push fs f []
 
 -- one turn of joining: the frame that was popped decides
 module _ (l : ℕ) (start : List machine.TermFrame × Term) (items rest : List code_frame.Frame) (v : Term)
-    (so_far : start ≡ machine.fold_to l (stack_of items) v) where
+    (so_far : start ≡ machine.fold_to l (term_stack_of items) v) where
   popped : (f : code_frame.Frame) → items ≡ rest ++ f ∷ []
-      → start ≡ machine.fold_to l (frame_of f ∷ stack_of rest) v
+      → start ≡ machine.fold_to l (frame_of f ∷ term_stack_of rest) v
   popped f e =
       so_far
       ∙ ap (λ (fs : List machine.TermFrame). machine.fold_to l fs v)
-      (ap stack_of e ∙ stack_of-push rest f)
+      (ap term_stack_of e ∙ stack_of-push rest f)
 
   pub popped_prefix : (f : code_frame.Frame) → items ≡ rest ++ f ∷ [] → f ≡ frames.Prefix
       → (w : Expression) → term_of w ≡ v
-      → start ≡ machine.fold_to l (stack_of rest) (Not (term_of w))
+      → start ≡ machine.fold_to l (term_stack_of rest) (Not (term_of w))
   popped_prefix f e is w same =
       popped f e
-      ∙ ap (λ (g : code_frame.Frame). machine.fold_to l (frame_of g ∷ stack_of rest) v) is
-      ∙ ap (λ (x : Term). machine.fold_to l (stack_of rest) (Not x)) (sym same)
+      ∙ ap (λ (g : code_frame.Frame). machine.fold_to l (frame_of g ∷ term_stack_of rest) v) is
+      ∙ ap (λ (x : Term). machine.fold_to l (term_stack_of rest) (Not x)) (sym same)
 
   pub popped_left : (f : code_frame.Frame) → items ≡ rest ++ f ∷ []
       → (op : Infix) (a a' w : Expression) → f ≡ frames.Left op a → a' ≡ a → term_of w ≡ v
-      → nat_le l (level op) ≡ true
-      → start ≡ machine.fold_to l (stack_of rest) (Join op (term_of a') (term_of w))
+      → nat_le l (infix_level op) ≡ true
+      → start ≡ machine.fold_to l (term_stack_of rest) (Join op (term_of a') (term_of w))
   popped_left f e op a a' w is left same le =
       popped f e
-      ∙ ap (λ (g : code_frame.Frame). machine.fold_to l (frame_of g ∷ stack_of rest) v) is
+      ∙ ap (λ (g : code_frame.Frame). machine.fold_to l (frame_of g ∷ term_stack_of rest) v) is
       ∙ ap
-      (λ (x : Bool). if x then machine.fold_to l (stack_of rest) (Join op (term_of a) v)
-      else (machine.LeftOf op (term_of a) ∷ stack_of rest, v)) le
-      ∙ ap (λ (x : Term). machine.fold_to l (stack_of rest) (Join op (term_of a) x)) (sym same)
-      ∙ ap (λ (x : Expression). machine.fold_to l (stack_of rest) (Join op (term_of x) (term_of w)))
+      (λ (x : Bool). if x then machine.fold_to l (term_stack_of rest) (Join op (term_of a) v)
+      else (machine.LeftOf op (term_of a) ∷ term_stack_of rest, v)) le
+      ∙ ap (λ (x : Term). machine.fold_to l (term_stack_of rest) (Join op (term_of a) x)) (sym same)
+      ∙ ap (λ (x : Expression). machine.fold_to l (term_stack_of rest) (Join op (term_of x) (term_of w)))
       (sym left)
 
 -- what the innermost frame takes
@@ -89,35 +89,35 @@ split_last f (g ∷ gs) =
 
 taken_last : (l : ℕ) (fs prefix : List code_frame.Frame) (x f : code_frame.Frame)
     → fs ≡ prefix ++ x ∷ [] → Some f ≡ slice_get fs (length fs - 1)
-    → takes_operand l (frame_of f ∷ []) ≡ takes_operand l (stack_of fs)
+    → takes_operand l (frame_of f ∷ []) ≡ takes_operand l (term_stack_of fs)
 taken_last l fs prefix x f e h =
     let many : length fs - 1 ≡ length prefix = omega (arith, ap length e, length-append prefix (x ∷ [])) in
     let same : f ≡ x = sym (get_or_from_slice_get fs (length fs - 1) f f (sym h)) ∙ ap (λ (n : ℕ). get_or fs n f) many ∙ ap (λ (gs : List code_frame.Frame). get_or gs (length prefix) f) e ∙ get_or-append_seam prefix x [] f in
     ap (λ (g : code_frame.Frame). takes_operand l (frame_of g ∷ [])) same
-    ∙ sym (taken_alone l x (stack_of prefix))
-    ∙ sym (ap (λ (gs : List code_frame.Frame). takes_operand l (stack_of gs)) e
+    ∙ sym (taken_alone l x (term_stack_of prefix))
+    ∙ sym (ap (λ (gs : List code_frame.Frame). takes_operand l (term_stack_of gs)) e
     ∙ ap (takes_operand l) (stack_of-push prefix x))
 
 pub taken_by : (l : ℕ) (fs : List code_frame.Frame) (f : code_frame.Frame)
     → Some f ≡ slice_get fs (length fs - 1)
-    → takes_operand l (frame_of f ∷ []) ≡ takes_operand l (stack_of fs)
+    → takes_operand l (frame_of f ∷ []) ≡ takes_operand l (term_stack_of fs)
 taken_by l [] f h = absurd cc
 taken_by l (g ∷ gs) f h = let r = split_last g gs in taken_last l (g ∷ gs) r.0 r.1 f r.2 h
 
 pub taken_by_none : (l : ℕ) (fs : List code_frame.Frame) → None ≡ slice_get fs (length fs - 1)
-    → false ≡ takes_operand l (stack_of fs)
+    → false ≡ takes_operand l (term_stack_of fs)
 taken_by_none l [] h = refl
 taken_by_none l (g ∷ gs) h =
     let x = slice_get-get_or (g ∷ gs) (length (g ∷ gs) - 1) g (omega arith) in absurd cc
 
 -- the frame that was popped takes the operand, as the innermost frame did
 pub popped_takes : (l : ℕ) (items rest : List code_frame.Frame) (f g : code_frame.Frame)
-    → takes_operand l (stack_of items) ≡ true → items ≡ rest ++ f ∷ [] → f ≡ g
+    → takes_operand l (term_stack_of items) ≡ true → items ≡ rest ++ f ∷ [] → f ≡ g
     → takes_operand l (frame_of g ∷ []) ≡ true
 popped_takes l items rest f g h e is =
     sym (ap (λ (x : code_frame.Frame). takes_operand l (frame_of x ∷ [])) is)
-    ∙ sym (taken_alone l f (stack_of rest))
-    ∙ sym (ap (λ (fs : List code_frame.Frame). takes_operand l (stack_of fs)) e
+    ∙ sym (taken_alone l f (term_stack_of rest))
+    ∙ sym (ap (λ (fs : List code_frame.Frame). takes_operand l (term_stack_of fs)) e
     ∙ ap (takes_operand l) (stack_of-push rest f)) ∙ h
 
 -- an operand that no frame takes stays
@@ -154,7 +154,7 @@ open_count-stacked (frames.Applied name args ∷ fs) below =
     omega arith
 
 pub open_count-stack : (fs : List code_frame.Frame)
-    → machine.open_count (stack_of fs) ≡ count_by is_open fs
+    → machine.open_count (term_stack_of fs) ≡ count_by is_open fs
 open_count-stack fs = let h = open_count-stacked fs [] in omega arith
 
 is_outermost-stacked : (fs : List code_frame.Frame) (below : List machine.TermFrame)
@@ -173,15 +173,15 @@ is_outermost-stacked (frames.Applied name args ∷ fs) below =
     ∙ and-false (list_all is_no_bracket fs)
 
 pub is_outermost-stack : (fs : List code_frame.Frame)
-    → machine.is_outermost (stack_of fs) ≡ list_all is_no_bracket fs
+    → machine.is_outermost (term_stack_of fs) ≡ list_all is_no_bracket fs
 is_outermost-stack fs = is_outermost-stacked fs [] ∙ and-true (list_all is_no_bracket fs)
 
 -- the outermost of what is open, once everything is joined
 pub popped_of : (p : List machine.TermFrame × Term) (all rest : List code_frame.Frame)
-    (f : code_frame.Frame) (v : Term) → p ≡ (stack_of all, v) → all ≡ rest ++ f ∷ []
-    → p ≡ (frame_of f ∷ stack_of rest, v)
+    (f : code_frame.Frame) (v : Term) → p ≡ (term_stack_of all, v) → all ≡ rest ++ f ∷ []
+    → p ≡ (frame_of f ∷ term_stack_of rest, v)
 popped_of p all rest f v e split =
-    e ∙ ap (λ (fs : List machine.TermFrame). (fs, v)) (ap stack_of split ∙ stack_of-push rest f)
+    e ∙ ap (λ (fs : List machine.TermFrame). (fs, v)) (ap term_stack_of split ∙ stack_of-push rest f)
 
 -- `]` closes the innermost frame if that is `[`, and is refused if it is another
 pub square_refused : (used : ℕ) (f : code_frame.Frame) (fs : List machine.TermFrame) (v : Term)
@@ -203,34 +203,34 @@ square_matched used (frames.Applied n args) fs v e = absurd cc
 
 -- one more frame, where it may be opened
 pub opened_below : (fs all : List code_frame.Frame) (f : code_frame.Frame) (used : ℕ)
-    → all ≡ fs ++ f ∷ [] → machine.open_count (stack_of fs) < 64
-    → machine.opened limits (stack_of fs) used (frame_of f)
-    ≡ machine.Goes (stack_of all) used machine.Wants
+    → all ≡ fs ++ f ∷ [] → machine.open_count (term_stack_of fs) < 64
+    → machine.term_opened model_limits (term_stack_of fs) used (frame_of f)
+    ≡ machine.Goes (term_stack_of all) used machine.Wants
 opened_below fs all f used e lt =
     ap
-    (λ (x : Bool). if x then machine.Goes (frame_of f ∷ stack_of fs) used machine.Wants
+    (λ (x : Bool). if x then machine.Goes (frame_of f ∷ term_stack_of fs) used machine.Wants
     else machine.Refuses TooDeep)
     (lt-ltb _ _ lt)
     ∙ ap (λ (gs : List machine.TermFrame). machine.Goes gs used machine.Wants)
-    (sym (ap stack_of e ∙ stack_of-push fs f))
+    (sym (ap term_stack_of e ∙ stack_of-push fs f))
 
 -- an operand after a star and a tilde
 pub star_tilde_other : (fs gs all : List code_frame.Frame) (used : ℕ) (left : Expression)
     (t : Token) (r : Result code_step.ExpressionStep StepError) (o : OpenExpression)
     → ((w : CheckWord) → t ≡ tokens.Check w → ⊥)
-    → stack_of gs ≡ machine.infix_at Product (stack_of fs) (term_of left)
+    → term_stack_of gs ≡ machine.infix_at Product (term_stack_of fs) (term_of left)
     → all ≡ gs ++ frames.Prefix ∷ []
-    → StepsTo t r o (machine.operand limits (stack_of all) used t)
-    → StepsTo t r o (machine.after_star_tilde limits (stack_of fs) used (term_of left) t)
+    → StepsExpression t r o (machine.operand model_limits (term_stack_of all) used t)
+    → StepsExpression t r o (machine.after_star_tilde model_limits (term_stack_of fs) used (term_of left) t)
 star_tilde_other fs gs all used left t r o other e pushed h =
-    let same : stack_of all ≡ machine.InPrefix ∷ machine.infix_at Product (stack_of fs) (term_of left) = ap stack_of pushed ∙ stack_of-push gs frames.Prefix ∙ ap (λ (xs : List machine.TermFrame). machine.InPrefix ∷ xs) e in
+    let same : term_stack_of all ≡ machine.InPrefix ∷ machine.infix_at Product (term_stack_of fs) (term_of left) = ap term_stack_of pushed ∙ stack_of-push gs frames.Prefix ∙ ap (λ (xs : List machine.TermFrame). machine.InPrefix ∷ xs) e in
     by_token t other (subst
-    (λ (xs : List machine.TermFrame). StepsTo t r o (machine.operand limits xs used t)) same h)
+    (λ (xs : List machine.TermFrame). StepsExpression t r o (machine.operand model_limits xs used t)) same h)
   where
     by_token : (u : Token) → ((w : CheckWord) → u ≡ tokens.Check w → ⊥)
-        → StepsTo t r o (machine.operand limits
-        (machine.InPrefix ∷ machine.infix_at Product (stack_of fs) (term_of left)) used u)
-        → StepsTo t r o (machine.after_star_tilde limits (stack_of fs) used (term_of left) u)
+        → StepsExpression t r o (machine.operand model_limits
+        (machine.InPrefix ∷ machine.infix_at Product (term_stack_of fs) (term_of left)) used u)
+        → StepsExpression t r o (machine.after_star_tilde model_limits (term_stack_of fs) used (term_of left) u)
     by_token (tokens.Check w) n k = absurd (n w refl)
     by_token _ n k = k
 
@@ -250,14 +250,14 @@ applied_pushed n args all a e =
 pub comma_pushed : (fs after : List code_frame.Frame) (n : List ℕ)
     (args all : Vec Expression Global) (a : Expression) → all.items ≡ args.items ++ a ∷ []
     → after ≡ fs ++ frames.Applied n all ∷ []
-    → machine.InArguments n (map term_of args.items ++ term_of a ∷ []) ∷ stack_of fs
-    ≡ stack_of after
+    → machine.InArguments n (map term_of args.items ++ term_of a ∷ []) ∷ term_stack_of fs
+    ≡ term_stack_of after
 comma_pushed fs after n args all a e pushed =
-    ap (λ (l : List Term). machine.InArguments n l ∷ stack_of fs)
+    ap (λ (l : List Term). machine.InArguments n l ∷ term_stack_of fs)
     (sym (ap (map term_of) e ∙ map-push args.items a))
-    ∙ sym (ap stack_of pushed ∙ stack_of-push fs (frames.Applied n all))
+    ∙ sym (ap term_stack_of pushed ∙ stack_of-push fs (frames.Applied n all))
 
 -- the machine's result in another spelling
 pub steps_same : (t : Token) (r : Result code_step.ExpressionStep StepError) (o : OpenExpression)
-    (a b : machine.TermStep) → a ≡ b → StepsTo t r o b → StepsTo t r o a
-steps_same t r o a b e h = subst (λ (m : machine.TermStep). StepsTo t r o m) (sym e) h
+    (a b : machine.TermStep) → a ≡ b → StepsExpression t r o b → StepsExpression t r o a
+steps_same t r o a b e h = subst (λ (m : machine.TermStep). StepsExpression t r o m) (sym e) h

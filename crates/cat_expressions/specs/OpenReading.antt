@@ -12,13 +12,13 @@ use Rattle.cat_tokens.specs.declared.token.Token.TheVariants as tokens
 use Rattle.text_values.specs.ModelValue.{Term, AllEvents}
 use Rattle.text_values.specs.ModelValues.{term_of}
 use Rattle.cat_grammar.specs.Machine as machine
-use Rattle.cat_expressions.specs.Reading.{stack_of, expectation_of}
+use Rattle.cat_expressions.specs.Reading.{term_stack_of, term_expectation_of}
 
 -- nothing is read
-pub record IsStart (o : OpenExpression) : Type 0 where
-  pub nothing_open : stack_of o.frames.items ≡ []
+pub record IsOpenStart (o : OpenExpression) : Type 0 where
+  pub nothing_open : term_stack_of o.frames.items ≡ []
   pub no_operator : o.operators ≡ 0
-  pub wants_operand : expectation_of o.expected ≡ machine.Wants
+  pub wants_operand : term_expectation_of o.expected ≡ machine.Wants
 
 -- the expression that has ended, where one has
 abbrev pub whole_of : code_expectation.Expectation → Term
@@ -31,13 +31,13 @@ whole_of (expectations.HasStarTilde v) = AllEvents
 
 -- what a token did to an expression, read before this token, is what the machine does, unless
 -- memory ran out
-abbrev pub StepsTo : Token → Result code_step.ExpressionStep StepError → OpenExpression
+abbrev pub StepsExpression : Token → Result code_step.ExpressionStep StepError → OpenExpression
     → machine.TermStep → Type 0
-StepsTo t (Ok code_steps.Goes) o made =
-    made ≡ machine.Goes (stack_of o.frames.items) o.operators (expectation_of o.expected)
-StepsTo t (Ok code_steps.Ends) o made = made ≡ machine.Ends (whole_of o.expected)
-StepsTo t (Ok (code_steps.EndsTilde w)) o made =
+StepsExpression t (Ok code_steps.Goes) o made =
+    made ≡ machine.Goes (term_stack_of o.frames.items) o.operators (term_expectation_of o.expected)
+StepsExpression t (Ok code_steps.Ends) o made = made ≡ machine.Ends (whole_of o.expected)
+StepsExpression t (Ok (code_steps.EndsTilde w)) o made =
     (made ≡ machine.EndsTilde (whole_of o.expected)) × (t ≡ tokens.Check w)
-StepsTo t (Err errors.OutOfMemory) o made = Unit {0}
-StepsTo t (Err (errors.Refused k)) o made = made ≡ machine.Refuses k
-StepsTo t (Err (errors.RefusedBefore k)) o made = ⊥
+StepsExpression t (Err errors.OutOfMemory) o made = Unit {0}
+StepsExpression t (Err (errors.Refused k)) o made = made ≡ machine.Refuses k
+StepsExpression t (Err (errors.RefusedBefore k)) o made = ⊥

@@ -5,7 +5,7 @@ use Rattle.cat_expressions.specs.declared.frames.Frame.TheVariants as frames
 use Rattle.cat_expressions.specs.declared.frames.Expectation as code_expectation
 use Rattle.cat_expressions.specs.declared.frames.Expectation.TheVariants as expectations
 use Rattle.text_values.specs.ModelValues.{term_of}
-use Rattle.cat_grammar.specs.Grammar.{level}
+use Rattle.cat_grammar.specs.Grammar.{infix_level}
 use Rattle.cat_grammar.specs.Machine as machine
 
 abbrev pub frame_of : code_frame.Frame → machine.TermFrame
@@ -20,16 +20,16 @@ abbrev pub stacked : List code_frame.Frame → List machine.TermFrame → List m
 stacked [] below = below
 stacked (f ∷ fs) below = stacked fs (frame_of f ∷ below)
 
-abbrev pub stack_of : List code_frame.Frame → List machine.TermFrame
-stack_of fs = stacked fs []
+abbrev pub term_stack_of : List code_frame.Frame → List machine.TermFrame
+term_stack_of fs = stacked fs []
 
-abbrev pub expectation_of : code_expectation.Expectation → machine.TermExpectation
-expectation_of expectations.Wants = machine.Wants
-expectation_of expectations.Brace = machine.HasBrace
-expectation_of (expectations.Named n) = machine.HasName n
-expectation_of (expectations.Has a) = machine.Has (term_of a)
-expectation_of (expectations.HasStar a) = machine.HasStar (term_of a)
-expectation_of (expectations.HasStarTilde a) = machine.HasStarTilde (term_of a)
+abbrev pub term_expectation_of : code_expectation.Expectation → machine.TermExpectation
+term_expectation_of expectations.Wants = machine.Wants
+term_expectation_of expectations.Brace = machine.HasBrace
+term_expectation_of (expectations.Named n) = machine.HasName n
+term_expectation_of (expectations.Has a) = machine.Has (term_of a)
+term_expectation_of (expectations.HasStar a) = machine.HasStar (term_of a)
+term_expectation_of (expectations.HasStarTilde a) = machine.HasStarTilde (term_of a)
 
 abbrev pub is_open : code_frame.Frame → Bool
 is_open frames.Group = true
@@ -58,5 +58,5 @@ takes_operand l [] = false
 takes_operand l (machine.InGroup ∷ fs) = false
 takes_operand l (machine.InSquare ∷ fs) = false
 takes_operand l (machine.InPrefix ∷ fs) = true
-takes_operand l (machine.LeftOf op a ∷ fs) = nat_le l (level op)
+takes_operand l (machine.LeftOf op a ∷ fs) = nat_le l (infix_level op)
 takes_operand l (machine.InArguments n args ∷ fs) = false

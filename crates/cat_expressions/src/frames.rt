@@ -2,9 +2,9 @@
 
 ghost use Rattle.std.specs.Prelude.{◌≡◌, [], ◌∷◌, IfOk};
 ghost use Rattle.cat_grammar.specs.Machine.{open_count, is_outermost, fold_to, infix_at};
-ghost use Rattle.cat_grammar.specs.Grammar.{level, left_level};
+ghost use Rattle.cat_grammar.specs.Grammar.{infix_level, left_level};
 ghost use Rattle.text_values.specs.ModelValues.{term_of};
-ghost use Rattle.cat_expressions.specs.Reading.{stack_of, takes_operand};
+ghost use Rattle.cat_expressions.specs.Reading.{term_stack_of, takes_operand};
 ghost use Rattle.cat_expressions.specs.declared.frames.StepError.TheVariants.{OutOfMemory};
 
 use cat_tokens::CatRule;
@@ -90,7 +90,7 @@ pub const MAX_OPERATORS: usize = 1024;
 
 // How tightly the operator binds.
 fn level(op: Infix) -> usize
-    ensures { result ≡ level op }
+    ensures { result ≡ infix_level op }
 {
     match op {
         Infix::Union => 1,
@@ -172,7 +172,7 @@ impl Frame {
 
 // Whether the innermost frame takes an operand that binds at least this tightly.
 fn takes(frames: &[Frame], least: usize) -> bool
-    ensures { result ≡ takes_operand least (stack_of frames.now) }
+    ensures { result ≡ takes_operand least (term_stack_of frames.now) }
 {
     match frames.last() {
         Some(frame) => frame.takes(least),
@@ -188,8 +188,8 @@ pub fn join(
     frames: &mut Vec<Frame>,
     operand: &mut Expression,
 ) -> Result<(), AllocError>
-    ensures { IfOk result (λ _. fold_to least (stack_of frames.old.items) (term_of operand.old)
-        ≡ (stack_of frames.new.items, term_of operand.new)) }
+    ensures { IfOk result (λ _. fold_to least (term_stack_of frames.old.items) (term_of operand.old)
+        ≡ (term_stack_of frames.new.items, term_of operand.new)) }
 {
     while takes(frames, least) {
         let right = mem::replace(operand, Expression::Everything);
@@ -210,14 +210,14 @@ pub fn join(
 
 /// How many brackets and prefixes are open.
 pub fn open_frames(frames: &[Frame]) -> usize
-    ensures { result ≡ open_count (stack_of frames.now) }
+    ensures { result ≡ open_count (term_stack_of frames.now) }
 {
     frames.iter().filter(|f| f.is_open()).count()
 }
 
 /// Whether no bracket is open.
 pub fn are_outermost(frames: &[Frame]) -> bool
-    ensures { result ≡ is_outermost (stack_of frames.now) }
+    ensures { result ≡ is_outermost (term_stack_of frames.now) }
 {
     for f in frames {
         if !f.is_no_bracket() {
@@ -234,8 +234,8 @@ pub fn open_infix(
     op: Infix,
     left: Expression,
 ) -> Result<(), AllocError>
-    ensures { IfOk result (λ _. stack_of frames.new.items
-        ≡ infix_at op (stack_of frames.old.items) (term_of left)) }
+    ensures { IfOk result (λ _. term_stack_of frames.new.items
+        ≡ infix_at op (term_stack_of frames.old.items) (term_of left)) }
 {
     let mut left = left;
     join(alloc, left_level(op), frames, &mut left)?;

@@ -21,18 +21,18 @@ pub struct OpenExpression {
 
 impl OpenExpression {
     ghost use Rattle.std.specs.Prelude.{◌≡◌, ◌+◌, []};
-    ghost use Rattle.cat_grammar.specs.Machine.{InArguments, Goes, Ends, fold_to, operand, opened, after_brace, ended, closed, square_closed, comma_read, after, after_name, after_star, after_star_tilde, expression_step};
-    ghost use Rattle.cat_grammar.specs.Grammar.{limits};
+    ghost use Rattle.cat_grammar.specs.Machine.{InArguments, Goes, Ends, fold_to, operand, term_opened, after_brace, term_ended, term_closed, square_closed, comma_read, operand_after, after_name, after_star, after_star_tilde, expression_step};
+    ghost use Rattle.cat_grammar.specs.Grammar.{model_limits};
     ghost use Rattle.text_values.specs.ModelValues.{term_of};
-    ghost use Rattle.cat_expressions.specs.Reading.{frame_of, stack_of, expectation_of};
-    ghost use Rattle.cat_expressions.specs.OpenReading.{IsStart, StepsTo, whole_of};
+    ghost use Rattle.cat_expressions.specs.Reading.{frame_of, term_stack_of, term_expectation_of};
+    ghost use Rattle.cat_expressions.specs.OpenReading.{IsOpenStart, StepsExpression, whole_of};
     ghost use Rattle.cat_tokens.specs.declared.token.Token.{Token};
     ghost use Rattle.cat_tokens.specs.declared.token.Token.TheVariants.{Close, CloseSquare, Comma};
     ghost use Rattle.cat_tokens.specs.declared.token.Token.TheVariants as tokens;
 
     /// An expression of which nothing is read.
     pub fn new(alloc: Global) -> OpenExpression
-        ensures { IsStart result }
+        ensures { IsOpenStart result }
     {
         OpenExpression {
             frames: Vec::new(alloc),
@@ -43,7 +43,7 @@ impl OpenExpression {
 
     /// Begins another expression.
     pub fn restart(&mut self)
-        ensures { IsStart self.new }
+        ensures { IsOpenStart self.new }
     {
         self.frames.clear();
         self.operators = 0;
@@ -64,9 +64,9 @@ impl OpenExpression {
     /// is `~`, outside all brackets, by the token behind the `~`. Errors: out of memory, or the
     /// rule that this token breaks; the expression is then to be dropped.
     pub fn step(&mut self, alloc: Global, token: &Token) -> Result<ExpressionStep, StepError>
-        ensures { StepsTo token.now result self.new (expression_step limits
-            (stack_of self.old.frames.items) self.old.operators
-            (expectation_of self.old.expected) token.now) }
+        ensures { StepsExpression token.now result self.new (expression_step model_limits
+            (term_stack_of self.old.frames.items) self.old.operators
+            (term_expectation_of self.old.expected) token.now) }
     {
         match self.expected {
             Expectation::Wants => self.operand(alloc, token),
@@ -76,9 +76,9 @@ impl OpenExpression {
 
     // A token that may be what is expected.
     fn expected_read(&mut self, alloc: Global, token: &Token) -> Result<ExpressionStep, StepError>
-        ensures { StepsTo token.now result self.new (expression_step limits
-            (stack_of self.old.frames.items) self.old.operators
-            (expectation_of self.old.expected) token.now) }
+        ensures { StepsExpression token.now result self.new (expression_step model_limits
+            (term_stack_of self.old.frames.items) self.old.operators
+            (term_expectation_of self.old.expected) token.now) }
     {
         match mem::replace(&mut self.expected, Expectation::Wants) {
             Expectation::Wants => self.operand(alloc, token),
@@ -103,8 +103,9 @@ impl OpenExpression {
     // The expression goes on with what is expected next.
     #[inline(always)]
     fn goes(&mut self, expected: Expectation) -> Result<ExpressionStep, StepError>
-        ensures { (t : Token) → StepsTo t result self.new
-            (Goes (stack_of self.old.frames.items) self.old.operators (expectation_of expected)) }
+        ensures { (t : Token) → StepsExpression t result self.new
+            (Goes (term_stack_of self.old.frames.items) self.old.operators
+            (term_expectation_of expected)) }
     {
         self.expect(expected);
         Ok(ExpressionStep::Goes)
@@ -112,7 +113,7 @@ impl OpenExpression {
 
     // The expression has ended.
     fn ends(&mut self, whole: Expression) -> Result<ExpressionStep, StepError>
-        ensures { (t : Token) → StepsTo t result self.new (Ends (term_of whole)) }
+        ensures { (t : Token) → StepsExpression t result self.new (Ends (term_of whole)) }
     {
         self.expect(Expectation::Has(whole));
         Ok(ExpressionStep::Ends)
@@ -120,7 +121,8 @@ impl OpenExpression {
 
     // A token where an operand is wanted.
     fn operand(&mut self, alloc: Global, token: &Token) -> Result<ExpressionStep, StepError>
-        ensures { StepsTo token.now result self.new (operand limits (stack_of self.old.frames.items)
+        ensures { StepsExpression token.now result self.new (operand model_limits
+            (term_stack_of self.old.frames.items)
             self.old.operators token.now) }
     {
         match token {
@@ -140,8 +142,9 @@ impl OpenExpression {
 
     // Opens a bracket or a prefix.
     fn opened(&mut self, frame: Frame) -> Result<ExpressionStep, StepError>
-        ensures { (t : Token) → StepsTo t result self.new
-            (opened limits (stack_of self.old.frames.items) self.old.operators (frame_of frame)) }
+        ensures { (t : Token) → StepsExpression t result self.new
+            (term_opened model_limits (term_stack_of self.old.frames.items) self.old.operators
+            (frame_of frame)) }
     {
         if open_frames(&self.frames) >= MAX_NESTING {
             return Err(StepError::Refused(CatRule::TooDeep));
@@ -152,7 +155,8 @@ impl OpenExpression {
 
     // A token after `{`.
     fn after_brace(&mut self, token: &Token) -> Result<ExpressionStep, StepError>
-        ensures { StepsTo token.now result self.new (after_brace (stack_of self.old.frames.items)
+        ensures { StepsExpression token.now result self.new (after_brace
+            (term_stack_of self.old.frames.items)
             self.old.operators token.now) }
     {
         match token {
@@ -163,8 +167,8 @@ impl OpenExpression {
 
     // A `)` after an operand.
     fn closed(&mut self, alloc: Global, operand: Expression) -> Result<ExpressionStep, StepError>
-        ensures { StepsTo Close result self.new (closed self.old.operators
-            (fold_to 0 (stack_of self.old.frames.items) (term_of operand))) }
+        ensures { StepsExpression Close result self.new (term_closed self.old.operators
+            (fold_to 0 (term_stack_of self.old.frames.items) (term_of operand))) }
     {
         let mut operand = operand;
         join(alloc, 0, &mut self.frames, &mut operand)?;
@@ -188,8 +192,8 @@ impl OpenExpression {
         alloc: Global,
         operand: Expression,
     ) -> Result<ExpressionStep, StepError>
-        ensures { StepsTo CloseSquare result self.new (square_closed self.old.operators
-            (fold_to 0 (stack_of self.old.frames.items) (term_of operand))) }
+        ensures { StepsExpression CloseSquare result self.new (square_closed self.old.operators
+            (fold_to 0 (term_stack_of self.old.frames.items) (term_of operand))) }
     {
         let mut operand = operand;
         join(alloc, 0, &mut self.frames, &mut operand)?;
@@ -209,8 +213,8 @@ impl OpenExpression {
         alloc: Global,
         operand: Expression,
     ) -> Result<ExpressionStep, StepError>
-        ensures { StepsTo Comma result self.new (comma_read self.old.operators
-            (fold_to 0 (stack_of self.old.frames.items) (term_of operand))) }
+        ensures { StepsExpression Comma result self.new (comma_read self.old.operators
+            (fold_to 0 (term_stack_of self.old.frames.items) (term_of operand))) }
     {
         let mut operand = operand;
         join(alloc, 0, &mut self.frames, &mut operand)?;
@@ -236,8 +240,8 @@ impl OpenExpression {
         operand: Expression,
         token: &Token,
     ) -> Result<ExpressionStep, StepError>
-        ensures { StepsTo token.now result self.new (ended token.now (fold_to 0
-            (stack_of self.old.frames.items) (term_of operand))) }
+        ensures { StepsExpression token.now result self.new (term_ended token.now (fold_to 0
+            (term_stack_of self.old.frames.items) (term_of operand))) }
     {
         let mut operand = operand;
         join(alloc, 0, &mut self.frames, &mut operand)?;
@@ -254,8 +258,8 @@ impl OpenExpression {
         operand: Expression,
         sign: Sign,
     ) -> Result<ExpressionStep, StepError>
-        ensures { StepsTo (tokens.Sign sign) result self.new (after limits
-            (stack_of self.old.frames.items) self.old.operators (term_of operand)
+        ensures { StepsExpression (tokens.Sign sign) result self.new (operand_after model_limits
+            (term_stack_of self.old.frames.items) self.old.operators (term_of operand)
             (tokens.Sign sign)) }
     {
         if self.operators >= MAX_OPERATORS {
@@ -273,8 +277,8 @@ impl OpenExpression {
         operand: Expression,
         mark: Mark,
     ) -> Result<ExpressionStep, StepError>
-        ensures { StepsTo (tokens.Mark mark) result self.new (after limits
-            (stack_of self.old.frames.items) self.old.operators (term_of operand)
+        ensures { StepsExpression (tokens.Mark mark) result self.new (operand_after model_limits
+            (term_stack_of self.old.frames.items) self.old.operators (term_of operand)
             (tokens.Mark mark)) }
     {
         if self.operators >= MAX_OPERATORS {
@@ -287,7 +291,8 @@ impl OpenExpression {
 
     // A star after an operand.
     fn star_read(&mut self, operand: Expression) -> Result<ExpressionStep, StepError>
-        ensures { StepsTo tokens.Star result self.new (after limits (stack_of self.old.frames.items)
+        ensures { StepsExpression tokens.Star result self.new (operand_after model_limits
+            (term_stack_of self.old.frames.items)
             self.old.operators (term_of operand) tokens.Star) }
     {
         if self.operators >= MAX_OPERATORS {
@@ -304,7 +309,8 @@ impl OpenExpression {
         operand: Expression,
         token: &Token,
     ) -> Result<ExpressionStep, StepError>
-        ensures { StepsTo token.now result self.new (after limits (stack_of self.old.frames.items)
+        ensures { StepsExpression token.now result self.new (operand_after model_limits
+            (term_stack_of self.old.frames.items)
             self.old.operators (term_of operand) token.now) }
     {
         match token {
@@ -321,7 +327,8 @@ impl OpenExpression {
     // The `(` after a function.
     fn applied(&mut self, alloc: Global, name: Name) -> Result<ExpressionStep, StepError>
         ensures { (t : Token)
-            → StepsTo t result self.new (opened limits (stack_of self.old.frames.items)
+            → StepsExpression t result self.new (term_opened model_limits
+            (term_stack_of self.old.frames.items)
             self.old.operators (InArguments name [])) }
     {
         self.opened(Frame::Applied(name, Vec::new(alloc)))
@@ -334,8 +341,9 @@ impl OpenExpression {
         name: Name,
         token: &Token,
     ) -> Result<ExpressionStep, StepError>
-        ensures { StepsTo token.now result self.new
-            (after_name limits (stack_of self.old.frames.items) self.old.operators name token.now) }
+        ensures { StepsExpression token.now result self.new
+            (after_name model_limits (term_stack_of self.old.frames.items) self.old.operators name
+            token.now) }
     {
         match token {
             Token::Open => self.applied(alloc, name),
@@ -350,8 +358,8 @@ impl OpenExpression {
         left: Expression,
         token: &Token,
     ) -> Result<ExpressionStep, StepError>
-        ensures { StepsTo token.now result self.new (after_star limits
-            (stack_of self.old.frames.items) self.old.operators (term_of left) token.now) }
+        ensures { StepsExpression token.now result self.new (after_star model_limits
+            (term_stack_of self.old.frames.items) self.old.operators (term_of left) token.now) }
     {
         match token {
             Token::Tilde => {
@@ -379,8 +387,8 @@ impl OpenExpression {
         left: Expression,
         token: &Token,
     ) -> Result<ExpressionStep, StepError>
-        ensures { StepsTo token.now result self.new (after_star_tilde limits
-            (stack_of self.old.frames.items) self.old.operators (term_of left) token.now) }
+        ensures { StepsExpression token.now result self.new (after_star_tilde model_limits
+            (term_stack_of self.old.frames.items) self.old.operators (term_of left) token.now) }
     {
         match token {
             Token::Check(word) => {

@@ -7,7 +7,7 @@ use Rattle.cat_tokens.specs.declared.token.Token.TheVariants as tokens
 use Rattle.text_values.specs.declared.model.Infix.{Infix}
 use Rattle.text_values.specs.declared.model.Infix.TheVariants.{Union, Sequence, Difference, Intersection, Product}
 use Rattle.text_values.specs.ModelValue.{Term, Join, gathered, OneMore}
-use Rattle.cat_grammar.specs.Grammar.{Tree, Pair, Prefix, Trees, Last, More, infix_token, spelled, spelled_arguments, meaning, meanings, level, left_level, right_level, tightness, IsGrouped, AreGrouped, depth, depths, operators, operators_of, Limits}
+use Rattle.cat_grammar.specs.Grammar.{Tree, Pair, Prefix, Trees, Last, More, infix_token, spelled, spelled_arguments, meaning, meanings, infix_level, left_level, right_level, tightness, IsGrouped, AreGrouped, depth, depths, operators, operators_of, Limits}
 use Rattle.cat_grammar.specs.Machine.{TermFrame, InGroup, InSquare, InPrefix, LeftOf, InArguments, open_count, fold_to, is_outermost}
 
 -- no bracket is open
@@ -115,7 +115,7 @@ Fine most (BArguments n args ∷ bs) =
     (opens bs < most.nesting) × ArgumentsFine most (opens bs + 1) args × Fine most bs
 Fine most (BPrefix ∷ bs) = (opens bs < most.nesting) × Fine most bs
 Fine most (BLeft op a ∷ bs) =
-    IsGrouped a × (left_level op ≤ tightness a) × (need bs ≤ level op)
+    IsGrouped a × (left_level op ≤ tightness a) × (need bs ≤ infix_level op)
     × (opens bs + depth a ≤ most.nesting) × Fine most bs
 
 abbrev pub Stops : ℕ → List Branch → Type 0
@@ -124,7 +124,7 @@ Stops l (BGroup ∷ bs) = Unit {0}
 Stops l (BSquare ∷ bs) = Unit {0}
 Stops l (BArguments n args ∷ bs) = Unit {0}
 Stops l (BPrefix ∷ bs) = ⊥
-Stops l (BLeft op a ∷ bs) = level op < l
+Stops l (BLeft op a ∷ bs) = infix_level op < l
 
 pub open_count-frames : (bs : List Branch) → open_count (frames bs) ≡ opens bs
 open_count-frames [] = refl
@@ -165,7 +165,7 @@ opens-le most (BPrefix ∷ bs) h = omega (arith, h.0)
 opens-le most (BLeft op a ∷ bs) h = omega (arith, h.3)
 
 -- an operand on the right of a looser operator may be joined by this one
-pub meets : (o p : Infix) → level p < left_level o → right_level p ≤ level o
+pub meets : (o p : Infix) → infix_level p < left_level o → right_level p ≤ infix_level o
 meets Union Union h = omega arith
 meets Union Sequence h = omega arith
 meets Union Difference h = omega arith
@@ -231,20 +231,20 @@ folded most l whole rest used (BPrefix ∷ bs) t low tight fine grouped needed s
     folded most l whole rest used bs (Prefix t) low low fine.1 (needed, grouped) (need-le bs)
     (omega arith) (omega arith) is
 folded most l whole rest used (BLeft op a ∷ bs) t low tight fine grouped needed shallow counted is =
-    choose (nat_le l (level op)) refl (λ le. folded most l whole rest used bs (Pair op a t) low le
+    choose (nat_le l (infix_level op)) refl (λ le. folded most l whole rest used bs (Pair op a t) low le
     fine.4 (fine.1, needed, fine.0, grouped) fine.2 (omega (arith, fine.3)) (omega arith)
     is)
   where
-    choose : (b : Bool) → nat_le l (level op) ≡ b
-        → (l ≤ level op
+    choose : (b : Bool) → nat_le l (infix_level op) ≡ b
+        → (l ≤ infix_level op
         → Folded most l whole rest (fold_to l (frames bs) (Join op (meaning a) (meaning t)))
         used)
         → Folded most l whole rest
         (if b then fold_to l (frames bs) (Join op (meaning a) (meaning t))
         else (LeftOf op (meaning a) ∷ frames bs, meaning t)) used
-    choose true e joined = joined (test_true l (level op) e)
+    choose true e joined = joined (test_true l (infix_level op) e)
     choose false e joined =
-        record { bs = BLeft op a ∷ bs; t = t; is = refl; fine = fine; grouped = grouped; needed = needed; tight = tight; shallow = shallow; counted = counted; whole_is = is; stops = test_false l (level op) e }
+        record { bs = BLeft op a ∷ bs; t = t; is = refl; fine = fine; grouped = grouped; needed = needed; tight = tight; shallow = shallow; counted = counted; whole_is = is; stops = test_false l (infix_level op) e }
 
 -- ---- the arguments of a function, with the last one
 

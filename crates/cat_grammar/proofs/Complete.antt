@@ -15,8 +15,8 @@ use Rattle.text_values.specs.declared.model.Infix.TheVariants.{Union, Sequence, 
 use Rattle.text_values.specs.declared.model.Postfix.{Postfix}
 use Rattle.text_values.specs.declared.model.Postfix.TheVariants as postfix
 use Rattle.text_values.specs.ModelValue.{Term, Terms, Clause, Atom, AllEvents, EmptyRelation, EmptySet, Join, Mark, Not, On, Apply, OneMore, NoTerm, gathered}
-use Rattle.cat_grammar.specs.Grammar.{Tree, Word, Underscore, Zero, Braces, Pair, Post, Prefix, Group, Square, Application, Trees, Last, More, infix_token, postfix_token, spelled, spelled_arguments, meaning, meanings, level, left_level, right_level, tightness, IsGrouped, AreGrouped, depth, depths, operators, operators_of, Limits}
-use Rattle.cat_grammar.specs.Machine.{TermFrame, InGroup, InSquare, InPrefix, LeftOf, InArguments, TermExpectation, Wants, HasName, Has, HasStar, HasStarTilde, TermStep, Goes, Ends, EndsTilde, Refuses, open_count, fold_to, is_outermost, opened, left_frames, infix_at, ended, closed, square_closed, comma_read, star_tilde}
+use Rattle.cat_grammar.specs.Grammar.{Tree, Word, Underscore, Zero, Braces, Pair, Post, Prefix, Group, Square, Application, Trees, Last, More, infix_token, postfix_token, spelled, spelled_arguments, meaning, meanings, infix_level, left_level, right_level, tightness, IsGrouped, AreGrouped, depth, depths, operators, operators_of, Limits}
+use Rattle.cat_grammar.specs.Machine.{TermFrame, InGroup, InSquare, InPrefix, LeftOf, InArguments, TermExpectation, Wants, HasName, Has, HasStar, HasStarTilde, TermStep, Goes, Ends, EndsTilde, Refuses, open_count, fold_to, is_outermost, term_opened, left_frames, infix_at, term_ended, term_closed, square_closed, comma_read, star_tilde}
 use Rattle.cat_grammar.specs.ItemMachine.{Head, Body, AfterTilde, Fault, ItemState, begin_check, excess, unless, unless_before, item_or_end, finished, at, added, goes_on}
 use Rattle.cat_grammar.proofs.Runs.{◌>>=◌, run_over}
 use Rattle.cat_grammar.proofs.Branches.{right_level-le, IsOutermost, is_outermost-true}
@@ -42,21 +42,21 @@ wanted (InArguments n args ∷ fs) = 0
 wanted (InPrefix ∷ fs) = 6
 wanted (LeftOf op a ∷ fs) = right_level op
 
-pub level-le : (op : Infix) → level op ≤ 5
+pub level-le : (op : Infix) → infix_level op ≤ 5
 level-le Union = omega arith
 level-le Sequence = omega arith
 level-le Difference = omega arith
 level-le Intersection = omega arith
 level-le Product = omega arith
 
-level-le-right : (op : Infix) → level op ≤ right_level op
+level-le-right : (op : Infix) → infix_level op ≤ right_level op
 level-le-right Union = omega arith
 level-le-right Sequence = omega arith
 level-le-right Difference = omega arith
 level-le-right Intersection = omega arith
 level-le-right Product = omega arith
 
-pub level-le-left : (op : Infix) → level op ≤ left_level op
+pub level-le-left : (op : Infix) → infix_level op ≤ left_level op
 level-le-left Union = omega arith
 level-le-left Sequence = omega arith
 level-le-left Difference = omega arith
@@ -72,7 +72,7 @@ wanted-le (InPrefix ∷ fs) = omega arith
 wanted-le (LeftOf op a ∷ fs) = let h = right_level-le op in omega arith
 
 -- an operator that takes this one as its right operand is looser
-stays : (o p : Infix) → right_level p ≤ level o → level p < left_level o
+stays : (o p : Infix) → right_level p ≤ infix_level o → infix_level p < left_level o
 stays Union Union h = omega arith
 stays Union Sequence h = omega arith
 stays Union Difference h = omega arith
@@ -109,7 +109,7 @@ fold_pending (Square a) fs l g h = refl
 fold_pending (Application n arguments) fs l g h = refl
 fold_pending (Pair op a b) fs l g h =
     let r = level-le-right op in
-    let e = le-leb l (level op) h in
+    let e = le-leb l (infix_level op) h in
     fold_pending b (LeftOf op (meaning a) ∷ fs) l g.3 (omega (arith, g.1))
     ∙ ap
     (λ (x : Bool). if x then fold_to l fs (Join op (meaning a) (meaning b))
@@ -131,7 +131,7 @@ tight_pending (Prefix a) fs h = absurd (omega arith)
 tight_pending (Group a) fs h = refl
 
 -- an infix operator joins nothing where it may stand
-fold_stays : (op : Infix) (fs : List TermFrame) (v : Term) → wanted fs ≤ level op
+fold_stays : (op : Infix) (fs : List TermFrame) (v : Term) → wanted fs ≤ infix_level op
     → fold_to (left_level op) fs v ≡ (fs, v)
 fold_stays op [] v h = refl
 fold_stays op (InGroup ∷ fs) v h = refl
@@ -140,10 +140,10 @@ fold_stays op (InArguments n args ∷ fs) v h = refl
 fold_stays op (InPrefix ∷ fs) v h = let e = level-le op in absurd (omega arith)
 fold_stays op (LeftOf o a ∷ fs) v h =
     ap (λ (x : Bool). if x then fold_to (left_level op) fs (Join o a v) else (LeftOf o a ∷ fs, v))
-    (lt-leb (left_level op) (level o) (stays op o h))
+    (lt-leb (left_level op) (infix_level o) (stays op o h))
 
 infix_pending : (op : Infix) (a : Tree) (fs : List TermFrame) → IsGrouped a
-    → left_level op ≤ tightness a → wanted fs ≤ level op
+    → left_level op ≤ tightness a → wanted fs ≤ infix_level op
     → infix_at op (pending a fs).0 (pending a fs).1 ≡ LeftOf op (meaning a) ∷ fs
 infix_pending op a fs g h w =
     ap (left_frames op) (fold_pending a fs (left_level op) g h ∙ fold_stays op fs (meaning a) w)
@@ -156,7 +156,7 @@ outer (InArguments n args ∷ fs) v h = absurd h
 outer (InPrefix ∷ fs) v h = outer fs (Not v) h
 outer (LeftOf op a ∷ fs) v h =
     let r = outer fs (Join op a v) h in
-    let e = le-leb 0 (level op) (omega arith) in (
+    let e = le-leb 0 (infix_level op) (omega arith) in (
       r.0,
       ap (λ (x : Bool). if x then fold_to 0 fs (Join op a v) else (LeftOf op a ∷ fs, v)) e
           ∙ r.1,
@@ -249,7 +249,7 @@ module _ (most : Limits) (form : Form) (cs : List Clause) (h : Head) where
       =
       ap
       (λ (p : List TermFrame × Term).
-      from (ended tokens.Tilde p) tokens.Tilde (tokens.Check w ∷ ts)) b.1 in
+      from (term_ended tokens.Tilde p) tokens.Tilde (tokens.Check w ∷ ts)) b.1 in
       left ∙ ap (λ (p : List TermFrame × Term). from (EndsTilde p.1) (tokens.Check w) ts) b.1
       ∙ sym (right ∙ by_tilde (finished h b.0 rules.Syntax) w ts c.0.1)
   star_drop fs used v (tokens.Tilde ∷ ts) c = absurd c.1
@@ -272,7 +272,7 @@ module _ (most : Limits) (form : Form) (cs : List Clause) (h : Head) where
 
   opened_run : (f : TermFrame) (t : Token) (fs : List TermFrame) (used : ℕ) (ts : List Token)
       → open_count fs < most.nesting
-      → from (opened most fs used f) t ts ≡ run_over most form (body (f ∷ fs) used Wants) ts
+      → from (term_opened most fs used f) t ts ≡ run_over most form (body (f ∷ fs) used Wants) ts
   opened_run f t fs used ts lt =
       ap (λ (x : Bool). from (if x then Goes (f ∷ fs) used Wants else Refuses rules.TooDeep) t ts)
       (lt-ltb _ _ lt)
@@ -309,7 +309,7 @@ module _ (most : Limits) (form : Form) (cs : List Clause) (h : Head) where
     where
       choose : (x : Bool)
           → from (star_tilde most fs used v x) tokens.Tilde (spelled a rest)
-          ≡ from (opened most (infix_at Product fs v) used InPrefix) tokens.Tilde
+          ≡ from (term_opened most (infix_at Product fs v) used InPrefix) tokens.Tilde
           (spelled a rest)
       choose true =
           tilde_operand fs used v a rest
@@ -438,7 +438,7 @@ module _ (most : Limits) (form : Form) (cs : List Clause) (h : Head) where
         opened_run InGroup tokens.Open fs used (spelled a (tokens.Close ∷ rest)) (omega arith)
         ∙ tree_run a (InGroup ∷ fs) used all (tokens.Close ∷ rest) g (omega arith) (omega arith) u m
         tt
-        ∙ ap (λ (p : List TermFrame × Term). from (closed all p) tokens.Close rest)
+        ∙ ap (λ (p : List TermFrame × Term). from (term_closed all p) tokens.Close rest)
         (fold_pending a (InGroup ∷ fs) 0 g (omega arith))
     tree_run (Square a) fs used all rest g w d u m c =
         opened_run InSquare tokens.OpenSquare fs used (spelled a (tokens.CloseSquare ∷ rest))
@@ -460,7 +460,7 @@ module _ (most : Limits) (form : Form) (cs : List Clause) (h : Head) where
     arguments_run (Last a) n ds fs used all rest g d u m =
         tree_run a (InArguments n ds ∷ fs) used all (tokens.Close ∷ rest) g (omega arith)
         (omega arith) u m tt
-        ∙ ap (λ (p : List TermFrame × Term). from (closed all p) tokens.Close rest)
+        ∙ ap (λ (p : List TermFrame × Term). from (term_closed all p) tokens.Close rest)
         (fold_pending a (InArguments n ds ∷ fs) 0 g (omega arith))
         ∙ ap (λ (x : Terms). run_over most form (body fs all (Has (Apply n x))) rest)
         (gathered-push ds (meaning a))

@@ -13,10 +13,10 @@ use Rattle.cat_tokens.specs.declared.token.Token.TheVariants as tokens
 use Rattle.text_values.specs.ModelValue.{Term, Clause, Binding, Function, Checking, Flagging, Showing, Including}
 use Rattle.cat_grammar.specs.Grammar as grammar
 use Rattle.cat_grammar.specs.Grammar.{Tree, spelled, meaning, operators, Limits, IsExpressionTree, BindingTree, CheckTree, ShowTree, ItemTree, spelled_rec, spelled_tilde, show_token, spelled_label, spelled_bound, spelled_group, spelled_parameters, spelled_check, spelled_shown, spelled_item, group_meaning, check_meaning, shown_meaning, item_meaning, items_meaning, AreBindingTrees, AreShowTrees, has_no_effect, IsItemTree, AreItemTrees, Title, NoTitle, NameTitle, StringTitle, spelled_title, spelled_items, IsFormText, Means}
-use Rattle.cat_grammar.specs.Machine.{TermFrame, Has, Ends, fold_to, ended, comma_read}
+use Rattle.cat_grammar.specs.Machine.{TermFrame, Has, Ends, fold_to, term_ended, comma_read}
 use Rattle.cat_tokens.specs.Tokens.{rule_of}
 use Rattle.cat_grammar.specs.ItemMachine as items
-use Rattle.cat_grammar.specs.ItemMachine.{Group, Keyword, And, Parameter, AfterParameter, Parameters, Head, BoundHead, FunctionHead, CheckedHead, ShownHead, Part, Start, InLet, AfterFlag, AfterTilde, AfterShowLabel, AfterInclude, Done, Fault, Here, ItemState, begin_body, begin_check, begin_show, excess, unless, end_of, item_or_end, fresh, extended, group_clause, shown_clause, shown_also, finished, at, added, start}
+use Rattle.cat_grammar.specs.ItemMachine.{Group, Keyword, And, Parameter, AfterParameter, Parameters, Head, BoundHead, FunctionHead, CheckedHead, ShownHead, Part, Start, InLet, AfterFlag, AfterTilde, AfterShowLabel, AfterInclude, Done, Fault, Here, ItemState, begin_body, begin_check, begin_show, excess, unless, end_of, item_or_end, fresh, extended, group_clause, shown_clause, shown_also, finished, at, added, clause_start}
 use Rattle.cat_grammar.proofs.Runs.{◌>>=◌, run_over}
 use Rattle.cat_grammar.proofs.Groups.{length-push}
 use Rattle.cat_grammar.proofs.Complete.{pending, BeginsWithCheck, CanFollow, body, from, MayEnd, fold_pending, tree_run}
@@ -78,30 +78,30 @@ module _ (most : Limits) (form : Form) where
       → run_over most form (body most form cs h fs used (Has v)) ts
       ≡ run_over most form (ready (cs ++ c ∷ [])) ts
   item_ended cs h fs used v x c (tokens.Let ∷ ts) e q f =
-      ap (λ (p : List TermFrame × Term). from most form cs h (ended tokens.Let p) tokens.Let ts) q
+      ap (λ (p : List TermFrame × Term). from most form cs h (term_ended tokens.Let p) tokens.Let ts) q
       ∙ done_at cs h x c tokens.Let ts f
   item_ended cs h fs used v x c (tokens.Flag ∷ ts) e q f =
-      ap (λ (p : List TermFrame × Term). from most form cs h (ended tokens.Flag p) tokens.Flag ts) q
+      ap (λ (p : List TermFrame × Term). from most form cs h (term_ended tokens.Flag p) tokens.Flag ts) q
       ∙ done_at cs h x c tokens.Flag ts f
   item_ended cs h fs used v x c (tokens.Check w ∷ ts) e q f =
       ap
       (λ (p : List TermFrame × Term).
-      from most form cs h (ended (tokens.Check w) p) (tokens.Check w) ts) q
+      from most form cs h (term_ended (tokens.Check w) p) (tokens.Check w) ts) q
       ∙ done_at cs h x c (tokens.Check w) ts f
   item_ended cs h fs used v x c (tokens.Show ∷ ts) e q f =
-      ap (λ (p : List TermFrame × Term). from most form cs h (ended tokens.Show p) tokens.Show ts) q
+      ap (λ (p : List TermFrame × Term). from most form cs h (term_ended tokens.Show p) tokens.Show ts) q
       ∙ done_at cs h x c tokens.Show ts f
   item_ended cs h fs used v x c (tokens.Unshow ∷ ts) e q f =
-      ap (λ (p : List TermFrame × Term). from most form cs h (ended tokens.Unshow p) tokens.Unshow ts) q
+      ap (λ (p : List TermFrame × Term). from most form cs h (term_ended tokens.Unshow p) tokens.Unshow ts) q
       ∙ done_at cs h x c tokens.Unshow ts f
   item_ended cs h fs used v x c (tokens.Include ∷ ts) e q f =
-      ap (λ (p : List TermFrame × Term). from most form cs h (ended tokens.Include p) tokens.Include ts)
+      ap (λ (p : List TermFrame × Term). from most form cs h (term_ended tokens.Include p) tokens.Include ts)
       q ∙ done_at cs h x c tokens.Include ts f
   item_ended cs h fs used v x c (tokens.End ∷ ts) e q f =
-      ap (λ (p : List TermFrame × Term). from most form cs h (ended tokens.End p) tokens.End ts) q
+      ap (λ (p : List TermFrame × Term). from most form cs h (term_ended tokens.End p) tokens.End ts) q
       ∙ done_at cs h x c tokens.End ts f
   item_ended cs h fs used v x c (tokens.Tilde ∷ ts) e q f =
-      ap (λ (p : List TermFrame × Term). from most form cs h (ended tokens.Tilde p) tokens.Tilde ts) q
+      ap (λ (p : List TermFrame × Term). from most form cs h (term_ended tokens.Tilde p) tokens.Tilde ts) q
       ∙ done_at cs h x c tokens.Tilde ts f
   item_ended cs h fs used v x c [] e q f = absurd e
   item_ended cs h fs used v x c (_ ∷ ts) e q f = absurd e
@@ -125,7 +125,7 @@ module _ (most : Limits) (form : Form) where
       ≡ from most form cs h (Ends (meaning t)) tokens.And rest
   up_to_and cs h t rest i =
       body_run cs h t (tokens.And ∷ rest) i tt
-      ∙ ap (λ (p : List TermFrame × Term). from most form cs h (ended tokens.And p) tokens.And rest)
+      ∙ ap (λ (p : List TermFrame × Term). from most form cs h (term_ended tokens.And p) tokens.And rest)
       (fold_pending t [] 0 i.grouped (omega arith))
 
   up_to_as : (cs : List Clause) (h : Head) (t : Tree) (rest : List Token) → IsExpressionTree most t
@@ -133,7 +133,7 @@ module _ (most : Limits) (form : Form) where
       ≡ from most form cs h (Ends (meaning t)) tokens.As rest
   up_to_as cs h t rest i =
       body_run cs h t (tokens.As ∷ rest) i tt
-      ∙ ap (λ (p : List TermFrame × Term). from most form cs h (ended tokens.As p) tokens.As rest)
+      ∙ ap (λ (p : List TermFrame × Term). from most form cs h (term_ended tokens.As p) tokens.As rest)
       (fold_pending t [] 0 i.grouped (omega arith))
 
   up_to_comma : (cs : List Clause) (h : Head) (t : Tree) (rest : List Token) → IsExpressionTree most t
@@ -460,7 +460,7 @@ module _ (most : Limits) (form : Form) where
 
 text_run : (most : Limits) (form : Form) (title : Title) (is : List ItemTree)
     → IsFormText form most title is → AreItemTrees most is
-    → run_over most form (start form) (spelled_title title (spelled_items is (tokens.End ∷ [])))
+    → run_over most form (clause_start form) (spelled_title title (spelled_items is (tokens.End ∷ [])))
     ≡ Ok (record { items = items_meaning is; part = Done })
 text_run most forms.Model title is h each =
     titled most forms.Model title (spelled_items is (tokens.End ∷ []))
@@ -473,7 +473,7 @@ text_run most forms.Model title is h each =
         (lt-ltb k most.items (omega arith))
 text_run most forms.Item title is h each =
     ap
-    (λ (x : Title). run_over most forms.Item (start forms.Item)
+    (λ (x : Title). run_over most forms.Item (clause_start forms.Item)
     (spelled_title x (spelled_items is (tokens.End ∷ [])))) h.0
     ∙ items_run most forms.Item [] is each room ends
   where
@@ -489,8 +489,8 @@ text_run most forms.Item title is h each =
 -- the machine takes each text, and gives what it means
 pub complete : (most : Limits) (form : Form) (ts : List Token) (v : List Clause)
     → Means most form ts v
-    → run_over most form (start form) ts ≡ Ok (record { items = v; part = Done })
+    → run_over most form (clause_start form) ts ≡ Ok (record { items = v; part = Done })
 complete most form ts v m =
-    ap (run_over most form (start form)) m.whole
+    ap (run_over most form (clause_start form)) m.whole
     ∙ text_run most form m.title m.items m.form_is m.each
     ∙ ap (λ (xs : List Clause). Ok (record { items = xs; part = Done })) m.meant

@@ -11,10 +11,10 @@ use Rattle.cat_tokens.specs.declared.token.Token.{Token}
 use Rattle.cat_tokens.specs.declared.token.Token.TheVariants as tokens
 use Rattle.text_values.specs.ModelValue.{Clause}
 use Rattle.cat_grammar.specs.Grammar.{Limits, BeginsForm, SameCounts, SameDepths, IsSeparator, CanStand, BeginsText, BeforeAName, last_two, last_offset, is_tilde, is_check, BreaksRule, Nowhere, TooMany, TooDeep, Plain, IsFormFault}
-use Rattle.cat_tokens.specs.Tokens.{TokenAt, tokens_of}
+use Rattle.cat_tokens.specs.Tokens.{TokenAt, model_tokens_of}
 use Rattle.cat_grammar.specs.ItemMachine as items
-use Rattle.cat_grammar.specs.ItemMachine.{And, Parameter, Part, InLet, Fault, Here, Before, ItemState, step, start}
-use Rattle.cat_grammar.specs.Running.{ItemsResult, with_offset, and_then, run}
+use Rattle.cat_grammar.specs.ItemMachine.{And, Parameter, Part, InLet, Fault, Here, Before, ItemState, clause_step, clause_start}
+use Rattle.cat_grammar.specs.Running.{ItemsResult, with_offset, and_then, run_items}
 use Rattle.cat_grammar.proofs.Runs.{◌>>=◌, run_over, run_over-append}
 use Rattle.cat_grammar.proofs.Finishes.{has_offset, begins, takes}
 use Rattle.cat_grammar.proofs.Shapes.{KnowsPart, Broke, Plainly, Gate, Nest, Operate, Count, Names, Takes, passes, many_fault, gate_fault, StepShape, Always, Where, step_shape}
@@ -159,7 +159,7 @@ last_offset-push : (n : ℕ) (ps : List TokenAt) (p : TokenAt)
 last_offset-push n [] p = refl
 last_offset-push n (q ∷ ps) p = last_offset-push q.offset ps p
 
-pub tokens_of-append : (ps qs : List TokenAt) → tokens_of (ps ++ qs) ≡ tokens_of ps ++ tokens_of qs
+pub tokens_of-append : (ps qs : List TokenAt) → model_tokens_of (ps ++ qs) ≡ model_tokens_of ps ++ model_tokens_of qs
 tokens_of-append [] qs = refl
 tokens_of-append (p ∷ ps) qs = ap (λ (ts : List Token). p.token ∷ ts) (tokens_of-append ps qs)
 
@@ -176,33 +176,33 @@ not_both : (d : Fault) (s : ItemState) → Err d ≡ kept s → ⊥
 not_both d s e = absurd cc
 
 module _ (form : Form) where
-  start_knows : KnowsPart (tokens.End, tokens.End) (start form).part
+  start_knows : KnowsPart (tokens.End, tokens.End) (clause_start form).part
   start_knows = by_form form
     where
-      by_form : (f : Form) → KnowsPart (tokens.End, tokens.End) (start f).part
+      by_form : (f : Form) → KnowsPart (tokens.End, tokens.End) (clause_start f).part
       by_form forms.Model = (((refl, refl), refl), refl)
       by_form forms.Item = (((refl, refl), refl), refl)
 
-  start_has_offset : (most : Limits) → has_offset most (start form).part ≡ true
+  start_has_offset : (most : Limits) → has_offset most (clause_start form).part ≡ true
   start_has_offset most = by_form form
     where
-      by_form : (f : Form) → has_offset most (start f).part ≡ true
+      by_form : (f : Form) → has_offset most (clause_start f).part ≡ true
       by_form forms.Model = refl
       by_form forms.Item = refl
 
   -- a step under wider limits, and what is known after it
   step_wider : (a b : Limits) (p : Token × Token) (s : ItemState) (t : Token) (s' : ItemState)
-      → KnowsPart p s.part → Wider a b → step a form s t ≡ Ok s'
-      → (step b form s t ≡ Ok s') × KnowsPart (p.1, t) s'.part
+      → KnowsPart p s.part → Wider a b → clause_step a form s t ≡ Ok s'
+      → (clause_step b form s t ≡ Ok s') × KnowsPart (p.1, t) s'.part
   step_wider a b p s t s' k w e = by_shape (step_shape form p s t k)
     where
-      by_result : (r : Result ItemState Fault) → ((x : Limits) → step x form s t ≡ r)
+      by_result : (r : Result ItemState Fault) → ((x : Limits) → clause_step x form s t ≡ r)
           → ((x : ItemState) → r ≡ Ok x → KnowsPart (p.1, t) x.part)
-          → (step b form s t ≡ Ok s') × KnowsPart (p.1, t) s'.part
+          → (clause_step b form s t ≡ Ok s') × KnowsPart (p.1, t) s'.part
       by_result r q known = (q b ∙ sym (q a) ∙ e, known s' (sym (q a) ∙ e))
 
-      by_shape : StepShape p t (λ x. step x form s t)
-          → (step b form s t ≡ Ok s') × KnowsPart (p.1, t) s'.part
+      by_shape : StepShape p t (λ x. clause_step x form s t)
+          → (clause_step b form s t ≡ Ok s') × KnowsPart (p.1, t) s'.part
       by_shape (Always (Ok x) q known) =
           by_result (Ok x) q (λ y h.
           subst (λ (z : ItemState). KnowsPart (p.1, t) z.part) (kept_is x y h) known)
@@ -210,7 +210,7 @@ module _ (form : Form) where
       by_shape (Where g x q own known offset) = by_test (passes g a) refl
         where
           by_test : (y : Bool) → passes g a ≡ y
-              → (step b form s t ≡ Ok s') × KnowsPart (p.1, t) s'.part
+              → (clause_step b form s t ≡ Ok s') × KnowsPart (p.1, t) s'.part
           by_test true h =
               let same : kept x ≡ kept s' = sym (ap (λ (z : Bool). gated z x (gate_fault g (is_check t && is_tilde p.1))) h) ∙ sym (q a) ∙ e in (
                 q b
@@ -229,13 +229,13 @@ module _ (form : Form) where
   taken_wider a b p s [] s' k w e =
       (e, subst (λ (z : ItemState). KnowsPart p z.part) (kept_is s s' e) k)
   taken_wider a b p s (t ∷ ts) s' k w e =
-      by_step (step a form s t) refl e (λ x j h. taken_wider a b (p.1, t) x ts s' j w h)
+      by_step (clause_step a form s t) refl e (λ x j h. taken_wider a b (p.1, t) x ts s' j w h)
     where
-      by_step : (r : Result ItemState Fault) → step a form s t ≡ r
+      by_step : (r : Result ItemState Fault) → clause_step a form s t ≡ r
           → (r >>= λ x. run_over a form x ts) ≡ Ok s'
           → ((x : ItemState) → KnowsPart (p.1, t) x.part → run_over a form x ts ≡ Ok s'
           → (run_over b form x ts ≡ Ok s') × KnowsPart (last_two p.1 t ts) s'.part)
-          → ((step b form s t >>= λ x. run_over b form x ts) ≡ Ok s')
+          → ((clause_step b form s t >>= λ x. run_over b form x ts) ≡ Ok s')
           × KnowsPart (last_two p.1 t ts) s'.part
       by_step (Ok x) q h f =
           let n = step_wider a b p s t x k w q in
@@ -245,17 +245,17 @@ module _ (form : Form) where
 
   -- tokens that were taken
   module _ (most : Limits) (ts : List Token) (s : ItemState)
-      (reached : run_over most form (start form) ts ≡ Ok s) where
+      (reached : run_over most form (clause_start form) ts ≡ Ok s) where
     abbrev ends : Token × Token
     ends = last_two tokens.End tokens.End ts
 
-    under : (b : Limits) → Wider most b → run_over b form (start form) ts ≡ Ok s
+    under : (b : Limits) → Wider most b → run_over b form (clause_start form) ts ≡ Ok s
     under b w =
-        (taken_wider most b (tokens.End, tokens.End) (start form) ts s start_knows w reached).0
+        (taken_wider most b (tokens.End, tokens.End) (clause_start form) ts s start_knows w reached).0
 
     known : KnowsPart ends s.part
     known =
-        (taken_wider most most (tokens.End, tokens.End) (start form) ts s start_knows
+        (taken_wider most most (tokens.End, tokens.End) (clause_start form) ts s start_knows
         (record {
           nesting = omega arith;
           operators = omega arith;
@@ -265,8 +265,8 @@ module _ (form : Form) where
         }) reached).1
 
     pushed : (b : Limits) (t : Token) → Wider most b
-        → run_over b form (start form) (ts ++ t ∷ []) ≡ (step b form s t >>= λ x. Ok x)
-    pushed b t w = run_over-append b form (start form) s ts (t ∷ []) (under b w)
+        → run_over b form (clause_start form) (ts ++ t ∷ []) ≡ (clause_step b form s t >>= λ x. Ok x)
+    pushed b t w = run_over-append b form (clause_start form) s ts (t ∷ []) (under b w)
 
     same_limits : Wider most most
     same_limits =
@@ -281,12 +281,12 @@ module _ (form : Form) where
     module _ (some : 0 < most.nesting) (one : 0 < most.names) (two : 0 < most.parameters)
         (t : Token) where
       -- a token that is taken can stand
-      stands : (s' : ItemState) → step most form s t ≡ Ok s'
-          → (run_over most form (start form) (ts ++ t ∷ []) ≡ Ok s')
+      stands : (s' : ItemState) → clause_step most form s t ≡ Ok s'
+          → (run_over most form (clause_start form) (ts ++ t ∷ []) ≡ Ok s')
           × CanStand most form (ts ++ t ∷ [])
       stands s' e = (all, choose (has_offset most s'.part) refl)
         where
-          all : run_over most form (start form) (ts ++ t ∷ []) ≡ Ok s'
+          all : run_over most form (clause_start form) (ts ++ t ∷ []) ≡ Ok s'
           all = pushed most t same_limits ∙ ap (λ (r : Result ItemState Fault). r >>= λ x. Ok x) e
 
           after : KnowsPart (ends.1, t) s'.part
@@ -297,7 +297,7 @@ module _ (form : Form) where
           choose false offset =
               let wide = joined most (wide_part s'.part) in
               let w = wider_left most (wide_part s'.part) in
-              let now : run_over wide form (start form) (ts ++ t ∷ []) ≡ Ok s' = pushed wide t w ∙ ap (λ (r : Result ItemState Fault). r >>= λ x. Ok x) (step_wider most wide ends s t s' known w e).0 in
+              let now : run_over wide form (clause_start form) (ts ++ t ∷ []) ≡ Ok s' = pushed wide t w ∙ ap (λ (r : Result ItemState Fault). r >>= λ x. Ok x) (step_wider most wide ends s t s' known w e).0 in
               BeforeAName (record {
                 earlier = ts;
                 separator = t;
@@ -314,35 +314,35 @@ module _ (form : Form) where
               })
 
       -- where no limits help, no text begins so
-      no_wider : (d : Fault) → ((b : Limits) → step b form s t ≡ Err d) → (wider : Limits)
+      no_wider : (d : Fault) → ((b : Limits) → clause_step b form s t ≡ Err d) → (wider : Limits)
           → BeginsForm wider form (ts ++ t ∷ []) → ⊥
       no_wider d e wider b =
           let c = joined most wider in
           let r = takes wider form (ts ++ t ∷ []) b in
-          let up = (taken_wider wider c (tokens.End, tokens.End) (start form) (ts ++ t ∷ []) r.0 start_knows (wider_right most wider) r.1).0 in
-          let q : (step c form s t >>= λ x. Ok x) ≡ kept r.0 = sym (pushed c t (wider_left most wider)) ∙ up in
+          let up = (taken_wider wider c (tokens.End, tokens.End) (clause_start form) (ts ++ t ∷ []) r.0 start_knows (wider_right most wider) r.1).0 in
+          let q : (clause_step c form s t >>= λ x. Ok x) ≡ kept r.0 = sym (pushed c t (wider_left most wider)) ∙ up in
           not_both d r.0 (ap (λ (y : Result ItemState Fault). y >>= λ x. Ok x) (sym (e c)) ∙ q)
 
-      no_text : (d : Fault) → step most form s t ≡ Err d → BeginsForm most form (ts ++ t ∷ []) → ⊥
+      no_text : (d : Fault) → clause_step most form s t ≡ Err d → BeginsForm most form (ts ++ t ∷ []) → ⊥
       no_text d e b =
           let r = takes most form (ts ++ t ∷ []) b in
-          let q : (step most form s t >>= λ x. Ok x) ≡ kept r.0 = sym (pushed most t same_limits) ∙ r.1 in
+          let q : (clause_step most form s t >>= λ x. Ok x) ≡ kept r.0 = sym (pushed most t same_limits) ∙ r.1 in
           not_both d r.0 (ap (λ (y : Result ItemState Fault). y >>= λ x. Ok x) (sym e) ∙ q)
 
       -- wider limits help where a limit refused
       wider_text : (g : Gate) (x : ItemState) (d : Fault)
-          → ((b : Limits) → step b form s t ≡ gated (passes g b) x d)
+          → ((b : Limits) → clause_step b form s t ≡ gated (passes g b) x d)
           → ((b : Limits) → has_offset b x.part ≡ true)
           → BeginsForm (joined most (gate_limits g)) form (ts ++ t ∷ [])
       wider_text g x d q offset =
           let c = joined most (gate_limits g) in
           let w = wider_left most (gate_limits g) in
-          let e : run_over c form (start form) (ts ++ t ∷ []) ≡ Ok x = pushed c t w ∙ ap (λ (y : Result ItemState Fault). y >>= λ z. Ok z) (q c ∙ ap (λ (y : Bool). gated y x d) (gate_passes most g)) in
+          let e : run_over c form (clause_start form) (ts ++ t ∷ []) ≡ Ok x = pushed c t w ∙ ap (λ (y : Result ItemState Fault). y >>= λ z. Ok z) (q c ∙ ap (λ (y : Bool). gated y x d) (gate_passes most g)) in
           begins c form (ts ++ t ∷ []) x (let h = w.nesting in omega arith)
           (let h = w.names in omega arith) e (offset c)
 
       -- a token that is refused cannot stand
-      cannot_stand : (d : Fault) → step most form s t ≡ Err d → CanStand most form (ts ++ t ∷ [])
+      cannot_stand : (d : Fault) → clause_step most form s t ≡ Err d → CanStand most form (ts ++ t ∷ [])
           → ⊥
       cannot_stand d e (BeginsText b) = no_text d e b
       cannot_stand d e (BeforeAName a) = by_shape (step_shape form ends s t known)
@@ -354,7 +354,7 @@ module _ (form : Form) where
               ∙ ap (λ (p : Token × Token). p.1)
               (last_two-push tokens.End tokens.End a.earlier a.separator)
 
-          by_shape : StepShape ends t (λ b. step b form s t) → ⊥
+          by_shape : StepShape ends t (λ b. clause_step b form s t) → ⊥
           by_shape (Always (Ok x) q k) = not_both d x (sym e ∙ q most)
           by_shape (Always (Err f) q k) = no_wider f q a.wider a.more
           by_shape (Where g x q own k offset) =
@@ -370,12 +370,12 @@ RefusedAs most form before here (Before r) =
 
 module _ (most : Limits) (form : Form) (some : 0 < most.nesting) (one : 0 < most.names)
     (two : 0 < most.parameters) (before : List TokenAt) (s : ItemState)
-    (reached : run_over most form (start form) (tokens_of before) ≡ Ok s) (here : TokenAt) where
+    (reached : run_over most form (clause_start form) (model_tokens_of before) ≡ Ok s) (here : TokenAt) where
   abbrev two_before : Token × Token
-  two_before = last_two tokens.End tokens.End (tokens_of before)
+  two_before = last_two tokens.End tokens.End (model_tokens_of before)
 
   too_many : (wider : Limits) → SameDepths most wider
-      → BeginsForm wider form (tokens_of before ++ here.token ∷ []) → (b : Bool)
+      → BeginsForm wider form (model_tokens_of before ++ here.token ∷ []) → (b : Bool)
       → (is_check here.token && is_tilde two_before.1) ≡ b
       → RefusedAs most form before here (many_fault b)
   too_many wider same text true e =
@@ -386,12 +386,12 @@ module _ (most : Limits) (form : Form) (some : 0 < most.nesting) (one : 0 < most
       (λ (b : Bool). if b then last_offset 0 before else here.offset) e))
 
   too_deep : (wider : Limits) → SameCounts most wider
-      → BeginsForm wider form (tokens_of before ++ here.token ∷ [])
+      → BeginsForm wider form (model_tokens_of before ++ here.token ∷ [])
       → RefusedAs most form before here (Here rules.TooDeep)
   too_deep wider same text = TooDeep wider same text refl refl
 
   gate_refusal : (g : Gate)
-      → BeginsForm (joined most (gate_limits g)) form (tokens_of before ++ here.token ∷ [])
+      → BeginsForm (joined most (gate_limits g)) form (model_tokens_of before ++ here.token ∷ [])
       → RefusedAs most form before here (gate_fault g
       (is_check here.token && is_tilde two_before.1))
   gate_refusal (Nest n) text =
@@ -408,15 +408,15 @@ module _ (most : Limits) (form : Form) (some : 0 < most.nesting) (one : 0 < most
       too_many (joined most (gate_limits (Takes n))) (omega arith, omega arith) text
       (is_check here.token && is_tilde two_before.1) refl
 
-  refusal : (d : Fault) → step most form s here.token ≡ Err d → RefusedAs most form before here d
+  refusal : (d : Fault) → clause_step most form s here.token ≡ Err d → RefusedAs most form before here d
   refusal d e =
       by_shape (step_shape form two_before s here.token
-      (known form most (tokens_of before) s reached))
+      (known form most (model_tokens_of before) s reached))
     where
       same_fault : (a b : Fault) → fails a ≡ fails b → a ≡ b
       same_fault a b h = cc
 
-      by_shape : StepShape two_before here.token (λ b. step b form s here.token)
+      by_shape : StepShape two_before here.token (λ b. clause_step b form s here.token)
           → RefusedAs most form before here d
       by_shape (Always (Ok x) q k) = absurd (not_both d x (sym e ∙ q most))
       by_shape (Always (Err (Before r)) q k) = absurd k
@@ -426,7 +426,7 @@ module _ (most : Limits) (form : Form) (some : 0 < most.nesting) (one : 0 < most
       by_shape (Always (Err (Here r)) q (Plainly own b)) =
           subst (RefusedAs most form before here) (same_fault (Here r) d (sym (q most) ∙ e))
           (Plain
-          (no_wider form most (tokens_of before) s reached some one two here.token (Here r)
+          (no_wider form most (model_tokens_of before) s reached some one two here.token (Here r)
           q) own b refl)
       by_shape (Where g x q own k offset) = by_test (passes g most) refl
         where
@@ -443,48 +443,48 @@ module _ (most : Limits) (form : Form) (some : 0 < most.nesting) (one : 0 < most
               (λ (z : Bool). gated z x (gate_fault g
               (is_check here.token && is_tilde two_before.1))) h)
               ∙ sym (q most) ∙ e))
-              (gate_refusal g (wider_text form most (tokens_of before) s reached some one two
+              (gate_refusal g (wider_text form most (model_tokens_of before) s reached some one two
               here.token g x
               (gate_fault g (is_check here.token && is_tilde two_before.1)) q offset))
 
 -- the text that was taken, or the fault
 abbrev pub Outcome : Limits → Form → List TokenAt → ItemsResult → Type 0
-Outcome most form ps (Ok s) = run_over most form (start form) (tokens_of ps) ≡ Ok s
+Outcome most form ps (Ok s) = run_over most form (clause_start form) (model_tokens_of ps) ≡ Ok s
 Outcome most form ps (Err e) = IsFormFault most form ps e.0 e.1
 
 pub outcome : (most : Limits) (form : Form) (ps : List TokenAt) → 0 < most.nesting → 0 < most.names
-    → 0 < most.parameters → Outcome most form ps (run most form 0 (start form) ps)
+    → 0 < most.parameters → Outcome most form ps (run_items most form 0 (clause_start form) ps)
 outcome most form ps some one two =
-    go [] 0 refl (start form) ps refl (BeginsText (begins most form [] (start form) some one refl
+    go [] 0 refl (clause_start form) ps refl (BeginsText (begins most form [] (clause_start form) some one refl
     (start_has_offset form most)))
   where
     go : (before : List TokenAt) (n : ℕ) → last_offset 0 before ≡ n
         → (s : ItemState) (rest : List TokenAt)
-        → run_over most form (start form) (tokens_of before) ≡ Ok s
-        → CanStand most form (tokens_of before)
-        → Outcome most form (before ++ rest) (run most form n s rest)
+        → run_over most form (clause_start form) (model_tokens_of before) ≡ Ok s
+        → CanStand most form (model_tokens_of before)
+        → Outcome most form (before ++ rest) (run_items most form n s rest)
     go before n at_n s [] reached stand = rw append-nil reached
     go before n at_n s (p ∷ rest) reached stand =
-        by_step (step most form s p.token) refl
+        by_step (clause_step most form s p.token) refl
         (λ x h. rw (← append_assoc before (p ∷ []) rest) (go (before ++ p ∷ []) p.offset
         (last_offset-push 0 before p) x rest (rw (tokens_of-append before (p ∷ [])) h.0)
         (rw (tokens_of-append before (p ∷ [])) h.1)))
       where
-        fault : (r : CatRule) (offset : ℕ) → (d : Fault) → step most form s p.token ≡ Err d
+        fault : (r : CatRule) (offset : ℕ) → (d : Fault) → clause_step most form s p.token ≡ Err d
             → BreaksRule most form before p r offset
             → IsFormFault most form (before ++ p ∷ rest) r offset
         fault r offset d e h =
-            record { before = before; here = p; after = rest; split = refl; stand = stand; ends = cannot_stand form most (tokens_of before) s reached some one two p.token d e; refusal = h }
+            record { before = before; here = p; after = rest; split = refl; stand = stand; ends = cannot_stand form most (model_tokens_of before) s reached some one two p.token d e; refusal = h }
 
-        by_step : (r : Result ItemState Fault) → step most form s p.token ≡ r
+        by_step : (r : Result ItemState Fault) → clause_step most form s p.token ≡ r
             → ((x : ItemState)
-            → (run_over most form (start form) (tokens_of before ++ p.token ∷ []) ≡ Ok x)
-            × CanStand most form (tokens_of before ++ p.token ∷ [])
-            → Outcome most form (before ++ p ∷ rest) (run most form p.offset x rest))
+            → (run_over most form (clause_start form) (model_tokens_of before ++ p.token ∷ []) ≡ Ok x)
+            × CanStand most form (model_tokens_of before ++ p.token ∷ [])
+            → Outcome most form (before ++ p ∷ rest) (run_items most form p.offset x rest))
             → Outcome most form (before ++ p ∷ rest) (and_then (with_offset n p.offset r)
-            (λ x. run most form p.offset x rest))
+            (λ x. run_items most form p.offset x rest))
         by_step (Ok x) e f =
-            f x (stands form most (tokens_of before) s reached some one two p.token x e)
+            f x (stands form most (model_tokens_of before) s reached some one two p.token x e)
         by_step (Err (Here r)) e f =
             fault r p.offset (Here r) e (refusal most form some one two before s reached p (Here r)
             e)

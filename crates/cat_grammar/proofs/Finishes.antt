@@ -13,10 +13,10 @@ use Rattle.cat_grammar.specs.declared.form.Form.TheVariants as forms
 use Rattle.cat_tokens.specs.declared.token.Token.{Token}
 use Rattle.cat_tokens.specs.declared.token.Token.TheVariants as tokens
 use Rattle.text_values.specs.ModelValue.{Term, Clause, Atom, EmptySet, Join, Mark, Not, On, Apply, Function, Including, gathered}
-use Rattle.cat_grammar.specs.Grammar.{level, Limits, BeginsForm}
-use Rattle.cat_grammar.specs.Machine.{TermFrame, InGroup, InSquare, InPrefix, LeftOf, InArguments, TermExpectation, Wants, HasBrace, HasName, Has, HasStar, HasStarTilde, fold_to, infix_at, ended, closed, square_closed}
+use Rattle.cat_grammar.specs.Grammar.{infix_level, Limits, BeginsForm}
+use Rattle.cat_grammar.specs.Machine.{TermFrame, InGroup, InSquare, InPrefix, LeftOf, InArguments, TermExpectation, Wants, HasBrace, HasName, Has, HasStar, HasStarTilde, fold_to, infix_at, term_ended, term_closed, square_closed}
 use Rattle.cat_grammar.specs.ItemMachine as items
-use Rattle.cat_grammar.specs.ItemMachine.{Keyword, Named, And, Parameter, AfterParameter, Parameters, Head, BoundHead, FunctionHead, CheckedHead, ShownHead, Part, Start, InLet, AfterFlag, AfterTilde, Body, Label, ShowLabel, AfterShowLabel, AfterInclude, Done, Fault, Here, ItemState, begin_check, excess, unless, end_of, fresh, extended, group_clause, shown_clause, shown_also, labelled, at, start}
+use Rattle.cat_grammar.specs.ItemMachine.{Keyword, Named, And, Parameter, AfterParameter, Parameters, Head, BoundHead, FunctionHead, CheckedHead, ShownHead, Part, Start, InLet, AfterFlag, AfterTilde, Body, Label, ShowLabel, AfterShowLabel, AfterInclude, Done, Fault, Here, ItemState, begin_check, excess, unless, end_of, fresh, extended, group_clause, shown_clause, shown_also, labelled, at, clause_start}
 use Rattle.cat_grammar.proofs.Runs.{◌>>=◌, run_over, run_over-append}
 use Rattle.cat_grammar.proofs.Groups.{length-push}
 use Rattle.cat_grammar.proofs.SoundItems.{sound}
@@ -117,11 +117,11 @@ module _ (most : Limits) (form : Form) where
         → run_over most form (body most form cs h gs used (Has v)) ts
         ≡ run_over most form (body most form cs h fs used (Has w)) ts
     same_end fs gs used v w (tokens.End ∷ ts) c e =
-        ap (λ (p : List TermFrame × Term). from most form cs h (ended tokens.End p) tokens.End ts) e
+        ap (λ (p : List TermFrame × Term). from most form cs h (term_ended tokens.End p) tokens.End ts) e
     same_end fs gs used v w (tokens.As ∷ ts) c e =
-        ap (λ (p : List TermFrame × Term). from most form cs h (ended tokens.As p) tokens.As ts) e
+        ap (λ (p : List TermFrame × Term). from most form cs h (term_ended tokens.As p) tokens.As ts) e
     same_end fs gs used v w (tokens.Close ∷ ts) c e =
-        ap (λ (p : List TermFrame × Term). from most form cs h (closed used p) tokens.Close ts) e
+        ap (λ (p : List TermFrame × Term). from most form cs h (term_closed used p) tokens.Close ts) e
     same_end fs gs used v w (tokens.CloseSquare ∷ ts) c e =
         ap
         (λ (p : List TermFrame × Term).
@@ -177,7 +177,7 @@ module _ (most : Limits) (form : Form) where
             (closers_close h fs) (ap
             (λ (b : Bool).
             if b then fold_to 0 fs (Join op a v) else (LeftOf op a ∷ fs, v))
-            (le-leb 0 (level op) (omega arith))) ∙ r.1,
+            (le-leb 0 (infix_level op) (omega arith))) ∙ r.1,
       )
 
   name_finishes : (cs : List Clause) (h : Head) (fs : List TermFrame) (used : ℕ) (n : List ℕ)
@@ -305,17 +305,17 @@ module _ (most : Limits) (form : Form) where
 
   -- what the machine takes begins a text
   pub begins : (ts : List Token) (s : ItemState) → 0 < most.nesting → 0 < most.names
-      → run_over most form (start form) ts ≡ Ok s → has_offset most s.part ≡ true
+      → run_over most form (clause_start form) ts ≡ Ok s → has_offset most s.part ≡ true
       → BeginsForm most form ts
   begins ts s some one e offset =
       let f = part_finishes s.items s.part offset in
-      record { rest = f.rest; items = f.items; text = sound most form (ts ++ f.rest) f.items some one (run_over-append most form (start form) s ts f.rest e ∙ f.by) }
+      record { rest = f.rest; items = f.items; text = sound most form (ts ++ f.rest) f.items some one (run_over-append most form (clause_start form) s ts f.rest e ∙ f.by) }
 
   -- what begins a text, the machine takes
   pub takes : (ts : List Token) → BeginsForm most form ts
-      → (s : ItemState) × (run_over most form (start form) ts ≡ Ok s)
+      → (s : ItemState) × (run_over most form (clause_start form) ts ≡ Ok s)
   takes ts b =
-      by_prefix (start form) ts b.rest (record { items = b.items; part = Done })
+      by_prefix (clause_start form) ts b.rest (record { items = b.items; part = Done })
       (complete most form (ts ++ b.rest) b.items b.text)
     where
       by_prefix : (s : ItemState) (ts us : List Token) (end : ItemState)
@@ -323,7 +323,7 @@ module _ (most : Limits) (form : Form) where
           → (s' : ItemState) × (run_over most form s ts ≡ Ok s')
       by_prefix s [] us end e = (s, refl)
       by_prefix s (t ∷ ts) us end e =
-          by_step (items.step most form s t) e (λ x k. by_prefix x ts us end k)
+          by_step (items.clause_step most form s t) e (λ x k. by_prefix x ts us end k)
         where
           by_step : (r : Result ItemState Fault) → (r >>= λ x. run_over most form x (ts ++ us)) ≡ Ok end
               → ((x : ItemState) → run_over most form x (ts ++ us) ≡ Ok end

@@ -14,10 +14,10 @@ use Rattle.cat_tokens.specs.declared.token.Token.{Token}
 use Rattle.cat_tokens.specs.declared.token.Token.TheVariants as tokens
 use Rattle.text_values.specs.ModelValue.{Term, Clause, Atom, AllEvents, EmptyRelation, Mark, Checking, Including}
 use Rattle.cat_grammar.specs.Grammar.{Limits, IsSeparator, broken_rule, is_include, is_name, is_rec_or_and, is_tilde, is_check, plain_rule, has_no_effect}
-use Rattle.cat_grammar.specs.Machine.{TermFrame, InGroup, InSquare, InPrefix, LeftOf, InArguments, TermExpectation, Wants, HasBrace, HasName, Has, HasStar, HasStarTilde, TermStep, Goes, Ends, EndsTilde, Refuses, open_count, fold_to, is_outermost, operand, after_brace, infix_at, ended, closed, square_closed, comma_read, after, after_name, star_tilde, star_then, after_star, after_star_tilde, expression_step}
+use Rattle.cat_grammar.specs.Machine.{TermFrame, InGroup, InSquare, InPrefix, LeftOf, InArguments, TermExpectation, Wants, HasBrace, HasName, Has, HasStar, HasStarTilde, TermStep, Goes, Ends, EndsTilde, Refuses, open_count, fold_to, is_outermost, operand, after_brace, infix_at, term_ended, term_closed, square_closed, comma_read, operand_after, after_name, star_tilde, star_then, after_star, after_star_tilde, expression_step}
 use Rattle.cat_tokens.specs.Tokens.{rule_of, begins_operand, infix_of, postfix_of}
 use Rattle.cat_grammar.specs.ItemMachine as items
-use Rattle.cat_grammar.specs.ItemMachine.{Group, Keyword, Named, And, Parameter, AfterParameter, Parameters, Head, BoundHead, FunctionHead, CheckedHead, ShownHead, Part, Start, InLet, AfterFlag, AfterTilde, Body, Label, ShowLabel, AfterShowLabel, AfterInclude, Done, Fault, Here, Before, ItemState, begin_body, begin_check, begin_show, begin_item, excess, unless, unless_before, end_of, item_or_end, after_title, after_tilde, after_flag, fresh, extended, after_keyword, bound_name, parameter_read, after_parameter, after_let_name, after_bound, after_parameters, after_let, checked, shown_also, shown_clause, finished, at, added, item_ended, and_read, label_start, shown_on, after_body, labelled, after_as, after_show_as, after_show_label, after_include, goes_on, step_part, step}
+use Rattle.cat_grammar.specs.ItemMachine.{Group, Keyword, Named, And, Parameter, AfterParameter, Parameters, Head, BoundHead, FunctionHead, CheckedHead, ShownHead, Part, Start, InLet, AfterFlag, AfterTilde, Body, Label, ShowLabel, AfterShowLabel, AfterInclude, Done, Fault, Here, Before, ItemState, begin_body, begin_check, begin_show, begin_item, excess, unless, unless_before, end_of, item_or_end, after_title, after_tilde, after_flag, fresh, extended, after_keyword, bound_name, parameter_read, after_parameter, after_let_name, after_bound, after_parameters, after_let, checked, shown_also, shown_clause, finished, at, added, clause_ended, and_read, label_start, shown_on, after_body, labelled, after_as, after_show_as, after_show_label, after_include, goes_on, step_part, clause_step}
 use Rattle.cat_grammar.proofs.Finishes.{has_offset}
 
 -- ---- what the last two tokens say of the state
@@ -180,7 +180,7 @@ module _ (p : Token × Token) where
   brace_shape fs used t = Plain (Refuses (rule_of t)) (λ b. refl) refl
 
   closed_plain : (used : ℕ) (fs : List TermFrame) (v : Term) → Calm p
-      → IsPlain p tokens.Close (closed used (fs, v))
+      → IsPlain p tokens.Close (term_closed used (fs, v))
   closed_plain used [] v k = k
   closed_plain used (InGroup ∷ fs) v k = (((refl, refl), refl), refl)
   closed_plain used (InArguments n args ∷ fs) v k = (((refl, refl), refl), refl)
@@ -206,17 +206,17 @@ module _ (p : Token × Token) where
   comma_plain used (InPrefix ∷ fs) v k = refl
   comma_plain used (LeftOf op a ∷ fs) v k = refl
 
-  ended_plain : (t : Token) (fs : List TermFrame) (v : Term) → Calm p → IsPlain p t (ended t (fs, v))
+  ended_plain : (t : Token) (fs : List TermFrame) (v : Term) → Calm p → IsPlain p t (term_ended t (fs, v))
   ended_plain t [] v k = k
   ended_plain t (f ∷ fs) v k = refl
 
   ended_shape : (fs : List TermFrame) (v : Term) (t : Token) → Calm p
-      → ResultShape p t (λ b. ended t (fold_to 0 fs v))
+      → ResultShape p t (λ b. term_ended t (fold_to 0 fs v))
   ended_shape fs v t k =
-      let q = fold_to 0 fs v in Plain (ended t q) (λ b. refl) (ended_plain t q.0 q.1 k)
+      let q = fold_to 0 fs v in Plain (term_ended t q) (λ b. refl) (ended_plain t q.0 q.1 k)
 
   after_shape : (fs : List TermFrame) (used : ℕ) (v : Term) (t : Token) → Calm p
-      → ResultShape p t (λ b. after b fs used v t)
+      → ResultShape p t (λ b. operand_after b fs used v t)
   after_shape fs used v (tokens.Sign s) k =
       Gated (Operate used) (infix_at (infix_of s) fs v) (used + 1) Wants refl (λ b. refl)
       (record { own = refl; no_separator = λ x. absurd x }) ((refl, refl), refl)
@@ -227,7 +227,7 @@ module _ (p : Token × Token) where
       Gated (Operate used) fs (used + 1) (HasStar v) refl (λ b. refl)
       (record { own = refl; no_separator = λ x. absurd x }) (((refl, refl), refl), refl)
   after_shape fs used v tokens.Close k =
-      let q = fold_to 0 fs v in Plain (closed used q) (λ b. refl) (closed_plain used q.0 q.1 k)
+      let q = fold_to 0 fs v in Plain (term_closed used q) (λ b. refl) (closed_plain used q.0 q.1 k)
   after_shape fs used v tokens.CloseSquare k =
       let q = fold_to 0 fs v in
       Plain (square_closed used q) (λ b. refl) (square_plain used q.0 q.1 k)
@@ -516,7 +516,7 @@ module _ (form : Form) (p : Token × Token) where
       Always (Err (Here (rule_of t))) (λ b. ap (λ (d : Fault). Err d) h) (plainly p t k.0.0)
 
   ended_item_shape : (cs : List Clause) (h : Head) (v : Term) (t : Token) → Calm p
-      → StepShape p t (λ b. item_ended b form cs h v t)
+      → StepShape p t (λ b. clause_ended b form cs h v t)
   ended_item_shape cs h v t k =
       added_shape cs t (finished h v (rule_of t)) (is_finished h v (rule_of t)) k
 
@@ -709,5 +709,5 @@ module _ (form : Form) (p : Token × Token) where
   part_shape cs Done t k = err_shape t (plainly p t k.0.0)
 
   pub step_shape : (s : ItemState) (t : Token) → KnowsPart p s.part
-      → StepShape p t (λ b. step b form s t)
+      → StepShape p t (λ b. clause_step b form s t)
   step_shape s t k = part_shape s.items s.part t k

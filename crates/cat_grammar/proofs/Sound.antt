@@ -15,8 +15,8 @@ use Rattle.text_values.specs.declared.model.Infix.TheVariants.{Product}
 use Rattle.text_values.specs.declared.model.Postfix.{Postfix}
 use Rattle.text_values.specs.declared.model.Postfix.TheVariants as postfix
 use Rattle.text_values.specs.ModelValue.{Term, Atom, EmptySet, Join, Mark, Not, Apply}
-use Rattle.cat_grammar.specs.Grammar.{Tree, Word, Underscore, Zero, Braces, Post, Group, Square, Application, infix_token, postfix_token, spelled, meaning, level, left_level, tightness, IsGrouped, depth, operators, Limits, IsExpressionTree}
-use Rattle.cat_grammar.specs.Machine.{TermFrame, InGroup, InSquare, InPrefix, LeftOf, InArguments, TermExpectation, Wants, HasBrace, HasName, Has, HasStar, HasStarTilde, TermStep, Goes, Ends, EndsTilde, Refuses, open_count, fold_to, is_outermost, opened, operand, after_brace, left_frames, infix_at, counted, ended, closed, square_closed, comma_read, after, after_name, star_tilde, star_then, after_star, after_star_tilde, expression_step}
+use Rattle.cat_grammar.specs.Grammar.{Tree, Word, Underscore, Zero, Braces, Post, Group, Square, Application, infix_token, postfix_token, spelled, meaning, infix_level, left_level, tightness, IsGrouped, depth, operators, Limits, IsExpressionTree}
+use Rattle.cat_grammar.specs.Machine.{TermFrame, InGroup, InSquare, InPrefix, LeftOf, InArguments, TermExpectation, Wants, HasBrace, HasName, Has, HasStar, HasStarTilde, TermStep, Goes, Ends, EndsTilde, Refuses, open_count, fold_to, is_outermost, term_opened, operand, after_brace, left_frames, infix_at, counted, term_ended, term_closed, square_closed, comma_read, operand_after, after_name, star_tilde, star_then, after_star, after_star_tilde, expression_step}
 use Rattle.cat_tokens.specs.Tokens.{begins_operand, infix_of, postfix_of}
 use Rattle.cat_grammar.proofs.Branches.{Branch, BGroup, BSquare, BPrefix, BLeft, BArguments, frame, frames, before, need, opens, count, Fine, Stops, open_count-frames, right_level-le, left_level-le, need-le, opens-le, meets, Folded, folded, IsOutermost, outermost, arguments_of, spelled-arguments_of, meanings-arguments_of, grouped-arguments_of, depths-arguments_of, operators-arguments_of, before_arguments-push, values-push, sum_operators-push, arguments_fine-push}
 use Rattle.cat_grammar.proofs.Complete.{level-le}
@@ -88,7 +88,7 @@ postfix_token-of Question = refl
 postfix_token-of Inverse = refl
 
 -- the operand of an infix operator fits where the operator stands
-new_need : (op : Infix) (bs : List Branch) → Stops (left_level op) bs → need bs ≤ level op
+new_need : (op : Infix) (bs : List Branch) → Stops (left_level op) bs → need bs ≤ infix_level op
 new_need op [] h = omega arith
 new_need op (BGroup ∷ bs) h = omega arith
 new_need op (BSquare ∷ bs) h = omega arith
@@ -107,7 +107,7 @@ all_folded (InArguments n args ∷ fs) v h = absurd h
 all_folded (InPrefix ∷ fs) v h = all_folded fs (Not v) h
 all_folded (LeftOf op a ∷ fs) v h =
     subst (λ (x : Bool). (if x then fold_to 0 fs (Join op a v) else (LeftOf op a ∷ fs, v)).0 ≡ [])
-    (sym (le_zero (level op))) (all_folded fs (Join op a v) h)
+    (sym (le_zero (infix_level op))) (all_folded fs (Join op a v) h)
 
 fold_outermost : (l : ℕ) (fs : List TermFrame) (v : Term) → IsOutermost fs
     → IsOutermost (fold_to l fs v).0
@@ -117,7 +117,7 @@ fold_outermost l (InSquare ∷ fs) v h = h
 fold_outermost l (InArguments n args ∷ fs) v h = h
 fold_outermost l (InPrefix ∷ fs) v h = fold_outermost l fs (Not v) h
 fold_outermost l (LeftOf op a ∷ fs) v h =
-    choose (nat_le l (level op)) (fold_outermost l fs (Join op a v) h)
+    choose (nat_le l (infix_level op)) (fold_outermost l fs (Join op a v) h)
   where
     choose : (x : Bool) → IsOutermost (fold_to l fs (Join op a v)).0
         → IsOutermost (if x then fold_to l fs (Join op a v) else (LeftOf op a ∷ fs, v)).0
@@ -143,7 +143,7 @@ module _ (most : Limits) (whole : List Token) (some : 0 < most.nesting) where
   opened_stands : (t : Token) (rest : List Token) (used : ℕ) (bs : List Branch) (f : TermFrame)
       (b : Branch) → frame b ≡ f → Fine most bs → count (b ∷ bs) ≡ used → used ≤ most.operators
       → (opens bs < most.nesting → Fine most (b ∷ bs)) → whole ≡ before (b ∷ bs) rest
-      → ExpressionStands most whole t rest (opened most (frames bs) used f)
+      → ExpressionStands most whole t rest (term_opened most (frames bs) used f)
   opened_stands t rest used bs f b e fine counted short grown is =
       choose (nat_lt (open_count (frames bs)) most.nesting) refl
     where
@@ -235,14 +235,14 @@ module _ (most : Limits) (whole : List Token) (some : 0 < most.nesting) where
 
   ended_at : (t : Token) (rest : List Token) (used : ℕ) (p : List TermFrame × Term)
       → used ≤ most.operators → Folded most 0 whole (t ∷ rest) p used
-      → ExpressionStands most whole t rest (ended t p)
+      → ExpressionStands most whole t rest (term_ended t p)
   ended_at t rest used p short d =
-      subst (λ (q : List TermFrame × Term). ExpressionStands most whole t rest (ended t q)) (sym d.is)
+      subst (λ (q : List TermFrame × Term). ExpressionStands most whole t rest (term_ended t q)) (sym d.is)
       (by_branches d.bs d.shallow d.counted d.whole_is)
     where
       by_branches : (bs : List Branch) → opens bs + depth d.t ≤ most.nesting
           → count bs + operators d.t ≡ used → whole ≡ before bs (spelled d.t (t ∷ rest))
-          → ExpressionStands most whole t rest (ended t (frames bs, meaning d.t))
+          → ExpressionStands most whole t rest (term_ended t (frames bs, meaning d.t))
       by_branches [] shallow counted is =
           ended_is (t ∷ rest) used (meaning d.t) d.t d.grouped (omega arith) (omega arith) short
           refl is
@@ -250,15 +250,15 @@ module _ (most : Limits) (whole : List Token) (some : 0 < most.nesting) where
 
   closed_at : (rest : List Token) (used : ℕ) (p : List TermFrame × Term) → used ≤ most.operators
       → Folded most 0 whole (tokens.Close ∷ rest) p used
-      → ExpressionStands most whole tokens.Close rest (closed used p)
+      → ExpressionStands most whole tokens.Close rest (term_closed used p)
   closed_at rest used p short d =
       subst
-      (λ (q : List TermFrame × Term). ExpressionStands most whole tokens.Close rest (closed used q))
+      (λ (q : List TermFrame × Term). ExpressionStands most whole tokens.Close rest (term_closed used q))
       (sym d.is) (by_branches d.bs d.fine d.shallow d.counted d.whole_is)
     where
       by_branches : (bs : List Branch) → Fine most bs → opens bs + depth d.t ≤ most.nesting
           → count bs + operators d.t ≡ used → whole ≡ before bs (spelled d.t (tokens.Close ∷ rest))
-          → ExpressionStands most whole tokens.Close rest (closed used (frames bs, meaning d.t))
+          → ExpressionStands most whole tokens.Close rest (term_closed used (frames bs, meaning d.t))
       by_branches [] fine shallow counted is =
           ended_is (tokens.Close ∷ rest) used (meaning d.t) d.t d.grouped (omega arith)
           (omega arith) short refl is
@@ -370,7 +370,7 @@ module _ (most : Limits) (whole : List Token) (some : 0 < most.nesting) where
 
   after_stands : (t : Token) (rest : List Token) (fs : List TermFrame) (used : ℕ) (v : Term)
       → Full most whole (t ∷ rest) fs used v
-      → ExpressionStands most whole t rest (after most fs used v t)
+      → ExpressionStands most whole t rest (operand_after most fs used v t)
   after_stands (tokens.Sign s) rest fs used v f =
       counted_at (tokens.Sign s) rest used _ (λ h. infix_open (infix_of s) rest fs used v
       (omega arith) (subst (λ (x : Token). Full most whole (x ∷ rest) fs used v)
@@ -401,7 +401,7 @@ module _ (most : Limits) (whole : List Token) (some : 0 < most.nesting) where
   after_name_stands n tokens.Open rest fs used o =
       subst
       (λ (g : List TermFrame).
-      ExpressionStands most whole tokens.Open rest (opened most g used (InArguments n [])))
+      ExpressionStands most whole tokens.Open rest (term_opened most g used (InArguments n [])))
       o.is
       (opened_stands tokens.Open rest used o.bs (InArguments n []) (BArguments n []) refl o.fine
       (let c = o.counted in omega arith) o.short (λ h. (h, tt, o.fine)) o.whole_is)

@@ -17,7 +17,7 @@ use Rattle.cat_grammar.specs.Grammar.{Tree, spelled, meaning, Limits, BindingTre
 use Rattle.cat_grammar.specs.Machine.{TermFrame, TermExpectation, TermStep, Goes, Ends, EndsTilde, Refuses, expression_step}
 use Rattle.cat_tokens.specs.Tokens.{rule_of}
 use Rattle.cat_grammar.specs.ItemMachine as items
-use Rattle.cat_grammar.specs.ItemMachine.{LetPart, Keyword, Named, And, Parameter, AfterParameter, Parameters, Head, BoundHead, FunctionHead, CheckedHead, ShownHead, Part, InLet, AfterFlag, AfterTilde, Body, Label, ShowLabel, AfterShowLabel, AfterInclude, Done, Fault, Here, ItemState, begin_body, begin_check, begin_item, excess, unless, end_of, item_or_end, after_title, after_tilde, after_flag, fresh, extended, after_keyword, bound_name, parameter_read, after_parameter, after_let_name, after_bound, after_parameters, after_let, checked, shown_also, shown_clause, finished, at, added, unless_before, item_ended_by_tilde, and_read, label_start, shown_on, after_body, after_as, after_show_as, after_show_label, after_include, goes_on, step_part, step, start}
+use Rattle.cat_grammar.specs.ItemMachine.{LetPart, Keyword, Named, And, Parameter, AfterParameter, Parameters, Head, BoundHead, FunctionHead, CheckedHead, ShownHead, Part, InLet, AfterFlag, AfterTilde, Body, Label, ShowLabel, AfterShowLabel, AfterInclude, Done, Fault, Here, ItemState, begin_body, begin_check, begin_item, excess, unless, end_of, item_or_end, after_title, after_tilde, after_flag, fresh, extended, after_keyword, bound_name, parameter_read, after_parameter, after_let_name, after_bound, after_parameters, after_let, checked, shown_also, shown_clause, finished, at, added, unless_before, item_ended_by_tilde, and_read, label_start, shown_on, after_body, after_as, after_show_as, after_show_label, after_include, goes_on, step_part, clause_step, clause_start}
 use Rattle.cat_grammar.proofs.Runs.{◌>>=◌, run_over}
 use Rattle.cat_grammar.proofs.Groups.{before_group, before_parameters, before_shown, spelled_group-push, before_group-push, group_meaning-push, length-group_meaning, AreBound-push, spelled_parameters-push, spelled_parameters-comma, spelled_shown-push, spelled_shown-comma, shown_meaning-push, AreShown-push, length-push, spelled_items-push, items_meaning-push, length-items_meaning, AreItems-push}
 use Rattle.cat_grammar.proofs.Sound.{Stands, Ended, ExpressionStands, step_stands}
@@ -934,7 +934,7 @@ module _ (most : Limits) (form : Form) (whole : List Token) (some : 0 < most.nes
       → Result' [] (run_over most form s ts)
   run_stands one s [] h = h
   run_stands one s (t ∷ ts) h =
-      then_run (step most form s t)
+      then_run (clause_step most form s t)
       (step_part_stands one s.items s.part t ts h.title h.is h.title_is h.each h.meant h.part)
       (λ s'. run_stands one s' ts)
     where
@@ -945,10 +945,10 @@ module _ (most : Limits) (form : Form) (whole : List Token) (some : 0 < most.nes
       then_run (Ok s') x k = k s' x
       then_run (Err e) x k = tt
 
-  pub start_stands : StateStands most form whole whole (start form)
+  pub start_stands : StateStands most form whole whole (clause_start form)
   start_stands = by_form form refl
     where
-      by_form : (f : Form) → form ≡ f → StateStands most form whole whole (start f)
+      by_form : (f : Form) → form ≡ f → StateStands most form whole whole (clause_start f)
       by_form forms.Model e =
           record {
             title = NoTitle;
@@ -970,8 +970,8 @@ module _ (most : Limits) (form : Form) (whole : List Token) (some : 0 < most.nes
 
 -- what the machine takes to its end is a text that means the items
 pub sound : (most : Limits) (form : Form) (ts : List Token) (cs : List Clause) → 0 < most.nesting
-    → 0 < most.names → run_over most form (start form) ts ≡ Ok (record { items = cs; part = Done })
+    → 0 < most.names → run_over most form (clause_start form) ts ≡ Ok (record { items = cs; part = Done })
     → Means most form ts cs
 sound most form ts cs some one e =
-    let h : StateStands most form ts [] (record { items = cs; part = Done }) = subst (λ (r : Result ItemState Fault). ResultStands most form ts [] r) e (run_stands most form ts some one (start form) ts (start_stands most form ts some)) in
+    let h : StateStands most form ts [] (record { items = cs; part = Done }) = subst (λ (r : Result ItemState Fault). ResultStands most form ts [] r) e (run_stands most form ts some one (clause_start form) ts (start_stands most form ts some)) in
     record { title = h.title; items = h.is; form_is = h.part.0; each = h.each; whole = h.part.1; meant = h.meant }

@@ -14,7 +14,7 @@ use Rattle.cat_tokens.specs.declared.token.Sign.TheVariants.{Bar, Semicolon, Bac
 use Rattle.cat_tokens.specs.declared.token.Mark.TheVariants.{Plus, Question, Inverse}
 use Rattle.cat_tokens.specs.declared.token.Token.{Token}
 use Rattle.cat_tokens.specs.declared.token.Token.TheVariants as tokens
-use Rattle.cat_tokens.specs.Tokens.{TokenAt, tokens_of}
+use Rattle.cat_tokens.specs.Tokens.{TokenAt, model_tokens_of}
 use Rattle.text_values.specs.ModelValue as value
 use Rattle.text_values.specs.ModelValue.{Term, Terms, Checked, Clause}
 
@@ -90,12 +90,12 @@ abbrev mutual
   meanings (More a others) = value.OneMore (meaning a) (meanings others)
 
 -- how tightly an infix operator binds
-abbrev pub level : Infix → ℕ
-level Union = 1
-level Sequence = 2
-level Difference = 3
-level Intersection = 4
-level Product = 5
+abbrev pub infix_level : Infix → ℕ
+infix_level Union = 1
+infix_level Sequence = 2
+infix_level Difference = 3
+infix_level Intersection = 4
+infix_level Product = 5
 
 -- how tight an operand must be: `\` groups to the left, and so takes its own level on the left
 -- alone; the others group to the right
@@ -118,7 +118,7 @@ tightness (Word n) = 8
 tightness Underscore = 8
 tightness Zero = 8
 tightness Braces = 8
-tightness (Pair op a b) = level op
+tightness (Pair op a b) = infix_level op
 tightness (Post op a) = 7
 tightness (Prefix a) = 6
 tightness (Group a) = 8
@@ -190,8 +190,8 @@ pub record Limits : Type 0 where
   pub parameters : ℕ
 
 -- the limits of the language
-abbrev pub limits : Limits
-limits = record { nesting = 64; operators = 1024; items = 256; names = 64; parameters = 8 }
+abbrev pub model_limits : Limits
+model_limits = record { nesting = 64; operators = 1024; items = 256; names = 64; parameters = 8 }
 
 pub record IsExpressionTree (most : Limits) (t : Tree) : Type 0 where
   pub grouped : IsGrouped t
@@ -447,7 +447,7 @@ plain_rule p _ = rules.Syntax
 -- `~`
 abbrev pub first_offset : List TokenAt → TokenAt → ℕ
 first_offset before here =
-    if is_check here.token && is_tilde ((last_two tokens.End tokens.End (tokens_of before)).1) then last_offset
+    if is_check here.token && is_tilde ((last_two tokens.End tokens.End (model_tokens_of before)).1) then last_offset
     0 before
     else here.offset
 
@@ -460,16 +460,16 @@ pub data BreaksRule (most : Limits) (form : Form) (before : List TokenAt) (here 
   -- it can stand if there may be more items, names or parameters: the first token of what is too
   -- many is at fault
   TooMany : (wider : Limits) → SameDepths most wider
-      → BeginsForm wider form (tokens_of before ++ here.token ∷ []) → rule ≡ rules.TooMany
+      → BeginsForm wider form (model_tokens_of before ++ here.token ∷ []) → rule ≡ rules.TooMany
       → offset ≡ first_offset before here → BreaksRule most form before here rule offset
   -- it can stand if more may be open or joined
   TooDeep : (wider : Limits) → SameCounts most wider
-      → BeginsForm wider form (tokens_of before ++ here.token ∷ []) → rule ≡ rules.TooDeep
+      → BeginsForm wider form (model_tokens_of before ++ here.token ∷ []) → rule ≡ rules.TooDeep
       → offset ≡ here.offset → BreaksRule most form before here rule offset
   -- it can stand under no limits
-  Plain : ((wider : Limits) → BeginsForm wider form (tokens_of before ++ here.token ∷ []) → ⊥)
+  Plain : ((wider : Limits) → BeginsForm wider form (model_tokens_of before ++ here.token ∷ []) → ⊥)
       → broken_rule here.token ≡ None
-      → rule ≡ plain_rule (last_two tokens.End tokens.End (tokens_of before)) here.token
+      → rule ≡ plain_rule (last_two tokens.End tokens.End (model_tokens_of before)) here.token
       → offset ≡ here.offset → BreaksRule most form before here rule offset
 
 -- The tokens before some token can stand, and with it they cannot: this rule is broken, at this
@@ -480,6 +480,6 @@ pub record IsFormFault (most : Limits) (form : Form) (ps : List TokenAt) (rule :
   pub here : TokenAt
   pub after : List TokenAt
   pub split : ps ≡ before ++ here ∷ after
-  pub stand : CanStand most form (tokens_of before)
-  pub ends : CanStand most form (tokens_of before ++ here.token ∷ []) → ⊥
+  pub stand : CanStand most form (model_tokens_of before)
+  pub ends : CanStand most form (model_tokens_of before ++ here.token ∷ []) → ⊥
   pub refusal : BreaksRule most form before here rule offset

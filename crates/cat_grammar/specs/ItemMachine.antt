@@ -204,8 +204,8 @@ added is (Err e) next = Err e
 added is (Ok c) next = at (is ++ c ∷ []) (next (length is + 1))
 
 -- a token that ends an item
-abbrev pub item_ended : Limits → Form → List Clause → Head → Term → Token → Result ItemState Fault
-item_ended most form is h v t = added is (finished h v (rule_of t)) (λ n. item_or_end most form n t)
+abbrev pub clause_ended : Limits → Form → List Clause → Head → Term → Token → Result ItemState Fault
+clause_ended most form is h v t = added is (finished h v (rule_of t)) (λ n. item_or_end most form n t)
 
 abbrev pub unless_before : Option CatRule → Part → Result Part Fault
 unless_before None p = Ok p
@@ -236,7 +236,7 @@ abbrev pub after_body : Limits → Form → List Clause → Head → Term → To
 after_body most form is h v tokens.And = at is (and_read h v)
 after_body most form is h v tokens.As = at is (label_start h v)
 after_body most form is h v tokens.Comma = at is (shown_on h v)
-after_body most form is h v t = item_ended most form is h v t
+after_body most form is h v t = clause_ended most form is h v t
 
 abbrev pub labelled : CheckHead → Term → List ℕ → Clause
 labelled h v n = if h.flagged then Flagging (checked h v) n else Checking (checked h v) (Some n)
@@ -285,12 +285,12 @@ step_part most form is (AfterShowLabel s) t = after_show_label most form is s t
 step_part most form is AfterInclude t = after_include is t
 step_part most form is Done t = refuses t
 
-abbrev pub step : Limits → Form → ItemState → Token → Result ItemState Fault
-step most form s t = step_part most form s.items s.part t
+abbrev pub clause_step : Limits → Form → ItemState → Token → Result ItemState Fault
+clause_step most form s t = step_part most form s.items s.part t
 
 abbrev pub start_part : Form → Part
 start_part forms.Model = Title
 start_part forms.Item = Start
 
-abbrev pub start : Form → ItemState
-start form = record { items = []; part = start_part form }
+abbrev pub clause_start : Form → ItemState
+clause_start form = record { items = []; part = start_part form }

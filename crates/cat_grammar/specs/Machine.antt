@@ -8,7 +8,7 @@ use Rattle.text_values.specs.declared.model.Infix.{Infix}
 use Rattle.text_values.specs.declared.model.Infix.TheVariants.{Product}
 use Rattle.text_values.specs.declared.model.Postfix.TheVariants as postfix
 use Rattle.cat_tokens.specs.Tokens.{rule_of, begins_operand, infix_of, postfix_of}
-use Rattle.cat_grammar.specs.Grammar.{Limits, level, left_level}
+use Rattle.cat_grammar.specs.Grammar.{Limits, infix_level, left_level}
 use Rattle.text_values.specs.ModelValue.{Term, Atom, AllEvents, EmptyRelation, EmptySet, Join, Mark, Not, On, Apply, gathered}
 
 -- what stands open to the left, the innermost first
@@ -51,7 +51,7 @@ fold_to l (InGroup ∷ fs) v = (InGroup ∷ fs, v)
 fold_to l (InSquare ∷ fs) v = (InSquare ∷ fs, v)
 fold_to l (InPrefix ∷ fs) v = fold_to l fs (Not v)
 fold_to l (LeftOf op a ∷ fs) v =
-    if nat_le l (level op) then fold_to l fs (Join op a v) else (LeftOf op a ∷ fs, v)
+    if nat_le l (infix_level op) then fold_to l fs (Join op a v) else (LeftOf op a ∷ fs, v)
 fold_to l (InArguments n args ∷ fs) v = (InArguments n args ∷ fs, v)
 
 -- no bracket is open
@@ -63,8 +63,8 @@ is_outermost (InPrefix ∷ fs) = is_outermost fs
 is_outermost (LeftOf op a ∷ fs) = is_outermost fs
 is_outermost (InArguments n args ∷ fs) = false
 
-abbrev pub opened : Limits → List TermFrame → ℕ → TermFrame → TermStep
-opened most fs used f =
+abbrev pub term_opened : Limits → List TermFrame → ℕ → TermFrame → TermStep
+term_opened most fs used f =
     if nat_lt (open_count fs) most.nesting then Goes (f ∷ fs) used Wants else Refuses TooDeep
 
 -- a token where an operand is wanted
@@ -73,9 +73,9 @@ operand most fs used (tokens.Name n) = Goes fs used (HasName n)
 operand most fs used tokens.Underscore = Goes fs used (Has AllEvents)
 operand most fs used tokens.Zero = Goes fs used (Has EmptyRelation)
 operand most fs used tokens.OpenBrace = Goes fs used HasBrace
-operand most fs used tokens.Tilde = opened most fs used InPrefix
-operand most fs used tokens.Open = opened most fs used InGroup
-operand most fs used tokens.OpenSquare = opened most fs used InSquare
+operand most fs used tokens.Tilde = term_opened most fs used InPrefix
+operand most fs used tokens.Open = term_opened most fs used InGroup
+operand most fs used tokens.OpenSquare = term_opened most fs used InSquare
 operand most fs used t = Refuses (rule_of t)
 
 -- a token after an opening brace
@@ -93,15 +93,15 @@ abbrev pub counted : Limits → ℕ → TermStep → TermStep
 counted most used next = if nat_lt used most.operators then next else Refuses TooDeep
 
 -- an expression that ends before a token, or the fault that it does not
-abbrev pub ended : Token → List TermFrame × Term → TermStep
-ended t ([], v) = Ends v
-ended t (f ∷ fs, v) = Refuses (rule_of t)
+abbrev pub term_ended : Token → List TermFrame × Term → TermStep
+term_ended t ([], v) = Ends v
+term_ended t (f ∷ fs, v) = Refuses (rule_of t)
 
-abbrev pub closed : ℕ → List TermFrame × Term → TermStep
-closed used ([], v) = Ends v
-closed used (InGroup ∷ fs, v) = Goes fs used (Has v)
-closed used (InArguments n args ∷ fs, v) = Goes fs used (Has (Apply n (gathered (args ++ v ∷ []))))
-closed used (f ∷ fs, v) = Refuses Syntax
+abbrev pub term_closed : ℕ → List TermFrame × Term → TermStep
+term_closed used ([], v) = Ends v
+term_closed used (InGroup ∷ fs, v) = Goes fs used (Has v)
+term_closed used (InArguments n args ∷ fs, v) = Goes fs used (Has (Apply n (gathered (args ++ v ∷ []))))
+term_closed used (f ∷ fs, v) = Refuses Syntax
 
 abbrev pub square_closed : ℕ → List TermFrame × Term → TermStep
 square_closed used ([], v) = Ends v
@@ -114,21 +114,21 @@ comma_read used (InArguments n args ∷ fs, v) = Goes (InArguments n (args ++ v 
 comma_read used (f ∷ fs, v) = Refuses Syntax
 
 -- a token after an operand
-abbrev pub after : Limits → List TermFrame → ℕ → Term → Token → TermStep
-after most fs used v (tokens.Sign s) =
+abbrev pub operand_after : Limits → List TermFrame → ℕ → Term → Token → TermStep
+operand_after most fs used v (tokens.Sign s) =
     counted most used (Goes (infix_at (infix_of s) fs v) (used + 1) Wants)
-after most fs used v (tokens.Mark m) =
+operand_after most fs used v (tokens.Mark m) =
     counted most used (Goes fs (used + 1) (Has (Mark (postfix_of m) v)))
-after most fs used v tokens.Star = counted most used (Goes fs (used + 1) (HasStar v))
-after most fs used v tokens.Close = closed used (fold_to 0 fs v)
-after most fs used v tokens.CloseSquare = square_closed used (fold_to 0 fs v)
-after most fs used v tokens.Comma = comma_read used (fold_to 0 fs v)
-after most fs used v t = ended t (fold_to 0 fs v)
+operand_after most fs used v tokens.Star = counted most used (Goes fs (used + 1) (HasStar v))
+operand_after most fs used v tokens.Close = term_closed used (fold_to 0 fs v)
+operand_after most fs used v tokens.CloseSquare = square_closed used (fold_to 0 fs v)
+operand_after most fs used v tokens.Comma = comma_read used (fold_to 0 fs v)
+operand_after most fs used v t = term_ended t (fold_to 0 fs v)
 
 -- a token after a name, which is a function where a parenthesis follows
 abbrev pub after_name : Limits → List TermFrame → ℕ → List ℕ → Token → TermStep
-after_name most fs used n tokens.Open = opened most fs used (InArguments n [])
-after_name most fs used n t = after most fs used (Atom n) t
+after_name most fs used n tokens.Open = term_opened most fs used (InArguments n [])
+after_name most fs used n t = operand_after most fs used (Atom n) t
 
 -- a tilde after a star: at the outermost level it may begin the next item
 abbrev pub star_tilde : Limits → List TermFrame → ℕ → Term → Bool → TermStep
@@ -138,7 +138,7 @@ star_tilde most fs used v false = operand most (infix_at Product fs v) used toke
 -- another token after a star: the star is infix where an operand follows
 abbrev pub star_then : Limits → List TermFrame → ℕ → Term → Token → Bool → TermStep
 star_then most fs used v t true = operand most (infix_at Product fs v) used t
-star_then most fs used v t false = after most fs used (Mark postfix.Closure v) t
+star_then most fs used v t false = operand_after most fs used (Mark postfix.Closure v) t
 
 -- a token after an operand and a star
 abbrev pub after_star : Limits → List TermFrame → ℕ → Term → Token → TermStep
@@ -155,6 +155,6 @@ abbrev pub expression_step : Limits → List TermFrame → ℕ → TermExpectati
 expression_step most fs used Wants t = operand most fs used t
 expression_step most fs used HasBrace t = after_brace fs used t
 expression_step most fs used (HasName n) t = after_name most fs used n t
-expression_step most fs used (Has v) t = after most fs used v t
+expression_step most fs used (Has v) t = operand_after most fs used v t
 expression_step most fs used (HasStar v) t = after_star most fs used v t
 expression_step most fs used (HasStarTilde v) t = after_star_tilde most fs used v t

@@ -5,7 +5,7 @@ use Rattle.cat_grammar.specs.declared.form.Form.{Form}
 use Rattle.text_values.specs.ModelValue.{Clause}
 use Rattle.cat_grammar.specs.Grammar.{Limits}
 use Rattle.cat_tokens.specs.Tokens.{TokenAt}
-use Rattle.cat_grammar.specs.ItemMachine.{Fault, Here, Before, ItemState, step}
+use Rattle.cat_grammar.specs.ItemMachine.{Fault, Here, Before, ItemState, clause_step}
 
 abbrev pub ItemsResult : Type 0
 ItemsResult = Result ItemState (CatRule × ℕ)
@@ -21,11 +21,11 @@ and_then (Ok s) f = f s
 and_then (Err e) f = Err e
 
 -- the tokens one after another, with the offset of the first fault
-abbrev pub run : Limits → Form → ℕ → ItemState → List TokenAt → ItemsResult
-run most form before s [] = Ok s
-run most form before s (p ∷ ps) =
-    and_then (with_offset before p.offset (step most form s p.token))
-    (λ s'. run most form p.offset s' ps)
+abbrev pub run_items : Limits → Form → ℕ → ItemState → List TokenAt → ItemsResult
+run_items most form before s [] = Ok s
+run_items most form before s (p ∷ ps) =
+    and_then (with_offset before p.offset (clause_step most form s p.token))
+    (λ s'. run_items most form p.offset s' ps)
 
 abbrev pub items_of : ItemsResult → Result (List Clause) (CatRule × ℕ)
 items_of (Ok s) = Ok s.items

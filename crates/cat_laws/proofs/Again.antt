@@ -3,7 +3,7 @@ use Rattle.std.proofs.Common.{◌≡◌, ℕ, ◌+◌, ◌≤◌, List, [], ◌�
 use Rattle.std.specs.Prelude.{map}
 use Rattle.text_values.specs.ModelValue.{Clause}
 use Rattle.cat_grammar.specs.Grammar as grammar
-use Rattle.cat_grammar.specs.Grammar.{Tree, Trees, Word, Underscore, Zero, Braces, Pair, Post, Prefix, Group, Square, Application, Last, More, meaning, meanings, operators, operators_of, Limits, limits, BindingTree, ItemTree, Let, Function, Check, Flag, Show, Include, group_meaning, shown_meaning, item_meaning, items_meaning, AreBindingTrees, IsItemTree, AreItemTrees}
+use Rattle.cat_grammar.specs.Grammar.{Tree, Trees, Word, Underscore, Zero, Braces, Pair, Post, Prefix, Group, Square, Application, Last, More, meaning, meanings, operators, operators_of, Limits, model_limits, BindingTree, ItemTree, Let, Function, Check, Flag, Show, Include, group_meaning, shown_meaning, item_meaning, items_meaning, AreBindingTrees, IsItemTree, AreItemTrees}
 use Rattle.cat_printing.specs.Printing.{printed_item, printed_model}
 use Rattle.cat_laws.specs.Written.{joins, joins_of, deepest, most_joins, bodies, KeepsLimits, KeepLimits, AreShallow, ItemStaysWithin, ModelStaysWithin, ReadsItem, ReadsModel}
 use Rattle.cat_laws.proofs.Named.{item_was_written, model_was_written}
@@ -77,16 +77,16 @@ item_within most (Show hidden shown) h deep =
 item_within most (Include path) h deep =
     record { shallow = deep; few = omega arith; names = omega arith; parameters = omega arith }
 
-items_within : (is : List ItemTree) → AreItemTrees limits is → AreShallow (items_meaning is)
-    → KeepLimits limits (items_meaning is)
+items_within : (is : List ItemTree) → AreItemTrees model_limits is → AreShallow (items_meaning is)
+    → KeepLimits model_limits (items_meaning is)
 items_within [] h deep = tt
-items_within (i ∷ is) h deep = (item_within limits i h.0 deep.0, items_within is h.1 deep.1)
+items_within (i ∷ is) h deep = (item_within model_limits i h.0 deep.0, items_within is h.1 deep.1)
 
 pub item_again : (bytes : List ℕ) (c : Clause) → ReadsItem bytes c → ItemStaysWithin c
     → ReadsItem (printed_item c) c
 item_again bytes c r s =
     let m = r.means in
-    let all : KeepLimits limits (c ∷ []) = subst (λ (cs : List Clause). AreShallow cs → KeepLimits limits cs) m.meant (items_within m.items m.each) s.shallow in
+    let all : KeepLimits model_limits (c ∷ []) = subst (λ (cs : List Clause). AreShallow cs → KeepLimits model_limits cs) m.meant (items_within m.items m.each) s.shallow in
     item_reads c (item_was_written bytes c r) (record { short = s.short; fits = all.0 })
 
 pub model_again : (bytes : List ℕ) (cs : List Clause) → ReadsModel bytes cs → ModelStaysWithin cs
@@ -100,6 +100,6 @@ model_again bytes cs r s =
       short = s.short;
       few = omega arith;
       fits =
-          subst (λ (cs : List Clause). AreShallow cs → KeepLimits limits cs) m.meant
+          subst (λ (cs : List Clause). AreShallow cs → KeepLimits model_limits cs) m.meant
           (items_within m.items m.each) s.shallow;
     })

@@ -17,9 +17,9 @@ use Rattle.cat_tokens.specs.declared.lexer.NextLexeme.{NextLexeme}
 use Rattle.cat_tokens.specs.declared.lexer.NextLexeme.TheVariants as lexemes
 use Rattle.cat_tokens.specs.Tokens.{TokenAt}
 use Rattle.cat_tokens.specs.Words.{word_token}
-use Rattle.cat_tokens.specs.Lexer.{is_layout, is_name_byte, ends_name, comment_lexeme, quoted_lexeme, word_lexeme, sign_token, sign_lexeme, first_lexeme, after_lexeme, tokens_from, lexing}
+use Rattle.cat_tokens.specs.Lexer.{is_layout, is_name_byte, ends_name, comment_lexeme, quoted_lexeme, word_lexeme, sign_token, sign_lexeme, first_model_lexeme, after_lexeme, tokens_from, model_lexing}
 use Rattle.cat_tokens.proofs.Lexed.{tokens_skip}
-use Rattle.cat_laws.specs.Tokens.{IsWord, is_sign, Spells, Word, String, Sign, Inversion, Plusses, begins_line_comment, begins_gap, IsModelGap, Blank, Comment, Line, IsLongest, SpellsNone, IsModelLexeme, Spelled, NoToken, OpenComment, OpenString, ModelPiece, Gap, Lexeme, text_of, ArePieces, tokens_at, IsModelCut, AreModelRising}
+use Rattle.cat_laws.specs.Tokens.{IsWord, is_sign, Spells, Word, String, Sign, Inversion, Plusses, begins_line_comment, begins_gap, IsModelGap, Blank, Comment, Line, IsLongest, SpellsNone, IsModelLexeme, Spelled, NoToken, OpenComment, OpenString, ModelPiece, Gap, Lexeme, model_text_of, ArePieces, tokens_at, IsModelCut, AreModelRising}
 use Rattle.text_laws.proofs.Runs.{other, clash, opposite, equals, less, cons_of, next_of, pos_some, pos_le, two_kept, inside_fits, lacks_before, string_text, tested}
 use Rattle.cat_laws.proofs.Named.{first_of, each_of, letter_in_name}
 
@@ -415,8 +415,8 @@ quote_piece b bs e =
     subst (λ (x : ℕ). IsPiece (x ∷ bs) (quoted_lexeme (x ∷ bs) (quoted_from (x ∷ bs))))
     (sym (nesting.equal b 34 e)) (string_piece bs)
 
-first_piece : (b : ℕ) (bs : List ℕ) → IsPiece (b ∷ bs) (first_lexeme (b ∷ bs))
-unfolding first_lexeme
+first_piece : (b : ℕ) (bs : List ℕ) → IsPiece (b ∷ bs) (first_model_lexeme (b ∷ bs))
+unfolding first_model_lexeme
 first_piece b bs =
     tested (IsPiece (b ∷ bs)) (is_layout b) _ _ (blank_piece b bs) (λ layout.
     tested (IsPiece (b ∷ bs)) (is_letter b) _ _ (word_piece b bs layout) (λ letter.
@@ -431,7 +431,7 @@ first_piece b bs =
 record CutAt (n : ℕ) (bs : List ℕ) (ps : List TokenAt) : Type 0 where
   pieces : List ModelPiece
   fine : ArePieces pieces
-  whole : text_of pieces ≡ bs
+  whole : model_text_of pieces ≡ bs
   tokens : tokens_at n pieces ≡ ps
 
 pub skipped : (j n : ℕ) (bs : List ℕ) → j ≤ length bs
@@ -485,10 +485,10 @@ unfolding tokens_from
 cut_at most n [] le = record { pieces = []; fine = tt; whole = refl; tokens = refl }
 cut_at zero n (b ∷ bs) le = absurd (omega arith)
 cut_at (suc most) n (b ∷ bs) le =
-    after_piece n b bs (first_lexeme (b ∷ bs)) (first_piece b bs)
+    after_piece n b bs (first_model_lexeme (b ∷ bs)) (first_piece b bs)
     (λ k xs short. cut_at most k xs (omega arith))
 
-pub is_cut : (bytes : List ℕ) → IsModelCut bytes (lexing bytes)
+pub is_cut : (bytes : List ℕ) → IsModelCut bytes (model_lexing bytes)
 is_cut bytes =
     let c = cut_at (length bytes) 0 bytes (omega arith) in
     record { pieces = c.pieces; fine = c.fine; whole = c.whole; tokens = c.tokens }
@@ -506,10 +506,10 @@ rise : (m n : ℕ) (ps : List ModelPiece) → m ≤ n → ArePieces ps → AreMo
 rise m n [] le h = (le, tt)
 rise m n (Gap s ∷ ps) le h = rise m (n + length s) ps (omega arith) h.1
 rise m n (Lexeme t s ∷ ps) le h =
-    let some = lexeme_bytes t s (text_of ps) h.0 in
+    let some = lexeme_bytes t s (model_text_of ps) h.0 in
     (le, rise (n + 1) (n + length s) ps (omega arith) h.1)
 
-pub is_rising : (bytes : List ℕ) → AreModelRising 0 (lexing bytes)
+pub is_rising : (bytes : List ℕ) → AreModelRising 0 (model_lexing bytes)
 is_rising bytes =
     let c = is_cut bytes in
     subst (AreModelRising 0) c.tokens (rise 0 0 c.pieces (omega arith) c.fine)

@@ -16,12 +16,12 @@ use Rattle.cat_grammar.specs.declared.form.Form.{Form}
 use Rattle.cat_grammar.specs.declared.form.Form.TheVariants as forms
 use Rattle.text_values.specs.ModelValue.{Terms, NoTerm, OneMore, Clause}
 use Rattle.cat_tokens.specs.Words.{item_word, part_word, is_definition_word, is_other_word, name_or_broken, word_or, word_token}
-use Rattle.cat_tokens.specs.Lexer.{is_layout, is_name_byte, ends_name, comment_lexeme, quoted_lexeme, word_lexeme, sign_token, first_lexeme, after_lexeme, tokens_from, lexing}
+use Rattle.cat_tokens.specs.Lexer.{is_layout, is_name_byte, ends_name, comment_lexeme, quoted_lexeme, word_lexeme, sign_token, first_model_lexeme, after_lexeme, tokens_from, model_lexing}
 use Rattle.text_values.specs.Letters.{is_letter}
 use Rattle.text_laws.proofs.Runs.{tested}
 use Rattle.cat_grammar.specs.Grammar as grammar
-use Rattle.cat_tokens.specs.Tokens.{TokenAt, tokens_of}
-use Rattle.cat_grammar.specs.Grammar.{Tree, Trees, Word, Underscore, Zero, Braces, Pair, Post, Prefix, Group, Square, Application, Last, More, infix_token, postfix_token, spelled, spelled_arguments, meaning, meanings, Limits, limits, BindingTree, CheckTree, ItemTree, Let, Check, Flag, Show, Include, spelled_rec, spelled_tilde, spelled_label, spelled_group, spelled_parameters, spelled_check, spelled_shown, spelled_item, spelled_items, group_meaning, shown_meaning, item_meaning, items_meaning, IsItemTree, AreItemTrees, Title, NoTitle, NameTitle, StringTitle, spelled_title, Means}
+use Rattle.cat_tokens.specs.Tokens.{TokenAt, model_tokens_of}
+use Rattle.cat_grammar.specs.Grammar.{Tree, Trees, Word, Underscore, Zero, Braces, Pair, Post, Prefix, Group, Square, Application, Last, More, infix_token, postfix_token, spelled, spelled_arguments, meaning, meanings, Limits, model_limits, BindingTree, CheckTree, ItemTree, Let, Check, Flag, Show, Include, spelled_rec, spelled_tilde, spelled_label, spelled_group, spelled_parameters, spelled_check, spelled_shown, spelled_item, spelled_items, group_meaning, shown_meaning, item_meaning, items_meaning, IsItemTree, AreItemTrees, Title, NoTitle, NameTitle, StringTitle, spelled_title, Means}
 use Rattle.cat_laws.specs.Written as written
 use Rattle.cat_laws.specs.Written.{IsName, IsTerm, AreTerms, AreOthers, AreNames, IsOptionalLabel, AreBindings, IsWritable, AreWritable, IsTextOfItem, IsTextOfModel, ReadsItem, ReadsModel}
 use Rattle.cat_grammar.proofs.Groups.{length-group_meaning}
@@ -144,8 +144,8 @@ quoted_named : (bs : List ℕ) (o : Option ℕ) → IsNamedLexeme (quoted_lexeme
 quoted_named bs None = tt
 quoted_named bs (Some k) = tt
 
-first_named : (b : ℕ) (bs : List ℕ) → IsNamedLexeme (first_lexeme (b ∷ bs))
-unfolding first_lexeme
+first_named : (b : ℕ) (bs : List ℕ) → IsNamedLexeme (first_model_lexeme (b ∷ bs))
+unfolding first_model_lexeme
 first_named b bs =
     let x = slice_index (b ∷ bs) 1 in
     let y = slice_index (b ∷ bs) 2 in
@@ -158,17 +158,17 @@ first_named b bs =
     (b == 94 && x == 45 && y == 49) _ _ tt (sign_named b)))))))
 
 after_named : (offset : ℕ) (f : NextLexeme) (later : ℕ → List TokenAt) → IsNamedLexeme f
-    → ((k : ℕ) → AreNamed (tokens_of (later k))) → AreNamed (tokens_of (after_lexeme offset f later))
+    → ((k : ℕ) → AreNamed (model_tokens_of (later k))) → AreNamed (model_tokens_of (after_lexeme offset f later))
 after_named offset (Layout n) later h more = more (n - 1)
 after_named offset (Lexeme t n) later h more = (h, more (n - 1))
 
-tokens_named : (skip offset : ℕ) (bs : List ℕ) → AreNamed (tokens_of (tokens_from skip offset bs))
+tokens_named : (skip offset : ℕ) (bs : List ℕ) → AreNamed (model_tokens_of (tokens_from skip offset bs))
 unfolding tokens_from
 tokens_named zero offset [] = (tt, tt)
 tokens_named (suc k) offset [] = (tt, tt)
 tokens_named (suc k) offset (b ∷ bs) = tokens_named k (offset + 1) bs
 tokens_named zero offset (b ∷ bs) =
-    after_named offset (first_lexeme (b ∷ bs)) (λ k. tokens_from k (offset + 1) bs) (first_named b bs)
+    after_named offset (first_model_lexeme (b ∷ bs)) (λ k. tokens_from k (offset + 1) bs) (first_named b bs)
     (λ k. tokens_named k (offset + 1) bs)
 
 -- ---- trees
@@ -310,7 +310,7 @@ title_named (StringTitle s) rest h = h.1
 
 -- what a text means is a value that a text can have
 meant_is_written : (bytes : List ℕ) (most : Limits) (form : Form) (v : List Clause)
-    → Means most form (tokens_of (lexing bytes)) v → AreWritable v
+    → Means most form (model_tokens_of (model_lexing bytes)) v → AreWritable v
 meant_is_written bytes most form v m =
     let closing = tokens.End ∷ [] in
     subst AreWritable m.meant (items_named most m.items closing m.each (title_named m.title
@@ -323,7 +323,7 @@ pub model_is_written : (bytes : List ℕ) (cs : List Clause) → IsTextOfModel b
 model_is_written bytes cs h = meant_is_written bytes h.0 forms.Model cs h.1
 
 pub item_was_written : (bytes : List ℕ) (c : Clause) → ReadsItem bytes c → IsWritable c
-item_was_written bytes c r = (meant_is_written bytes limits forms.Item (c ∷ []) r.means).0
+item_was_written bytes c r = (meant_is_written bytes model_limits forms.Item (c ∷ []) r.means).0
 
 pub model_was_written : (bytes : List ℕ) (cs : List Clause) → ReadsModel bytes cs → AreWritable cs
-model_was_written bytes cs r = meant_is_written bytes limits forms.Model cs r.means
+model_was_written bytes cs r = meant_is_written bytes model_limits forms.Model cs r.means

@@ -24,10 +24,10 @@ use Rattle.text_values.specs.declared.model.Postfix.TheVariants as postfix
 use Rattle.text_values.specs.ModelValue as value
 use Rattle.text_values.specs.ModelValue.{Term, Terms, Atom, AllEvents, EmptyRelation, EmptySet, Join, Mark, Not, On, Apply, NoTerm, OneMore, Checked, Clause, Binding, Checking, Flagging, Showing, Including}
 use Rattle.cat_tokens.specs.Words.{item_word, part_word, word_token}
-use Rattle.cat_tokens.specs.Lexer.{is_layout, ends_name, sign_token, word_lexeme, comment_lexeme, quoted_lexeme, first_lexeme, after_lexeme, tokens_from}
+use Rattle.cat_tokens.specs.Lexer.{is_layout, ends_name, sign_token, word_lexeme, comment_lexeme, quoted_lexeme, first_model_lexeme, after_lexeme, tokens_from}
 use Rattle.text_values.specs.Letters.{is_letter}
-use Rattle.cat_tokens.specs.Tokens.{TokenAt, tokens_of}
-use Rattle.cat_grammar.specs.Grammar.{Tree, infix_token, postfix_token, spelled, spelled_arguments, show_token, spelled_rec, spelled_tilde, spelled_label, spelled_bound, spelled_group, spelled_parameters, spelled_check, spelled_one, spelled_shown, spelled_item, spelled_items, Limits, limits, Means, NoTitle, has_no_effect}
+use Rattle.cat_tokens.specs.Tokens.{TokenAt, model_tokens_of}
+use Rattle.cat_grammar.specs.Grammar.{Tree, infix_token, postfix_token, spelled, spelled_arguments, show_token, spelled_rec, spelled_tilde, spelled_label, spelled_bound, spelled_group, spelled_parameters, spelled_check, spelled_one, spelled_shown, spelled_item, spelled_items, Limits, model_limits, Means, NoTitle, has_no_effect}
 use Rattle.cat_grammar.specs.declared.form.Form.TheVariants as forms
 use Rattle.cat_printing.specs.Printing.{is_binary, is_compound, infix_text, postfix_text, printed_term, printed_terms, label_text, optional_label, tilde_text, word_text, check_text, recursion_text, binding_text, show_text, shown_text, quote, printed_item, printed_model}
 use Rattle.text_values.specs.Joined.{joined, bracketed}
@@ -39,33 +39,33 @@ use Rattle.cat_tokens.proofs.Lexed.{tokens_skip}
 
 -- the tokens of a text, without their places
 abbrev pub read : List ℕ → List Token
-read bs = tokens_of (tokens_from 0 0 bs)
+read bs = model_tokens_of (tokens_from 0 0 bs)
 
 after_free : (p q : ℕ) (f : NextLexeme) (later other : ℕ → List TokenAt)
-    → ((k : ℕ) → tokens_of (later k) ≡ tokens_of (other k))
-    → tokens_of (after_lexeme p f later) ≡ tokens_of (after_lexeme q f other)
+    → ((k : ℕ) → model_tokens_of (later k) ≡ model_tokens_of (other k))
+    → model_tokens_of (after_lexeme p f later) ≡ model_tokens_of (after_lexeme q f other)
 after_free p q (Layout n) later other h = h (n - 1)
 after_free p q (Lexeme t n) later other h = ap (λ (ts : List Token). t ∷ ts) (h (n - 1))
 
 -- the places do not bear on the tokens
 place_free : (s p q : ℕ) (bs : List ℕ)
-    → tokens_of (tokens_from s p bs) ≡ tokens_of (tokens_from s q bs)
+    → model_tokens_of (tokens_from s p bs) ≡ model_tokens_of (tokens_from s q bs)
 unfolding tokens_from
 place_free zero p q [] = refl
 place_free (suc s) p q [] = refl
 place_free (suc s) p q (b ∷ bs) = place_free s (p + 1) (q + 1) bs
 place_free zero p q (b ∷ bs) =
-    after_free p q (first_lexeme (b ∷ bs)) (λ k. tokens_from k (p + 1) bs) (λ k. tokens_from k (q + 1) bs)
+    after_free p q (first_model_lexeme (b ∷ bs)) (λ k. tokens_from k (p + 1) bs) (λ k. tokens_from k (q + 1) bs)
     (λ k. place_free k (p + 1) (q + 1) bs)
 
 -- ---- signs
 
 line_end : (bs : List ℕ) → read (10 ∷ bs) ≡ read bs
-unfolding tokens_from first_lexeme
+unfolding tokens_from first_model_lexeme
 line_end bs = place_free 0 1 0 bs
 
 sign : (op : Infix) (bs : List ℕ) → read (infix_text op ++ bs) ≡ infix_token op ∷ read bs
-unfolding tokens_from first_lexeme sign_token
+unfolding tokens_from first_model_lexeme sign_token
 sign Union bs = ap (λ (ts : List Token). tokens.Sign Bar ∷ ts) (place_free 0 3 0 bs)
 sign Sequence bs = ap (λ (ts : List Token). tokens.Sign Semicolon ∷ ts) (place_free 0 3 0 bs)
 sign Difference bs = ap (λ (ts : List Token). tokens.Sign Backslash ∷ ts) (place_free 0 3 0 bs)
@@ -73,52 +73,52 @@ sign Intersection bs = ap (λ (ts : List Token). tokens.Sign Ampersand ∷ ts) (
 sign Product bs = ap (λ (ts : List Token). tokens.Star ∷ ts) (place_free 0 3 0 bs)
 
 tilde : (bs : List ℕ) → read (126 ∷ bs) ≡ tokens.Tilde ∷ read bs
-unfolding tokens_from first_lexeme sign_token
+unfolding tokens_from first_model_lexeme sign_token
 tilde bs = ap (λ (ts : List Token). tokens.Tilde ∷ ts) (place_free 0 1 0 bs)
 
 close : (bs : List ℕ) → read (41 ∷ bs) ≡ tokens.Close ∷ read bs
-unfolding tokens_from first_lexeme sign_token
+unfolding tokens_from first_model_lexeme sign_token
 close bs = ap (λ (ts : List Token). tokens.Close ∷ ts) (place_free 0 1 0 bs)
 
 open_square : (bs : List ℕ) → read (91 ∷ bs) ≡ tokens.OpenSquare ∷ read bs
-unfolding tokens_from first_lexeme sign_token
+unfolding tokens_from first_model_lexeme sign_token
 open_square bs = ap (λ (ts : List Token). tokens.OpenSquare ∷ ts) (place_free 0 1 0 bs)
 
 close_square : (bs : List ℕ) → read (93 ∷ bs) ≡ tokens.CloseSquare ∷ read bs
-unfolding tokens_from first_lexeme sign_token
+unfolding tokens_from first_model_lexeme sign_token
 close_square bs = ap (λ (ts : List Token). tokens.CloseSquare ∷ ts) (place_free 0 1 0 bs)
 
 braces : (bs : List ℕ) → read (123 ∷ 125 ∷ bs) ≡ tokens.OpenBrace ∷ tokens.CloseBrace ∷ read bs
-unfolding tokens_from first_lexeme sign_token
+unfolding tokens_from first_model_lexeme sign_token
 braces bs =
     ap (λ (ts : List Token). tokens.OpenBrace ∷ tokens.CloseBrace ∷ ts) (place_free 0 2 0 bs)
 
 underscore : (bs : List ℕ) → read (95 ∷ bs) ≡ tokens.Underscore ∷ read bs
-unfolding tokens_from first_lexeme sign_token
+unfolding tokens_from first_model_lexeme sign_token
 underscore bs = ap (λ (ts : List Token). tokens.Underscore ∷ ts) (place_free 0 1 0 bs)
 
 nought : (bs : List ℕ) → read (48 ∷ bs) ≡ tokens.Zero ∷ read bs
-unfolding tokens_from first_lexeme sign_token
+unfolding tokens_from first_model_lexeme sign_token
 nought bs = ap (λ (ts : List Token). tokens.Zero ∷ ts) (place_free 0 1 0 bs)
 
 comma : (bs : List ℕ) → read (codes ", " ++ bs) ≡ tokens.Comma ∷ read bs
-unfolding tokens_from first_lexeme sign_token
+unfolding tokens_from first_model_lexeme sign_token
 comma bs = ap (λ (ts : List Token). tokens.Comma ∷ ts) (place_free 0 2 0 bs)
 
 equals : (bs : List ℕ) → read (codes " = " ++ bs) ≡ tokens.Equals ∷ read bs
-unfolding tokens_from first_lexeme sign_token
+unfolding tokens_from first_model_lexeme sign_token
 equals bs = ap (λ (ts : List Token). tokens.Equals ∷ ts) (place_free 0 3 0 bs)
 
 close_equals : (bs : List ℕ) → read (codes ") = " ++ bs) ≡ tokens.Close ∷ tokens.Equals ∷ read bs
-unfolding tokens_from first_lexeme sign_token
+unfolding tokens_from first_model_lexeme sign_token
 close_equals bs = ap (λ (ts : List Token). tokens.Close ∷ tokens.Equals ∷ ts) (place_free 0 4 0 bs)
 
 -- what a byte is not, as a test
 other : (b c : ℕ) → b ≢ c → (b == c) ≡ false
 other b c h = grind (arith, nat_tests)
 
-first_plus : (bs : List ℕ) → slice_index bs 0 ≢ 43 → first_lexeme (43 ∷ bs) ≡ Lexeme (tokens.Mark Plus) 1
-unfolding first_lexeme sign_token
+first_plus : (bs : List ℕ) → slice_index bs 0 ≢ 43 → first_model_lexeme (43 ∷ bs) ≡ Lexeme (tokens.Mark Plus) 1
+unfolding first_model_lexeme sign_token
 first_plus bs h =
     ap
     (λ (x : Bool). if x then Lexeme (tokens.Broken Unsupported) 2 else Lexeme (tokens.Mark Plus) 1)
@@ -127,12 +127,12 @@ first_plus bs h =
 plus : (bs : List ℕ) → slice_index bs 0 ≢ 43 → read (43 ∷ bs) ≡ tokens.Mark Plus ∷ read bs
 unfolding tokens_from
 plus bs h =
-    ap (λ (f : NextLexeme). tokens_of (after_lexeme 0 f (λ k. tokens_from k 1 bs))) (first_plus bs h)
+    ap (λ (f : NextLexeme). model_tokens_of (after_lexeme 0 f (λ k. tokens_from k 1 bs))) (first_plus bs h)
     ∙ ap (λ (ts : List Token). tokens.Mark Plus ∷ ts) (place_free 0 1 0 bs)
 
 other_mark : (op : Postfix) (bs : List ℕ) → op ≢ postfix.Transitive
     → read (postfix_text op ++ bs) ≡ postfix_token op ∷ read bs
-unfolding tokens_from first_lexeme sign_token
+unfolding tokens_from first_model_lexeme sign_token
 other_mark postfix.Transitive bs h = absurd (h refl)
 other_mark postfix.Reflexive bs h =
     ap (λ (ts : List Token). tokens.Mark Question ∷ ts) (place_free 0 1 0 bs)
@@ -147,8 +147,8 @@ mark postfix.Reflexive bs h = other_mark postfix.Reflexive bs (λ e. absurd cc)
 mark postfix.Inverse bs h = other_mark postfix.Inverse bs (λ e. absurd cc)
 mark postfix.Closure bs h = other_mark postfix.Closure bs (λ e. absurd cc)
 
-first_open : (bs : List ℕ) → slice_index bs 0 ≢ 42 → first_lexeme (40 ∷ bs) ≡ Lexeme tokens.Open 1
-unfolding first_lexeme sign_token
+first_open : (bs : List ℕ) → slice_index bs 0 ≢ 42 → first_model_lexeme (40 ∷ bs) ≡ Lexeme tokens.Open 1
+unfolding first_model_lexeme sign_token
 first_open bs h =
     ap
     (λ (x : Bool).
@@ -158,46 +158,46 @@ first_open bs h =
 open_bracket : (bs : List ℕ) → slice_index bs 0 ≢ 42 → read (40 ∷ bs) ≡ tokens.Open ∷ read bs
 unfolding tokens_from
 open_bracket bs h =
-    ap (λ (f : NextLexeme). tokens_of (after_lexeme 0 f (λ k. tokens_from k 1 bs))) (first_open bs h)
+    ap (λ (f : NextLexeme). model_tokens_of (after_lexeme 0 f (λ k. tokens_from k 1 bs))) (first_open bs h)
     ∙ ap (λ (ts : List Token). tokens.Open ∷ ts) (place_free 0 1 0 bs)
 
 -- ---- words
 
 check_word : (w : CheckWord) (bs : List ℕ) → read (word_text w ++ bs) ≡ tokens.Check w ∷ read bs
-unfolding tokens_from first_lexeme item_word part_word
+unfolding tokens_from first_model_lexeme item_word part_word
 check_word Acyclic bs = ap (λ (ts : List Token). tokens.Check Acyclic ∷ ts) (place_free 0 8 0 bs)
 check_word Irreflexive bs =
     ap (λ (ts : List Token). tokens.Check Irreflexive ∷ ts) (place_free 0 12 0 bs)
 check_word Empty bs = ap (λ (ts : List Token). tokens.Check Empty ∷ ts) (place_free 0 6 0 bs)
 
 let_word : (bs : List ℕ) → read (codes "let " ++ bs) ≡ tokens.Let ∷ read bs
-unfolding tokens_from first_lexeme item_word part_word
+unfolding tokens_from first_model_lexeme item_word part_word
 let_word bs = ap (λ (ts : List Token). tokens.Let ∷ ts) (place_free 0 4 0 bs)
 
 rec_word : (bs : List ℕ) → read (codes "rec " ++ bs) ≡ tokens.Rec ∷ read bs
-unfolding tokens_from first_lexeme item_word part_word
+unfolding tokens_from first_model_lexeme item_word part_word
 rec_word bs = ap (λ (ts : List Token). tokens.Rec ∷ ts) (place_free 0 4 0 bs)
 
 and_word : (bs : List ℕ) → read (codes " and " ++ bs) ≡ tokens.And ∷ read bs
-unfolding tokens_from first_lexeme item_word part_word
+unfolding tokens_from first_model_lexeme item_word part_word
 and_word bs = ap (λ (ts : List Token). tokens.And ∷ ts) (place_free 0 5 0 bs)
 
 as_word : (bs : List ℕ) → read (codes " as " ++ bs) ≡ tokens.As ∷ read bs
-unfolding tokens_from first_lexeme item_word part_word
+unfolding tokens_from first_model_lexeme item_word part_word
 as_word bs = ap (λ (ts : List Token). tokens.As ∷ ts) (place_free 0 4 0 bs)
 
 flag_word : (bs : List ℕ) → read (codes "flag " ++ bs) ≡ tokens.Flag ∷ read bs
-unfolding tokens_from first_lexeme item_word part_word
+unfolding tokens_from first_model_lexeme item_word part_word
 flag_word bs = ap (λ (ts : List Token). tokens.Flag ∷ ts) (place_free 0 5 0 bs)
 
 show_word : (hidden : Bool) (bs : List ℕ)
     → read (show_text hidden ++ bs) ≡ show_token hidden ∷ read bs
-unfolding tokens_from first_lexeme item_word part_word
+unfolding tokens_from first_model_lexeme item_word part_word
 show_word true bs = ap (λ (ts : List Token). tokens.Unshow ∷ ts) (place_free 0 7 0 bs)
 show_word false bs = ap (λ (ts : List Token). tokens.Show ∷ ts) (place_free 0 5 0 bs)
 
 include_word : (bs : List ℕ) → read (codes "include " ++ bs) ≡ tokens.Include ∷ read bs
-unfolding tokens_from first_lexeme item_word part_word
+unfolding tokens_from first_model_lexeme item_word part_word
 include_word bs = ap (λ (ts : List Token). tokens.Include ∷ ts) (place_free 0 8 0 bs)
 
 -- ---- names and strings
@@ -227,8 +227,8 @@ word_is n bs h e =
     ∙ ap (λ (t : Token). Lexeme t (length n)) h.no_word
 
 first_is_name : (c : ℕ) (cs bs : List ℕ) → IsName (c ∷ cs) → ends_name (slice_index bs 0) ≡ true
-    → first_lexeme (c ∷ (cs ++ bs)) ≡ Lexeme (tokens.Name (c ∷ cs)) (length (c ∷ cs))
-unfolding first_lexeme
+    → first_model_lexeme (c ∷ (cs ++ bs)) ≡ Lexeme (tokens.Name (c ∷ cs)) (length (c ∷ cs))
+unfolding first_model_lexeme
 first_is_name c cs bs h e =
     second_test (is_layout c) (is_letter c) _ _ _ (letter_is c h.first).0 h.first
     ∙ word_is (c ∷ cs) bs h e
@@ -239,19 +239,19 @@ unfolding tokens_from
 name [] bs h e = let bad : false ≡ true = h.first in absurd cc
 name (c ∷ cs) bs h e =
     let l = length-append cs bs in
-    ap (λ (f : NextLexeme). tokens_of (after_lexeme 0 f (λ k. tokens_from k 1 (cs ++ bs))))
+    ap (λ (f : NextLexeme). model_tokens_of (after_lexeme 0 f (λ k. tokens_from k 1 (cs ++ bs))))
     (first_is_name c cs bs h e)
-    ∙ ap (λ (k : ℕ). tokens.Name (c ∷ cs) ∷ tokens_of (tokens_from k 1 (cs ++ bs))) (omega arith)
-    ∙ ap (λ (ps : List TokenAt). tokens.Name (c ∷ cs) ∷ tokens_of ps)
+    ∙ ap (λ (k : ℕ). tokens.Name (c ∷ cs) ∷ model_tokens_of (tokens_from k 1 (cs ++ bs))) (omega arith)
+    ∙ ap (λ (ps : List TokenAt). tokens.Name (c ∷ cs) ∷ model_tokens_of ps)
     (tokens_skip (length cs) 1 (cs ++ bs) (omega arith))
-    ∙ ap (λ (x : List ℕ). tokens.Name (c ∷ cs) ∷ tokens_of (tokens_from 0 (1 + length cs) x))
+    ∙ ap (λ (x : List ℕ). tokens.Name (c ∷ cs) ∷ model_tokens_of (tokens_from 0 (1 + length cs) x))
     (drop_at cs bs (length cs) refl)
     ∙ ap (λ (ts : List Token). tokens.Name (c ∷ cs) ∷ ts) (place_free 0 (1 + length cs) 0 bs)
 
 -- a text between quotes that has none
 pub first_quote : (path bs : List ℕ) → position_or_len is_quote (path ++ (34 ∷ bs)) ≡ length path
-    → first_lexeme (34 ∷ (path ++ (34 ∷ bs))) ≡ Lexeme (tokens.Quoted path) (length path + 2)
-unfolding first_lexeme
+    → first_model_lexeme (34 ∷ (path ++ (34 ∷ bs))) ≡ Lexeme (tokens.Quoted path) (length path + 2)
+unfolding first_model_lexeme
 first_quote path bs h =
     let l = length-append path (34 ∷ bs) in
     let ends : (length path == length (path ++ (34 ∷ bs))) ≡ false = other (length path) (length (path ++ (34 ∷ bs))) (λ e. absurd (omega arith)) in
@@ -276,13 +276,13 @@ quoted path bs h =
     let past : drop (length path + 1) (path ++ (34 ∷ bs)) ≡ bs =
     ap (drop (length path + 1)) (sym (append_assoc path (34 ∷ []) bs))
     ∙ drop_at (path ++ 34 ∷ []) bs (length path + 1) (omega arith) in
-    ap (λ (f : NextLexeme). tokens_of (after_lexeme 0 f (λ k. tokens_from k 1 (path ++ (34 ∷ bs)))))
+    ap (λ (f : NextLexeme). model_tokens_of (after_lexeme 0 f (λ k. tokens_from k 1 (path ++ (34 ∷ bs)))))
     (first_quote path bs h)
-    ∙ ap (λ (k : ℕ). tokens.Quoted path ∷ tokens_of (tokens_from k 1 (path ++ (34 ∷ bs))))
+    ∙ ap (λ (k : ℕ). tokens.Quoted path ∷ model_tokens_of (tokens_from k 1 (path ++ (34 ∷ bs))))
     (omega arith)
-    ∙ ap (λ (ps : List TokenAt). tokens.Quoted path ∷ tokens_of ps) (tokens_skip (length path + 1) 1
+    ∙ ap (λ (ps : List TokenAt). tokens.Quoted path ∷ model_tokens_of ps) (tokens_skip (length path + 1) 1
     (path ++ (34 ∷ bs)) (omega arith))
-    ∙ ap (λ (x : List ℕ). tokens.Quoted path ∷ tokens_of (tokens_from 0 (1 + (length path + 1)) x))
+    ∙ ap (λ (x : List ℕ). tokens.Quoted path ∷ model_tokens_of (tokens_from 0 (1 + (length path + 1)) x))
     past
     ∙ ap (λ (ts : List Token). tokens.Quoted path ∷ ts) (place_free 0 (1 + (length path + 1)) 0 bs)
 
@@ -624,8 +624,8 @@ model_is_read cs h =
     (enough cs, model_means (enough cs) cs h (omega arith) (is_enough cs))
 
 pub item_reads : (c : Clause) → IsWritable c → IsItemWithinLimits c → ReadsItem (printed_item c) c
-item_reads c h w = record { short = w.short; means = item_means limits c h w.fits }
+item_reads c h w = record { short = w.short; means = item_means model_limits c h w.fits }
 
 pub model_reads : (cs : List Clause) → AreWritable cs → IsModelWithinLimits cs
     → ReadsModel (printed_model cs) cs
-model_reads cs h w = record { short = w.short; means = model_means limits cs h w.few w.fits }
+model_reads cs h w = record { short = w.short; means = model_means model_limits cs h w.few w.fits }

@@ -18,8 +18,8 @@ use Rattle.cat_tokens.specs.declared.lexer.NextLexeme.{NextLexeme}
 use Rattle.cat_tokens.specs.declared.lexer.NextLexeme.TheVariants as lexemes
 use Rattle.cat_tokens.specs.Tokens.{TokenAt}
 use Rattle.cat_tokens.specs.Words.{word_token}
-use Rattle.cat_tokens.specs.Lexer.{is_layout, is_name_byte, ends_name, comment_lexeme, quoted_lexeme, word_lexeme, sign_token, sign_lexeme, first_lexeme, after_lexeme, tokens_from, lexing}
-use Rattle.cat_laws.specs.Tokens.{IsWord, is_sign, Spells, Word, String, Sign, Inversion, Plusses, begins_line_comment, begins_gap, IsModelGap, Blank, Comment, Line, IsLongest, SpellsNone, IsModelLexeme, Spelled, NoToken, OpenComment, OpenString, ModelPiece, Gap, Lexeme, text_of, ArePieces, tokens_at, IsModelCut}
+use Rattle.cat_tokens.specs.Lexer.{is_layout, is_name_byte, ends_name, comment_lexeme, quoted_lexeme, word_lexeme, sign_token, sign_lexeme, first_model_lexeme, after_lexeme, tokens_from, model_lexing}
+use Rattle.cat_laws.specs.Tokens.{IsWord, is_sign, Spells, Word, String, Sign, Inversion, Plusses, begins_line_comment, begins_gap, IsModelGap, Blank, Comment, Line, IsLongest, SpellsNone, IsModelLexeme, Spelled, NoToken, OpenComment, OpenString, ModelPiece, Gap, Lexeme, model_text_of, ArePieces, tokens_at, IsModelCut}
 use Rattle.cat_laws.proofs.Named.{letter_in_name}
 use Rattle.cat_laws.proofs.Printed.{first_quote}
 use Rattle.cat_laws.proofs.Cuts.{three_bytes, not_sign, skipped, lexeme_bytes}
@@ -27,14 +27,14 @@ use Rattle.cat_laws.proofs.Cuts.{three_bytes, not_sign, skipped, lexeme_bytes}
 -- ---- the reader's first lexeme, by its tests
 
 first_word : (b : ℕ) (bs : List ℕ) → is_layout b ≡ false → is_letter b ≡ true
-    → first_lexeme (b ∷ bs) ≡ word_lexeme (b ∷ bs) (position_or_len ends_name (b ∷ bs))
-unfolding first_lexeme
+    → first_model_lexeme (b ∷ bs) ≡ word_lexeme (b ∷ bs) (position_or_len ends_name (b ∷ bs))
+unfolding first_model_lexeme
 first_word b bs layout letter =
     when_false (is_layout b) _ _ layout ∙ when_true (is_letter b) _ _ letter
 
 first_sign : (b : ℕ) (bs : List ℕ) → begins_gap (b ∷ bs) ≡ false → is_letter b ≡ false
-    → (b == 34) ≡ false → first_lexeme (b ∷ bs) ≡ sign_lexeme (b ∷ bs)
-unfolding first_lexeme
+    → (b == 34) ≡ false → first_model_lexeme (b ∷ bs) ≡ sign_lexeme (b ∷ bs)
+unfolding first_model_lexeme
 first_sign b bs gap letter quote =
     let others = or_second (is_layout b) (begins_comment (b ∷ bs) || begins_line_comment (b ∷ bs)) gap in
     when_false (is_layout b) _ _ (or_first (is_layout b)
@@ -52,31 +52,31 @@ one_byte b bs plus inverse =
     when_false (b == 43 && slice_index bs 0 == 43) _ _ plus
     ∙ when_false (b == 94 && slice_index bs 0 == 45 && slice_index bs 1 == 49) _ _ inverse
 
-first_blank : (b : ℕ) (bs : List ℕ) → is_layout b ≡ true → first_lexeme (b ∷ bs) ≡ lexemes.Layout 1
-unfolding first_lexeme
+first_blank : (b : ℕ) (bs : List ℕ) → is_layout b ≡ true → first_model_lexeme (b ∷ bs) ≡ lexemes.Layout 1
+unfolding first_model_lexeme
 first_blank b bs layout = when_true (is_layout b) _ _ layout
 
 first_comment : (xs : List ℕ)
-    → first_lexeme (40 ∷ 42 ∷ xs) ≡ comment_lexeme (length (40 ∷ 42 ∷ xs)) (comment_of (40 ∷ 42 ∷ xs))
-unfolding first_lexeme
+    → first_model_lexeme (40 ∷ 42 ∷ xs) ≡ comment_lexeme (length (40 ∷ 42 ∷ xs)) (comment_of (40 ∷ 42 ∷ xs))
+unfolding first_model_lexeme
 first_comment xs = refl
 
 first_line : (xs : List ℕ)
-    → first_lexeme (47 ∷ 47 ∷ xs) ≡ lexemes.Layout (position_or_len is_line_end (47 ∷ 47 ∷ xs))
-unfolding first_lexeme
+    → first_model_lexeme (47 ∷ 47 ∷ xs) ≡ lexemes.Layout (position_or_len is_line_end (47 ∷ 47 ∷ xs))
+unfolding first_model_lexeme
 first_line xs = refl
 
-first_string : (xs : List ℕ) → first_lexeme (34 ∷ xs) ≡ quoted_lexeme (34 ∷ xs) (quoted_from (34 ∷ xs))
-unfolding first_lexeme
+first_string : (xs : List ℕ) → first_model_lexeme (34 ∷ xs) ≡ quoted_lexeme (34 ∷ xs) (quoted_from (34 ∷ xs))
+unfolding first_model_lexeme
 first_string xs = refl
 
-first_inversion : (xs : List ℕ) → first_lexeme (94 ∷ 45 ∷ 49 ∷ xs) ≡ lexemes.Lexeme (tokens.Mark Inverse) 3
-unfolding first_lexeme
+first_inversion : (xs : List ℕ) → first_model_lexeme (94 ∷ 45 ∷ 49 ∷ xs) ≡ lexemes.Lexeme (tokens.Mark Inverse) 3
+unfolding first_model_lexeme
 first_inversion xs = refl
 
 first_plusses : (xs : List ℕ)
-    → first_lexeme (43 ∷ 43 ∷ xs) ≡ lexemes.Lexeme (tokens.Broken rules.Unsupported) 2
-unfolding first_lexeme
+    → first_model_lexeme (43 ∷ 43 ∷ xs) ≡ lexemes.Lexeme (tokens.Broken rules.Unsupported) 2
+unfolding first_model_lexeme
 first_plusses xs = refl
 
 -- ---- gaps
@@ -91,19 +91,19 @@ line_length_is s rest each ends =
     (λ k lt. ap is_line_end (get_or_append_left s rest 0 k lt) ∙ each k lt)
     (λ lt. ap is_line_end (seam s rest) ∙ ends (omega arith))
 
-first_gap : (s rest : List ℕ) → IsModelGap s rest → first_lexeme (s ++ rest) ≡ lexemes.Layout (length s)
+first_gap : (s rest : List ℕ) → IsModelGap s rest → first_model_lexeme (s ++ rest) ≡ lexemes.Layout (length s)
 first_gap s rest (Blank b layout is) =
-    ap (λ (xs : List ℕ). first_lexeme (xs ++ rest)) is ∙ first_blank b rest layout
+    ap (λ (xs : List ℕ). first_model_lexeme (xs ++ rest)) is ∙ first_blank b rest layout
     ∙ ap (λ (xs : List ℕ). lexemes.Layout (length xs)) (sym is)
 first_gap s rest (Comment c) =
-    ap first_lexeme c.whole ∙ first_comment _
+    ap first_model_lexeme c.whole ∙ first_comment _
     ∙ ap (λ (xs : List ℕ). comment_lexeme (length xs) (comment_of xs)) (sym c.whole)
     ∙ ap (comment_lexeme (length (s ++ rest))) (nesting.only (s ++ rest) (length s) c)
 first_gap [] rest (Line begins each ends) = absurd cc
 first_gap (b ∷ bs) rest (Line begins each ends) =
     let two = nesting.two_bytes 47 46 b bs begins in
     let are : b ∷ (bs ++ rest) ≡ 47 ∷ 47 ∷ (drop 1 bs ++ rest) = ap (λ (x : ℕ). x ∷ (bs ++ rest)) two.0 ∙ ap (λ (xs : List ℕ). 47 ∷ (xs ++ rest)) two.1 in
-    ap first_lexeme are ∙ first_line (drop 1 bs ++ rest)
+    ap first_model_lexeme are ∙ first_line (drop 1 bs ++ rest)
     ∙ ap (λ (xs : List ℕ). lexemes.Layout (position_or_len is_line_end xs)) (sym are)
     ∙ ap (λ (n : ℕ). lexemes.Layout n) (line_length_is (b ∷ bs) rest each ends)
 
@@ -151,7 +151,7 @@ name_size s rest w ends =
     (λ lt. ap ends_name (seam s rest) ∙ ends (omega arith))
 
 first_of_word : (s rest : List ℕ) → IsWord s → begins_gap (s ++ rest) ≡ false → IsLongest s rest
-    → first_lexeme (s ++ rest) ≡ lexemes.Lexeme (word_token s) (length s)
+    → first_model_lexeme (s ++ rest) ≡ lexemes.Lexeme (word_token s) (length s)
 first_of_word [] rest w gap longest = let bad : false ≡ true = w.first in absurd cc
 first_of_word (b ∷ bs) rest w gap longest =
     first_word b (bs ++ rest)
@@ -166,18 +166,18 @@ first_of_word (b ∷ bs) rest w gap longest =
 -- ---- strings
 
 first_of_string : (inside s rest : List ℕ) → LacksQuote inside → s ≡ 34 ∷ (inside ++ 34 ∷ [])
-    → first_lexeme (s ++ rest) ≡ lexemes.Lexeme (tokens.Quoted inside) (length s)
+    → first_model_lexeme (s ++ rest) ≡ lexemes.Lexeme (tokens.Quoted inside) (length s)
 first_of_string inside s rest lacks is =
     let l = length-append inside (34 ∷ []) in
     let m = ap length is in
     let size : length inside + 2 ≡ length s = omega arith in
-    ap (λ (xs : List ℕ). first_lexeme (xs ++ rest)) is
-    ∙ ap (λ (xs : List ℕ). first_lexeme (34 ∷ xs)) (append_assoc inside (34 ∷ []) rest)
+    ap (λ (xs : List ℕ). first_model_lexeme (xs ++ rest)) is
+    ∙ ap (λ (xs : List ℕ). first_model_lexeme (34 ∷ xs)) (append_assoc inside (34 ∷ []) rest)
     ∙ first_quote inside rest (quote_size inside rest lacks)
     ∙ ap (lexemes.Lexeme (tokens.Quoted inside)) size
 
 first_of_open : (inside : List ℕ) → LacksQuote inside
-    → first_lexeme (34 ∷ inside) ≡ lexemes.Lexeme (tokens.Broken rules.Syntax) (length (34 ∷ inside))
+    → first_model_lexeme (34 ∷ inside) ≡ lexemes.Lexeme (tokens.Broken rules.Syntax) (length (34 ∷ inside))
 first_of_open inside lacks =
     first_string inside
     ∙ ap (quoted_lexeme (34 ∷ inside)) (when_true
@@ -217,7 +217,7 @@ plusses_begin b bs h =
     sym (ap (λ (x : ℕ). x ∷ bs) two.0 ∙ ap (λ (xs : List ℕ). 43 ∷ xs) two.1)
 
 first_of_sign : (b : ℕ) (rest : List ℕ) → is_sign b ≡ true → begins_gap (b ∷ rest) ≡ false
-    → IsLongest (b ∷ []) rest → first_lexeme (b ∷ rest) ≡ lexemes.Lexeme (sign_token b) 1
+    → IsLongest (b ∷ []) rest → first_model_lexeme (b ∷ rest) ≡ lexemes.Lexeme (sign_token b) 1
 first_of_sign b rest sign gap longest =
     let plain = sign_plain b sign in
     let plus : (b == 43 && slice_index rest 0 == 43) ≡ false = false_from_ne_true (b == 43 && slice_index rest 0 == 43) (λ h.
@@ -231,7 +231,7 @@ first_of_sign b rest sign gap longest =
     (λ (x : Bool). x && slice_index rest 0 == 45 && slice_index rest 1 == 49) plain.2)
 
 first_of_none : (b : ℕ) (rest : List ℕ) → (b == 34) ≡ false → begins_gap (b ∷ rest) ≡ false
-    → SpellsNone (b ∷ rest) → first_lexeme (b ∷ rest) ≡ lexemes.Lexeme (tokens.Broken rules.Token) 1
+    → SpellsNone (b ∷ rest) → first_model_lexeme (b ∷ rest) ≡ lexemes.Lexeme (tokens.Broken rules.Token) 1
 first_of_none b rest quote gap none =
     let letter : is_letter b ≡ false = false_from_ne_true (is_letter b) (λ h. none (b ∷ []) rest (word_token (b ∷ [])) refl (Word (one_letter h) refl)) in
     let plus : (b == 43 && slice_index rest 0 == 43) ≡ false = false_from_ne_true (b == 43 && slice_index rest 0 == 43) (λ h. none (43 ∷ 43 ∷ []) (drop 1 rest) (tokens.Broken rules.Unsupported) (plusses_begin b rest h) (Plusses refl refl)) in
@@ -258,22 +258,22 @@ sized : (t : Token) (b : ℕ) (s : List ℕ) (f : NextLexeme) → s ≡ b ∷ []
 sized t b s f is e = e ∙ ap (λ (xs : List ℕ). lexemes.Lexeme t (length xs)) (sym is)
 
 spelled_lexeme : (t : Token) (s rest : List ℕ) → begins_gap (s ++ rest) ≡ false → IsLongest s rest
-    → Spells s t → first_lexeme (s ++ rest) ≡ lexemes.Lexeme t (length s)
+    → Spells s t → first_model_lexeme (s ++ rest) ≡ lexemes.Lexeme t (length s)
 spelled_lexeme t s rest gap longest (Word w k) =
     first_of_word s rest w gap longest ∙ ap (λ (u : Token). lexemes.Lexeme u (length s)) (sym k)
 spelled_lexeme t s rest gap longest (String inside lacks is k) =
     first_of_string inside s rest lacks is ∙ ap (λ (u : Token). lexemes.Lexeme u (length s)) (sym k)
 spelled_lexeme t s rest gap longest (Sign b sign is k) =
-    sized t b s (first_lexeme (s ++ rest)) is (ap (λ (xs : List ℕ). first_lexeme (xs ++ rest)) is
+    sized t b s (first_model_lexeme (s ++ rest)) is (ap (λ (xs : List ℕ). first_model_lexeme (xs ++ rest)) is
     ∙ first_of_sign b rest sign (ap (λ (xs : List ℕ). begins_gap (xs ++ rest)) (sym is) ∙ gap)
     (subst (λ (xs : List ℕ). IsLongest xs rest) is longest)
     ∙ ap (λ (u : Token). lexemes.Lexeme u 1) (sym k))
 spelled_lexeme t s rest gap longest (Inversion is k) =
-    ap (λ (xs : List ℕ). first_lexeme (xs ++ rest)) is ∙ first_inversion rest
+    ap (λ (xs : List ℕ). first_model_lexeme (xs ++ rest)) is ∙ first_inversion rest
     ∙ ap (λ (u : Token). lexemes.Lexeme u 3) (sym k)
     ∙ ap (λ (xs : List ℕ). lexemes.Lexeme t (length xs)) (sym is)
 spelled_lexeme t s rest gap longest (Plusses is k) =
-    ap (λ (xs : List ℕ). first_lexeme (xs ++ rest)) is ∙ first_plusses rest
+    ap (λ (xs : List ℕ). first_model_lexeme (xs ++ rest)) is ∙ first_plusses rest
     ∙ ap (λ (u : Token). lexemes.Lexeme u 2) (sym k)
     ∙ ap (λ (xs : List ℕ). lexemes.Lexeme t (length xs)) (sym is)
 
@@ -283,12 +283,12 @@ no_end s begins none None e = e
 no_end s begins none (Some n) e = absurd (none n (nesting.found s n begins e))
 
 open_comment_lexeme : (s : List ℕ) → begins_comment s ≡ true → ((n : ℕ) → BeginsWithComment s n → ⊥)
-    → first_lexeme s ≡ lexemes.Lexeme (tokens.Broken rules.Syntax) (length s)
+    → first_model_lexeme s ≡ lexemes.Lexeme (tokens.Broken rules.Syntax) (length s)
 open_comment_lexeme [] begins none = absurd cc
 open_comment_lexeme (b ∷ bs) begins none =
     let two = nesting.two_bytes 40 41 b bs begins in
     let are : b ∷ bs ≡ 40 ∷ 42 ∷ drop 1 bs = ap (λ (x : ℕ). x ∷ bs) two.0 ∙ ap (λ (xs : List ℕ). 40 ∷ xs) two.1 in
-    ap first_lexeme are ∙ first_comment (drop 1 bs)
+    ap first_model_lexeme are ∙ first_comment (drop 1 bs)
     ∙ ap (λ (xs : List ℕ). comment_lexeme (length xs) (comment_of xs)) (sym are)
     ∙ ap (comment_lexeme (length (b ∷ bs)))
     (no_end (b ∷ bs) begins none (comment_of (b ∷ bs)) refl)
@@ -297,18 +297,18 @@ at_end : (s rest : List ℕ) → rest ≡ [] → s ++ rest ≡ s
 at_end s rest e = ap (λ (xs : List ℕ). s ++ xs) e ∙ append-nil s
 
 first_of_lexeme : (t : Token) (s rest : List ℕ) → IsModelLexeme t s rest
-    → first_lexeme (s ++ rest) ≡ lexemes.Lexeme t (length s)
+    → first_model_lexeme (s ++ rest) ≡ lexemes.Lexeme t (length s)
 first_of_lexeme t s rest (Spelled gap spells longest) = spelled_lexeme t s rest gap longest spells
 first_of_lexeme t s rest (NoToken b quote is gap none k) =
-    sized t b s (first_lexeme (s ++ rest)) is (ap (λ (xs : List ℕ). first_lexeme (xs ++ rest)) is
+    sized t b s (first_model_lexeme (s ++ rest)) is (ap (λ (xs : List ℕ). first_model_lexeme (xs ++ rest)) is
     ∙ first_of_none b rest quote (ap (λ (xs : List ℕ). begins_gap (xs ++ rest)) (sym is) ∙ gap)
     (subst (λ (xs : List ℕ). SpellsNone (xs ++ rest)) is none)
     ∙ ap (λ (u : Token). lexemes.Lexeme u 1) (sym k))
 first_of_lexeme t s rest (OpenComment begins none end k) =
-    ap first_lexeme (at_end s rest end) ∙ open_comment_lexeme s begins none
+    ap first_model_lexeme (at_end s rest end) ∙ open_comment_lexeme s begins none
     ∙ ap (λ (u : Token). lexemes.Lexeme u (length s)) (sym k)
 first_of_lexeme t s rest (OpenString inside lacks is end k) =
-    ap first_lexeme (at_end s rest end ∙ is) ∙ first_of_open inside lacks
+    ap first_model_lexeme (at_end s rest end ∙ is) ∙ first_of_open inside lacks
     ∙ ap (λ (xs : List ℕ). lexemes.Lexeme (tokens.Broken rules.Syntax) (length xs)) (sym is)
     ∙ ap (λ (u : Token). lexemes.Lexeme u (length s)) (sym k)
 
@@ -320,11 +320,11 @@ end_tokens n = refl
 
 turn : (n b : ℕ) (bs : List ℕ)
     → tokens_from 0 n (b ∷ bs)
-    ≡ after_lexeme n (first_lexeme (b ∷ bs)) (λ skip. tokens_from skip (n + 1) bs)
+    ≡ after_lexeme n (first_model_lexeme (b ∷ bs)) (λ skip. tokens_from skip (n + 1) bs)
 unfolding tokens_from
 turn n b bs = refl
 
-gap_turn : (n : ℕ) (s rest : List ℕ) → 0 < length s → first_lexeme (s ++ rest) ≡ lexemes.Layout (length s)
+gap_turn : (n : ℕ) (s rest : List ℕ) → 0 < length s → first_model_lexeme (s ++ rest) ≡ lexemes.Layout (length s)
     → tokens_from 0 n (s ++ rest) ≡ tokens_from 0 (n + length s) rest
 gap_turn n [] rest some e = absurd (omega arith)
 gap_turn n (b ∷ bs) rest some e =
@@ -335,7 +335,7 @@ gap_turn n (b ∷ bs) rest some e =
     ∙ ap (tokens_from 0 (n + suc (length bs))) (drop_at bs rest (length bs) refl)
 
 lexeme_turn : (n : ℕ) (t : Token) (s rest : List ℕ) → 0 < length s
-    → first_lexeme (s ++ rest) ≡ lexemes.Lexeme t (length s)
+    → first_model_lexeme (s ++ rest) ≡ lexemes.Lexeme t (length s)
     → tokens_from 0 n (s ++ rest)
     ≡ record { token = t; offset = n } ∷ tokens_from 0 (n + length s) rest
 lexeme_turn n t [] rest some e = absurd (omega arith)
@@ -347,16 +347,16 @@ lexeme_turn n t (b ∷ bs) rest some e =
     (bs ++ rest) (omega arith)
     ∙ ap (tokens_from 0 (n + suc (length bs))) (drop_at bs rest (length bs) refl))
 
-of_pieces : (n : ℕ) (ps : List ModelPiece) → ArePieces ps → tokens_from 0 n (text_of ps) ≡ tokens_at n ps
+of_pieces : (n : ℕ) (ps : List ModelPiece) → ArePieces ps → tokens_from 0 n (model_text_of ps) ≡ tokens_at n ps
 of_pieces n [] h = end_tokens n
 of_pieces n (Gap s ∷ ps) h =
-    gap_turn n s (text_of ps) (gap_bytes s (text_of ps) h.0) (first_gap s (text_of ps) h.0)
+    gap_turn n s (model_text_of ps) (gap_bytes s (model_text_of ps) h.0) (first_gap s (model_text_of ps) h.0)
     ∙ of_pieces (n + length s) ps h.1
 of_pieces n (Lexeme t s ∷ ps) h =
-    lexeme_turn n t s (text_of ps) (lexeme_bytes t s (text_of ps) h.0)
-    (first_of_lexeme t s (text_of ps) h.0)
+    lexeme_turn n t s (model_text_of ps) (lexeme_bytes t s (model_text_of ps) h.0)
+    (first_of_lexeme t s (model_text_of ps) h.0)
     ∙ ap (λ (qs : List TokenAt). record { token = t; offset = n } ∷ qs)
     (of_pieces (n + length s) ps h.1)
 
-pub only_cut : (bytes : List ℕ) (ps : List TokenAt) → IsModelCut bytes ps → lexing bytes ≡ ps
-only_cut bytes ps c = ap lexing (sym c.whole) ∙ of_pieces 0 c.pieces c.fine ∙ c.tokens
+pub only_cut : (bytes : List ℕ) (ps : List TokenAt) → IsModelCut bytes ps → model_lexing bytes ≡ ps
+only_cut bytes ps c = ap model_lexing (sym c.whole) ∙ of_pieces 0 c.pieces c.fine ∙ c.tokens

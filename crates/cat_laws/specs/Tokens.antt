@@ -84,15 +84,15 @@ pub data ModelPiece : Type 0 where
   Gap : (text : List ℕ) → ModelPiece
   Lexeme : (token : Token) (text : List ℕ) → ModelPiece
 
-abbrev pub text_of : List ModelPiece → List ℕ
-text_of [] = []
-text_of (Gap s ∷ ps) = s ++ text_of ps
-text_of (Lexeme t s ∷ ps) = s ++ text_of ps
+abbrev pub model_text_of : List ModelPiece → List ℕ
+model_text_of [] = []
+model_text_of (Gap s ∷ ps) = s ++ model_text_of ps
+model_text_of (Lexeme t s ∷ ps) = s ++ model_text_of ps
 
 abbrev pub ArePieces : List ModelPiece → Type 0
 ArePieces [] = Unit {0}
-ArePieces (Gap s ∷ ps) = IsModelGap s (text_of ps) × ArePieces ps
-ArePieces (Lexeme t s ∷ ps) = IsModelLexeme t s (text_of ps) × ArePieces ps
+ArePieces (Gap s ∷ ps) = IsModelGap s (model_text_of ps) × ArePieces ps
+ArePieces (Lexeme t s ∷ ps) = IsModelLexeme t s (model_text_of ps) × ArePieces ps
 
 -- the tokens of pieces that begin at an offset, and the end
 abbrev pub tokens_at : ℕ → List ModelPiece → List TokenAt
@@ -106,7 +106,7 @@ tokens_at n (Lexeme t s ∷ ps) = record { token = t; offset = n } ∷ tokens_at
 pub record IsModelCut (bytes : List ℕ) (ps : List TokenAt) : Type 0 where
   pub pieces : List ModelPiece
   pub fine : ArePieces pieces
-  pub whole : text_of pieces ≡ bytes
+  pub whole : model_text_of pieces ≡ bytes
   pub tokens : tokens_at 0 pieces ≡ ps
 
 -- each token begins behind the one before it, from this offset on

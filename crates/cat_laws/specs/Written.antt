@@ -2,14 +2,14 @@
 use Rattle.std.specs.Prelude.{◌≡◌, ℕ, ◌+◌, ◌<◌, ◌≤◌, max, List, [], ◌∷◌, map, true, Option, Some, None, length, slice_index}
 use Rattle.cat_tokens.specs.declared.token.Token.TheVariants as tokens
 use Rattle.text_values.specs.ModelValue.{Term, Terms, Atom, AllEvents, EmptyRelation, EmptySet, Join, Mark, Not, On, Apply, NoTerm, OneMore, Clause, Binding, Function, Checking, Flagging, Showing, Including}
-use Rattle.cat_tokens.specs.Lexer.{is_name_byte, lexing}
+use Rattle.cat_tokens.specs.Lexer.{is_name_byte, model_lexing}
 use Rattle.text_values.specs.Letters.{is_letter}
 use Rattle.cat_tokens.specs.Words.{word_token}
 use Rattle.cat_grammar.specs.declared.form.Form.TheVariants as forms
-use Rattle.cat_grammar.specs.Grammar.{Limits, limits, Means, has_no_effect}
-use Rattle.cat_tokens.specs.Tokens.{tokens_of}
+use Rattle.cat_grammar.specs.Grammar.{Limits, model_limits, Means, has_no_effect}
+use Rattle.cat_tokens.specs.Tokens.{model_tokens_of}
 use Rattle.cat_printing.specs.Printing.{is_binary, is_compound, printed_item, printed_model}
-use Rattle.cat_grammar.specs.Reads.{Reads}
+use Rattle.cat_grammar.specs.Reads.{ReadsClauses}
 use Rattle.text_values.specs.Layout.{most_bytes}
 use Rattle.text_laws.specs.Counts.{one_where}
 
@@ -73,10 +73,10 @@ AreWritable (c ∷ cs) = IsWritable c × AreWritable cs
 
 -- the bytes are a text of this item, or of a model with these items, where limits are wide enough
 abbrev pub IsTextOfItem : List ℕ → Clause → Type 0
-IsTextOfItem bytes c = (most : Limits) × Means most forms.Item (tokens_of (lexing bytes)) (c ∷ [])
+IsTextOfItem bytes c = (most : Limits) × Means most forms.Item (model_tokens_of (model_lexing bytes)) (c ∷ [])
 
 abbrev pub IsTextOfModel : List ℕ → List Clause → Type 0
-IsTextOfModel bytes cs = (most : Limits) × Means most forms.Model (tokens_of (lexing bytes)) cs
+IsTextOfModel bytes cs = (most : Limits) × Means most forms.Model (model_tokens_of (model_lexing bytes)) cs
 
 -- ---- the limits of the format
 
@@ -156,13 +156,13 @@ KeepLimits most (c ∷ cs) = KeepsLimits most c × KeepLimits most cs
 -- the printed item is no longer than a text may be, and keeps the limits
 pub record IsItemWithinLimits (c : Clause) : Type 0 where
   pub short : length (printed_item c) ≤ most_bytes
-  pub fits : KeepsLimits limits c
+  pub fits : KeepsLimits model_limits c
 
 -- so the printed model, with no more items than a model may have
 pub record IsModelWithinLimits (cs : List Clause) : Type 0 where
   pub short : length (printed_model cs) ≤ most_bytes
-  pub few : length cs ≤ limits.items
-  pub fits : KeepLimits limits cs
+  pub few : length cs ≤ model_limits.items
+  pub fits : KeepLimits model_limits cs
 
 -- ---- what was read before
 
@@ -170,7 +170,7 @@ pub record IsModelWithinLimits (cs : List Clause) : Type 0 where
 -- and have more parentheses.
 abbrev pub AreShallow : List Clause → Type 0
 AreShallow [] = Unit {0}
-AreShallow (c ∷ cs) = (deepest (bodies c) ≤ limits.nesting) × AreShallow cs
+AreShallow (c ∷ cs) = (deepest (bodies c) ≤ model_limits.nesting) × AreShallow cs
 
 pub record ItemStaysWithin (c : Clause) : Type 0 where
   pub short : length (printed_item c) ≤ most_bytes
@@ -182,7 +182,7 @@ pub record ModelStaysWithin (cs : List Clause) : Type 0 where
 
 -- the reader reads this item from these bytes, or these items of a model
 abbrev pub ReadsItem : List ℕ → Clause → Type 0
-ReadsItem bytes c = Reads forms.Item bytes (c ∷ [])
+ReadsItem bytes c = ReadsClauses forms.Item bytes (c ∷ [])
 
 abbrev pub ReadsModel : List ℕ → List Clause → Type 0
-ReadsModel bytes cs = Reads forms.Model bytes cs
+ReadsModel bytes cs = ReadsClauses forms.Model bytes cs

@@ -5,7 +5,7 @@ ghost use Rattle.text_values.specs.ModelValue.{Clause};
 ghost use Rattle.cat_printing.specs.Printing.{printed_item, printed_model};
 ghost use Rattle.cat_tokens.specs.declared.token.Token.{Token};
 ghost use Rattle.cat_tokens.specs.declared.token.Token.TheVariants as tokens;
-ghost use Rattle.cat_tokens.specs.Lexer.{lexing};
+ghost use Rattle.cat_tokens.specs.Lexer.{model_lexing};
 ghost use Rattle.cat_tokens.specs.Tokens.{TokenAt};
 ghost use Rattle.cat_grammar.specs.declared.form.Form.{Form};
 ghost use Rattle.cat_grammar.specs.Grammar.{Limits, is_rec_or_and};
@@ -54,11 +54,12 @@ pub fn read_is_written()
 /// them (blanks, line ends and comments) they cover the text, in rising order.
 pub fn tokens_cover_the_text()
     // The text is cut into such pieces, and its tokens are theirs.
-    ensures cut { (bytes : List ℕ) → IsModelCut bytes (lexing bytes) }
+    ensures cut { (bytes : List ℕ) → IsModelCut bytes (model_lexing bytes) }
     // It is cut in no other way.
-    ensures only { (bytes : List ℕ) (ps : List TokenAt) → IsModelCut bytes ps → lexing bytes ≡ ps }
+    ensures only { (bytes : List ℕ) (ps : List TokenAt) → IsModelCut bytes ps → model_lexing bytes
+        ≡ ps }
     // Each token begins behind the one before it.
-    ensures rising { (bytes : List ℕ) → AreModelRising 0 (lexing bytes) }
+    ensures rising { (bytes : List ℕ) → AreModelRising 0 (model_lexing bytes) }
 {}
 
 /// Two refusals have the number of what would stand there. Behind `include` a model has the string

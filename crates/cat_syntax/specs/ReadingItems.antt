@@ -55,15 +55,15 @@ Fails errors.OutOfMemory made = Unit {0}
 Fails (errors.Refused k) made = made ≡ Err (machine.Here k)
 Fails (errors.RefusedBefore k) made = made ≡ Err (machine.Before k)
 
-abbrev pub Gives : {X Y : Type 0} → (X → Y) → Result X StepError → Result Y machine.Fault → Type 0
-Gives view (Ok x) made = made ≡ Ok (view x)
-Gives view (Err e) made = Fails e made
+abbrev pub GivesRead : {X Y : Type 0} → (X → Y) → Result X StepError → Result Y machine.Fault → Type 0
+GivesRead view (Ok x) made = made ≡ Ok (view x)
+GivesRead view (Err e) made = Fails e made
 
 -- the part that a step leads to, beside the items
-abbrev pub Steps : Result code_part.Part StepError → List Item → Result machine.ItemState machine.Fault
+abbrev pub ItemSteps : Result code_part.Part StepError → List Item → Result machine.ItemState machine.Fault
     → Type 0
-Steps (Ok p) is made = made ≡ Ok (record { items = clauses_of is; part = part_of p })
-Steps (Err e) is made = Fails e made
+ItemSteps (Ok p) is made = made ≡ Ok (record { items = clauses_of is; part = part_of p })
+ItemSteps (Err e) is made = Fails e made
 
 abbrev pub is_body : code_part.Part → Bool
 is_body parts.Title = false

@@ -9,11 +9,11 @@ use Rattle.cat_syntax.specs.declared.fault.CatFault.TheVariants as faults
 use Rattle.cat_grammar.specs.declared.form.Form.{Form}
 use Rattle.cat_syntax.specs.declared.items.Parser.{Parser}
 use Rattle.text_values.specs.declared.model.Item.{Item}
-use Rattle.cat_tokens.specs.Lexer.{lexing}
+use Rattle.cat_tokens.specs.Lexer.{model_lexing}
 use Rattle.text_values.specs.ModelValue.{Clause}
-use Rattle.cat_grammar.specs.Grammar.{limits}
-use Rattle.cat_grammar.specs.ItemMachine.{start}
-use Rattle.cat_grammar.specs.Running.{ItemsResult, run, items_of}
+use Rattle.cat_grammar.specs.Grammar.{model_limits}
+use Rattle.cat_grammar.specs.ItemMachine.{clause_start}
+use Rattle.cat_grammar.specs.Running.{ItemsResult, run_items, items_of}
 use Rattle.text_values.specs.ModelValues.{clauses_of}
 use Rattle.cat_syntax.specs.ParserState.{state_of}
 
@@ -21,7 +21,7 @@ use Rattle.cat_syntax.specs.ParserState.{state_of}
 unfoldable pub reading : Form → List ℕ → Result (List Clause) (CatRule × ℕ)
 reading form bytes =
     if nat_lt 65536 (length bytes) then Err (TooLong, 65536)
-    else items_of (run limits form 0 (start form) (lexing bytes))
+    else items_of (run_items model_limits form 0 (clause_start form) (model_lexing bytes))
 
 -- ---- what the code answers
 

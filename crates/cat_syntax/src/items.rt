@@ -1,10 +1,10 @@
 //! Reads items, token by token.
 
 ghost use Rattle.std.specs.Prelude.{◌≡◌, false};
-ghost use Rattle.cat_grammar.specs.Grammar.{limits, has_no_effect};
+ghost use Rattle.cat_grammar.specs.Grammar.{model_limits, has_no_effect};
 ghost use Rattle.text_values.specs.ModelValues.{term_of, clause_of, clauses_of};
-ghost use Rattle.cat_grammar.specs.ItemMachine.{begin_item, excess, unless, item_or_end, after_title, after_tilde, after_flag, after_include, finished, item_ended, item_ended_by_tilde, after_body, and_read, label_start, shown_on, after_as, after_show_as, after_show_label, step_part, start, step};
-ghost use Rattle.cat_syntax.specs.ReadingItems.{show_of, head_of, part_of, is_body, Gives, Steps};
+ghost use Rattle.cat_grammar.specs.ItemMachine.{begin_item, excess, unless, item_or_end, after_title, after_tilde, after_flag, after_include, finished, clause_ended, item_ended_by_tilde, after_body, and_read, label_start, shown_on, after_as, after_show_as, after_show_label, step_part, clause_start, clause_step};
+ghost use Rattle.cat_syntax.specs.ReadingItems.{show_of, head_of, part_of, is_body, GivesRead, ItemSteps};
 
 use crate::lets::{LetPart, after_let};
 use crate::parts::{Head, Part, ShowHead, body_start, check_body, show_body};
@@ -20,7 +20,7 @@ pub const MAX_ITEMS: usize = 256;
 
 // The first token of an item.
 fn item_start(alloc: Global, token: Token) -> Result<Part, StepError>
-    ensures { Gives part_of result (begin_item token) }
+    ensures { GivesRead part_of result (begin_item token) }
 {
     match token {
         Token::Let => Ok(Part::Let(LetPart::Keyword)),
@@ -36,7 +36,7 @@ fn item_start(alloc: Global, token: Token) -> Result<Part, StepError>
 
 // The rule that one more item breaks, if it breaks one.
 fn excess(form: Form, count: usize) -> Option<CatRule>
-    ensures { result ≡ excess limits form count }
+    ensures { result ≡ excess model_limits form count }
 {
     match form {
         Form::Model => {
@@ -58,7 +58,8 @@ fn excess(form: Form, count: usize) -> Option<CatRule>
 
 // The item that begins so, unless it is one too many.
 fn unless_excess(form: Form, count: usize, part: Part) -> Result<Part, StepError>
-    ensures { Gives part_of result (unless (excess limits form count) (Ok (part_of part))) }
+    ensures { GivesRead part_of result (unless (excess model_limits form count) (Ok
+        (part_of part))) }
 {
     match excess(form, count) {
         Some(rule) => Err(StepError::Refused(rule)),
@@ -68,7 +69,7 @@ fn unless_excess(form: Form, count: usize, part: Part) -> Result<Part, StepError
 
 // A token where an item may begin or the text may end.
 fn item_or_end(alloc: Global, form: Form, count: usize, token: Token) -> Result<Part, StepError>
-    ensures { Gives part_of result (item_or_end limits form count token) }
+    ensures { GivesRead part_of result (item_or_end model_limits form count token) }
 {
     match token {
         Token::End => {
@@ -86,7 +87,7 @@ fn item_or_end(alloc: Global, form: Form, count: usize, token: Token) -> Result<
 
 // The first token of a text, which may be a title.
 fn title_read(alloc: Global, form: Form, count: usize, token: Token) -> Result<Part, StepError>
-    ensures { Gives part_of result (after_title limits form count token) }
+    ensures { GivesRead part_of result (after_title model_limits form count token) }
 {
     match token {
         Token::Name(_) => Ok(Part::Start),
@@ -97,7 +98,7 @@ fn title_read(alloc: Global, form: Form, count: usize, token: Token) -> Result<P
 
 // The check word after `~`.
 fn tilde_read(flagged: bool, token: Token) -> Result<Part, StepError>
-    ensures { Gives part_of result (after_tilde flagged token) }
+    ensures { GivesRead part_of result (after_tilde flagged token) }
 {
     match token {
         Token::Check(word) => Ok(check_body(flagged, true, word)),
@@ -106,7 +107,7 @@ fn tilde_read(flagged: bool, token: Token) -> Result<Part, StepError>
 }
 
 fn flag_read(token: Token) -> Result<Part, StepError>
-    ensures { Gives part_of result (after_flag token) }
+    ensures { GivesRead part_of result (after_flag token) }
 {
     match token {
         Token::Tilde => Ok(Part::AfterTilde(true)),
@@ -126,7 +127,7 @@ fn has_no_effect(path: &[u8]) -> bool
 }
 
 fn include_read(items: &mut Vec<Item>, token: Token) -> Result<Part, StepError>
-    ensures { Steps result items.new.items (after_include (clauses_of items.old.items) token) }
+    ensures { ItemSteps result items.new.items (after_include (clauses_of items.old.items) token) }
 {
     match token {
         Token::Quoted(path) => {
@@ -142,7 +143,7 @@ fn include_read(items: &mut Vec<Item>, token: Token) -> Result<Part, StepError>
 
 // The item that ends with this expression. A flag does not end without its label.
 fn finished(head: Head, body: Expression, rule: CatRule) -> Result<Item, StepError>
-    ensures { Gives clause_of result (finished (head_of head) (term_of body) rule) }
+    ensures { GivesRead clause_of result (finished (head_of head) (term_of body) rule) }
 {
     match head {
         Head::Bound(group, name) => Ok(group.with(name, body)?.into_item()),
@@ -173,7 +174,8 @@ fn item_ended(
     body: Expression,
     token: Token,
 ) -> Result<Part, StepError>
-    ensures { Steps result items.new.items (item_ended limits form (clauses_of items.old.items)
+    ensures { ItemSteps result items.new.items (clause_ended model_limits form
+        (clauses_of items.old.items)
         (head_of head) (term_of body) token) }
 {
     let item = finished(head, body, token.rule())?;
@@ -189,7 +191,7 @@ fn item_ended_by_tilde(
     body: Expression,
     word: CheckWord,
 ) -> Result<Part, StepError>
-    ensures { Steps result items.new.items (item_ended_by_tilde limits form
+    ensures { ItemSteps result items.new.items (item_ended_by_tilde model_limits form
         (clauses_of items.old.items) (head_of head) (term_of body) word) }
 {
     let item = finished(head, body, CatRule::Syntax)?;
@@ -210,7 +212,8 @@ fn body_read(
     body: Expression,
     token: Token,
 ) -> Result<Part, StepError>
-    ensures { Steps result items.new.items (after_body limits form (clauses_of items.old.items)
+    ensures { ItemSteps result items.new.items (after_body model_limits form
+        (clauses_of items.old.items)
         (head_of head) (term_of body) token) }
 {
     match token {
@@ -222,7 +225,7 @@ fn body_read(
 }
 
 fn and_read(head: Head, body: Expression) -> Result<Part, StepError>
-    ensures { Gives part_of result (and_read (head_of head) (term_of body)) }
+    ensures { GivesRead part_of result (and_read (head_of head) (term_of body)) }
 {
     match head {
         Head::Bound(group, name) => Ok(Part::Let(LetPart::And(group.with(name, body)?))),
@@ -233,7 +236,7 @@ fn and_read(head: Head, body: Expression) -> Result<Part, StepError>
 }
 
 fn label_start(head: Head, body: Expression) -> Result<Part, StepError>
-    ensures { Gives part_of result (label_start (head_of head) (term_of body)) }
+    ensures { GivesRead part_of result (label_start (head_of head) (term_of body)) }
 {
     match head {
         Head::Check(head) => Ok(Part::Label(head, body)),
@@ -244,7 +247,7 @@ fn label_start(head: Head, body: Expression) -> Result<Part, StepError>
 }
 
 fn comma_read(head: Head, body: Expression) -> Result<Part, StepError>
-    ensures { Gives part_of result (shown_on (head_of head) (term_of body)) }
+    ensures { GivesRead part_of result (shown_on (head_of head) (term_of body)) }
 {
     match head {
         Head::Show(head) => {
@@ -264,7 +267,7 @@ fn label_read(
     body: Expression,
     token: Token,
 ) -> Result<Part, StepError>
-    ensures { Steps result items.new.items (after_as (clauses_of items.old.items) head
+    ensures { ItemSteps result items.new.items (after_as (clauses_of items.old.items) head
         (term_of body) token) }
 {
     match token {
@@ -287,7 +290,7 @@ fn label_read(
 
 // The label of a shown expression.
 fn show_label_read(head: ShowHead, body: Expression, token: Token) -> Result<Part, StepError>
-    ensures { Gives part_of result (after_show_as (show_of head) (term_of body) token) }
+    ensures { GivesRead part_of result (after_show_as (show_of head) (term_of body) token) }
 {
     match token {
         Token::Name(label) => Ok(Part::AfterShowLabel(head.with(body, Some(label))?)),
@@ -303,7 +306,7 @@ fn after_show_label(
     head: ShowHead,
     token: Token,
 ) -> Result<Part, StepError>
-    ensures { Steps result items.new.items (after_show_label limits form
+    ensures { ItemSteps result items.new.items (after_show_label model_limits form
         (clauses_of items.old.items) (show_of head) token) }
 {
     match token {
@@ -323,8 +326,8 @@ fn part_after(
     part: Part,
     token: Token,
 ) -> Result<Part, StepError>
-    ensures { is_body part ≡ false → Steps result items.new.items
-        (step_part limits form (clauses_of items.old.items) (part_of part) token) }
+    ensures { is_body part ≡ false → ItemSteps result items.new.items
+        (step_part model_limits form (clauses_of items.old.items) (part_of part) token) }
 {
     match part {
         Part::Title => title_read(alloc, form, items.len(), token),
@@ -355,11 +358,11 @@ pub struct Parser {
 impl Parser {
     ghost use Rattle.cat_syntax.specs.declared.parts.Head.{Head};
     ghost use Rattle.cat_expressions.specs.OpenReading.{whole_of};
-    ghost use Rattle.cat_syntax.specs.ParserState.{state_of, AreSteps, IsBody};
+    ghost use Rattle.cat_syntax.specs.ParserState.{state_of, IsItemStep, IsBody};
 
     /// The reader before a text of this form.
     pub fn new(alloc: Global, form: Form) -> Parser
-        ensures start { state_of result ≡ start form }
+        ensures start { state_of result ≡ clause_start form }
         ensures form { result.form ≡ form }
     {
         let part = match form {
@@ -378,8 +381,8 @@ impl Parser {
     /// The step over a token. Errors: out of memory, or the rule that this token or the one before
     /// it breaks; the parser is then to be dropped.
     pub fn step(&mut self, token: Token) -> Result<(), StepError>
-        ensures steps { AreSteps result self.new
-            (step limits self.old.form (state_of self.old) token) }
+        ensures steps { IsItemStep result self.new
+            (clause_step model_limits self.old.form (state_of self.old) token) }
         ensures form { self.new.form ≡ self.old.form }
     {
         if !self.part.is_body() {
@@ -405,7 +408,8 @@ impl Parser {
     // A token that stands in no expression.
     fn part_step(&mut self, token: Token) -> Result<(), StepError>
         ensures steps { is_body self.old.part ≡ false
-            → AreSteps result self.new (step limits self.old.form (state_of self.old) token) }
+            → IsItemStep result self.new (clause_step model_limits self.old.form
+            (state_of self.old) token) }
         ensures form { self.new.form ≡ self.old.form }
     {
         let part = mem::replace(&mut self.part, Part::Done);
@@ -417,7 +421,7 @@ impl Parser {
     // A token after an item's expression.
     fn body_ended(&mut self, token: Token) -> Result<(), StepError>
         ensures steps { (h : Head) → IsBody h self.old.part
-            → AreSteps result self.new (after_body limits self.old.form
+            → IsItemStep result self.new (after_body model_limits self.old.form
             (clauses_of self.old.items.items) (head_of h)
             (whole_of self.old.expression.expected) token) }
         ensures form { self.new.form ≡ self.old.form }
@@ -437,7 +441,7 @@ impl Parser {
     // The `~` of the next item and its check word, after an item's expression.
     fn body_ended_by_tilde(&mut self, word: CheckWord) -> Result<(), StepError>
         ensures steps { (h : Head) → IsBody h self.old.part
-            → AreSteps result self.new (item_ended_by_tilde limits self.old.form
+            → IsItemStep result self.new (item_ended_by_tilde model_limits self.old.form
             (clauses_of self.old.items.items) (head_of h)
             (whole_of self.old.expression.expected) word) }
         ensures form { self.new.form ≡ self.old.form }

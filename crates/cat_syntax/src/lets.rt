@@ -1,10 +1,10 @@
 //! Reads the heads of a `let`.
 
 ghost use Rattle.std.specs.Prelude.{◌≡◌, IfOk};
-ghost use Rattle.cat_grammar.specs.Grammar.{limits};
+ghost use Rattle.cat_grammar.specs.Grammar.{model_limits};
 ghost use Rattle.text_values.specs.ModelValues.{term_of, clause_of};
 ghost use Rattle.cat_grammar.specs.ItemMachine.{fresh, extended, group_clause, after_keyword, bound_name, parameter_read, after_parameter, after_let_name, after_bound, after_parameters, after_let};
-ghost use Rattle.cat_syntax.specs.ReadingItems.{group_of, let_of, part_of, Gives};
+ghost use Rattle.cat_syntax.specs.ReadingItems.{group_of, let_of, part_of, GivesRead};
 
 use crate::parts::{Head, Part, body_start};
 use cat_expressions::StepError;
@@ -85,7 +85,7 @@ impl Group {
 
 // A token after `let`.
 fn keyword_read(alloc: Global, token: Token) -> Result<Part, StepError>
-    ensures { Gives part_of result (after_keyword token) }
+    ensures { GivesRead part_of result (after_keyword token) }
 {
     match token {
         Token::Rec => Ok(Part::Let(LetPart::And(Group::new(alloc, true)))),
@@ -96,7 +96,7 @@ fn keyword_read(alloc: Global, token: Token) -> Result<Part, StepError>
 
 // The next name of a group.
 fn bound_name(group: Group, token: Token) -> Result<Part, StepError>
-    ensures { Gives part_of result (bound_name limits (group_of group) token) }
+    ensures { GivesRead part_of result (bound_name model_limits (group_of group) token) }
 {
     match token {
         Token::Name(name) => {
@@ -110,7 +110,7 @@ fn bound_name(group: Group, token: Token) -> Result<Part, StepError>
 }
 
 fn parameter_read(name: Name, parameters: Vec<Name>, token: Token) -> Result<Part, StepError>
-    ensures { Gives part_of result (parameter_read limits name parameters.items token) }
+    ensures { GivesRead part_of result (parameter_read model_limits name parameters.items token) }
 {
     match token {
         Token::Name(parameter) => {
@@ -126,7 +126,7 @@ fn parameter_read(name: Name, parameters: Vec<Name>, token: Token) -> Result<Par
 }
 
 fn after_parameter(name: Name, parameters: Vec<Name>, token: Token) -> Result<Part, StepError>
-    ensures { Gives part_of result (after_parameter name parameters.items token) }
+    ensures { GivesRead part_of result (after_parameter name parameters.items token) }
 {
     match token {
         Token::Comma => Ok(Part::Let(LetPart::Parameter(name, parameters))),
@@ -137,7 +137,7 @@ fn after_parameter(name: Name, parameters: Vec<Name>, token: Token) -> Result<Pa
 
 // A token after `let` and a name.
 fn after_name(alloc: Global, name: Name, token: Token) -> Result<Part, StepError>
-    ensures { Gives part_of result (after_let_name name token) }
+    ensures { GivesRead part_of result (after_let_name name token) }
 {
     match token {
         Token::Equals => Ok(body_start(Head::Bound(Group::new(alloc, false), name))),
@@ -149,7 +149,7 @@ fn after_name(alloc: Global, name: Name, token: Token) -> Result<Part, StepError
 // A token after a name that is no function's. A parenthesis would make it one, which is not
 // supported here.
 fn after_bound(group: Group, name: Name, token: Token) -> Result<Part, StepError>
-    ensures { Gives part_of result (after_bound (group_of group) name token) }
+    ensures { GivesRead part_of result (after_bound (group_of group) name token) }
 {
     match token {
         Token::Equals => Ok(body_start(Head::Bound(group, name))),
@@ -159,7 +159,7 @@ fn after_bound(group: Group, name: Name, token: Token) -> Result<Part, StepError
 }
 
 fn after_parameters(name: Name, parameters: Vec<Name>, token: Token) -> Result<Part, StepError>
-    ensures { Gives part_of result (after_parameters name parameters.items token) }
+    ensures { GivesRead part_of result (after_parameters name parameters.items token) }
 {
     match token {
         Token::Equals => Ok(body_start(Head::Function(name, parameters))),
@@ -170,7 +170,7 @@ fn after_parameters(name: Name, parameters: Vec<Name>, token: Token) -> Result<P
 /// The step over a token in the head of a `let`. Errors: out of memory, or the rule that the token
 /// breaks.
 pub fn after_let(alloc: Global, part: LetPart, token: Token) -> Result<Part, StepError>
-    ensures { Gives part_of result (after_let limits (let_of part) token) }
+    ensures { GivesRead part_of result (after_let model_limits (let_of part) token) }
 {
     match part {
         LetPart::Keyword => keyword_read(alloc, token),

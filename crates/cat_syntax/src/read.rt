@@ -2,14 +2,14 @@
 
 ghost use Rattle.std.specs.Prelude.{◌≡◌, ℕ, ◌<◌, ◌≤◌, List, [], ◌∷◌, length, IfOk, IfErr, MatchResult};
 ghost use Rattle.cat_syntax.specs.Faults.{HasCatOffset, IsCatTooLong, IsCatMemory, IsCatFaultOf};
-ghost use Rattle.cat_tokens.specs.Lexer.{lexing};
-ghost use Rattle.cat_grammar.specs.Grammar.{limits};
-ghost use Rattle.cat_grammar.specs.ItemMachine.{step};
+ghost use Rattle.cat_tokens.specs.Lexer.{model_lexing};
+ghost use Rattle.cat_grammar.specs.Grammar.{model_limits};
+ghost use Rattle.cat_grammar.specs.ItemMachine.{clause_step};
 ghost use Rattle.cat_syntax.specs.ParserState.{state_of};
 ghost use Rattle.text_values.specs.ModelValues.{clause_of, clauses_of};
 ghost use Rattle.cat_syntax.specs.ReadingTexts.{reading, StepsAt, ReadsTo};
-ghost use Rattle.cat_grammar.specs.Reads.{Reads};
-ghost use Rattle.cat_grammar.specs.Running.{run, with_offset};
+ghost use Rattle.cat_grammar.specs.Reads.{ReadsClauses};
+ghost use Rattle.cat_grammar.specs.Running.{run_items, with_offset};
 ghost use Rattle.text_values.specs.ModelValue.{Clause};
 
 use crate::fault::CatFault;
@@ -23,7 +23,7 @@ use text_values::{Item, MAX_BYTES, ModelText};
 // A token at an offset; the token before it began at `before`.
 fn step_at(parser: &mut Parser, token: Token, before: usize, offset: usize) -> Result<(), CatFault>
     ensures steps { StepsAt result parser.new (with_offset before offset
-        (step limits parser.old.form (state_of parser.old) token)) }
+        (clause_step model_limits parser.old.form (state_of parser.old) token)) }
     ensures form { parser.new.form ≡ parser.old.form }
     ensures within { IfErr result (λ e. (n : ℕ) → before ≤ n → offset ≤ n → HasCatOffset n e) }
 {
@@ -40,8 +40,9 @@ fn step_at(parser: &mut Parser, token: Token, before: usize, offset: usize) -> R
 
 // Gives the parser the tokens of a text and its end.
 fn read_tokens(alloc: Global, bytes: &[u8], parser: &mut Parser) -> Result<(), CatFault>
-    ensures steps { StepsAt result parser.new (run limits parser.old.form 0 (state_of parser.old)
-        (lexing bytes.now)) }
+    ensures steps { StepsAt result parser.new (run_items model_limits parser.old.form 0
+        (state_of parser.old)
+        (model_lexing bytes.now)) }
     ensures within { IfErr result (λ e. HasCatOffset (length bytes.now) e) }
 {
     let mut before = 0;
@@ -84,8 +85,8 @@ fn read_all(alloc: Global, bytes: &[u8], form: Form) -> Result<Vec<Item>, CatFau
 
 // The items of a text, as the grammar has them.
 fn read_text(alloc: Global, bytes: &[u8], form: Form) -> Result<Vec<Item>, CatFault>
-    ensures found { IfOk result (λ v. Reads form bytes.now (clauses_of v.items)) }
-    ensures only { (v : List Clause) → Reads form bytes.now v
+    ensures found { IfOk result (λ v. ReadsClauses form bytes.now (clauses_of v.items)) }
+    ensures only { (v : List Clause) → ReadsClauses form bytes.now v
         → MatchResult result (λ w. clauses_of w.items ≡ v) IsCatMemory }
     ensures fault { IfErr result (IsCatFaultOf form bytes.now) }
     ensures within { IfErr result (λ e. HasCatOffset (length bytes.now) e) }
@@ -102,9 +103,10 @@ fn read_text(alloc: Global, bytes: &[u8], form: Form) -> Result<Vec<Item>, CatFa
 /// of memory.
 pub fn read_model(alloc: Global, bytes: &[u8]) -> Result<ModelText, CatFault>
     // What is read is what the text means.
-    ensures found { IfOk result (λ m. Reads Form.Model bytes.now (clauses_of m.items.items)) }
+    ensures found { IfOk result (λ m. ReadsClauses Form.Model bytes.now
+        (clauses_of m.items.items)) }
     // What means some items is read so, unless memory runs out.
-    ensures only { (v : List Clause) → Reads Form.Model bytes.now v
+    ensures only { (v : List Clause) → ReadsClauses Form.Model bytes.now v
         → MatchResult result (λ m. clauses_of m.items.items ≡ v) IsCatMemory }
     // A refusal has the offset of the first token that cannot stand, and the rule that is broken
     // there.
@@ -125,9 +127,9 @@ pub fn read_model(alloc: Global, bytes: &[u8]) -> Result<ModelText, CatFault>
 /// offset, or out of memory.
 pub fn read_item(alloc: Global, bytes: &[u8]) -> Result<Item, CatFault>
     // What is read is the item that the text means.
-    ensures found { IfOk result (λ item. Reads Form.Item bytes.now (clause_of item ∷ [])) }
+    ensures found { IfOk result (λ item. ReadsClauses Form.Item bytes.now (clause_of item ∷ [])) }
     // What means an item is read so, unless memory runs out.
-    ensures only { (v : Clause) → Reads Form.Item bytes.now (v ∷ [])
+    ensures only { (v : Clause) → ReadsClauses Form.Item bytes.now (v ∷ [])
         → MatchResult result (λ item. clause_of item ≡ v) IsCatMemory }
     // A refusal has the offset of the first token that cannot stand, and the rule that is broken
     // there.

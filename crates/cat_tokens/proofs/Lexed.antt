@@ -8,7 +8,7 @@ use Rattle.cat_tokens.specs.declared.token.Token.TheVariants as tokens
 use Rattle.cat_tokens.specs.declared.lexer.NextLexeme.{NextLexeme}
 use Rattle.cat_tokens.specs.declared.lexer.NextLexeme.TheVariants.{Layout, Lexeme}
 use Rattle.cat_tokens.specs.Tokens.{TokenAt}
-use Rattle.cat_tokens.specs.Lexer.{first_lexeme, after_lexeme, tokens_from}
+use Rattle.cat_tokens.specs.Lexer.{first_model_lexeme, after_lexeme, tokens_from}
 
 -- passing over bytes
 pub tokens_skip : (k offset : ℕ) (bs : List ℕ) → k ≤ length bs
@@ -52,23 +52,23 @@ module _ (bytes : List ℕ) (p n q : ℕ) (lt : p < length bytes)
           tokens_past (n - 1) (p + 1) (drop (p + 1) bytes) le ∙ ap (λ k. tokens_from 0 k []) e
           ∙ ap (tokens_from 0 q) (sym (drop_all q bytes (omega arith)))
 
-  opens_with : (f : NextLexeme) → f ≡ first_lexeme (drop p bytes)
+  opens_with : (f : NextLexeme) → f ≡ first_model_lexeme (drop p bytes)
       → tokens_from 0 p (drop p bytes)
       ≡ after_lexeme p f (λ skip. tokens_from skip (p + 1) (drop (p + 1) bytes))
   unfolding tokens_from
   opens_with f e =
       at_drop_more (tokens_from 0 p) bytes p 0 lt
       ∙ ap (λ (g : NextLexeme). after_lexeme p g (λ skip. tokens_from skip (p + 1) (drop (p + 1) bytes)))
-      (ap first_lexeme (sym (drop_more bytes p 0 lt)) ∙ sym e)
+      (ap first_model_lexeme (sym (drop_more bytes p 0 lt)) ∙ sym e)
 
-  pub layout_turn : (f : NextLexeme) → f ≡ first_lexeme (drop p bytes) → f ≡ Layout n
+  pub layout_turn : (f : NextLexeme) → f ≡ first_model_lexeme (drop p bytes) → f ≡ Layout n
       → tokens_from 0 p (drop p bytes) ≡ tokens_from 0 q (drop q bytes)
   layout_turn f e k =
       opens_with f e
       ∙ ap (λ (g : NextLexeme). after_lexeme p g (λ skip. tokens_from skip (p + 1) (drop (p + 1) bytes)))
       k ∙ next
 
-  pub lexeme_turn : (f : NextLexeme) (t : Token) → f ≡ first_lexeme (drop p bytes) → f ≡ Lexeme t n
+  pub lexeme_turn : (f : NextLexeme) (t : Token) → f ≡ first_model_lexeme (drop p bytes) → f ≡ Lexeme t n
       → tokens_from 0 p (drop p bytes)
       ≡ record { token = t; offset = p } ∷ tokens_from 0 q (drop q bytes)
   lexeme_turn f t e k =

@@ -68,8 +68,8 @@ sign_lexeme bs =
     else Lexeme (sign_token (slice_index bs 0)) 1)
 
 -- what a text begins with, and how many bytes it takes
-unfoldable pub first_lexeme : List ℕ → NextLexeme
-first_lexeme bs =
+unfoldable pub first_model_lexeme : List ℕ → NextLexeme
+first_model_lexeme bs =
     if is_layout (slice_index bs 0) then Layout 1 else (
     if is_letter (slice_index bs 0) then word_lexeme bs (position_or_len ends_name bs) else (
     if slice_index bs 0 == 47 && slice_index bs 1 == 47 then Layout (position_or_len is_line_end bs)
@@ -90,7 +90,7 @@ unfoldable pub tokens_from : ℕ → ℕ → List ℕ → List TokenAt
 tokens_from skip offset [] = record { token = tokens.End; offset = offset } ∷ []
 tokens_from (suc skip) offset (b ∷ bs) = tokens_from skip (offset + 1) bs
 tokens_from zero offset (b ∷ bs) =
-    after_lexeme offset (first_lexeme (b ∷ bs)) (λ skip. tokens_from skip (offset + 1) bs)
+    after_lexeme offset (first_model_lexeme (b ∷ bs)) (λ skip. tokens_from skip (offset + 1) bs)
 
-abbrev pub lexing : List ℕ → List TokenAt
-lexing bytes = tokens_from 0 0 bytes
+abbrev pub model_lexing : List ℕ → List TokenAt
+model_lexing bytes = tokens_from 0 0 bytes

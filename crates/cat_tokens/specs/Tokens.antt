@@ -14,14 +14,14 @@ use Rattle.cat_tokens.specs.declared.token.Token.{Token}
 use Rattle.cat_tokens.specs.declared.token.Token.TheVariants as tokens
 
 -- the number that a refusal is printed with
-abbrev pub number_of : CatRule → ℕ
-number_of rules.Token = 1
-number_of rules.Syntax = 2
-number_of rules.Include = 3
-number_of rules.Unsupported = 4
-number_of rules.TooMany = 5
-number_of rules.TooDeep = 6
-number_of rules.TooLong = 7
+abbrev pub digits_number : CatRule → ℕ
+digits_number rules.Token = 1
+digits_number rules.Syntax = 2
+digits_number rules.Include = 3
+digits_number rules.Unsupported = 4
+digits_number rules.TooMany = 5
+digits_number rules.TooDeep = 6
+digits_number rules.TooLong = 7
 
 abbrev pub rule_of : Token → CatRule
 rule_of (tokens.Broken k) = k
@@ -52,6 +52,6 @@ pub record TokenAt : Type 0 where
   pub token : Token
   pub offset : ℕ
 
-abbrev pub tokens_of : List TokenAt → List Token
-tokens_of [] = []
-tokens_of (p ∷ ps) = p.token ∷ tokens_of ps
+abbrev pub model_tokens_of : List TokenAt → List Token
+model_tokens_of [] = []
+model_tokens_of (p ∷ ps) = p.token ∷ model_tokens_of ps

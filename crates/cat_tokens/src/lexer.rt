@@ -3,7 +3,7 @@
 ghost use Rattle.std.specs.Prelude.{◌≡◌, ◌<◌, ◌≤◌, length, IfOk};
 ghost use Rattle.std.specs.List.{position_or_len};
 ghost use Rattle.text_values.specs.Layout.{quoted_from, comment_of};
-ghost use Rattle.cat_tokens.specs.Lexer.{is_name_byte, ends_name, is_layout, comment_lexeme, quoted_lexeme, sign_token, sign_lexeme, first_lexeme};
+ghost use Rattle.cat_tokens.specs.Lexer.{is_name_byte, ends_name, is_layout, comment_lexeme, quoted_lexeme, sign_token, sign_lexeme, first_model_lexeme};
 
 use crate::rule::CatRule;
 use crate::token::{Mark, Sign, Token};
@@ -109,10 +109,10 @@ fn mark_or_sign(text: &[u8]) -> NextLexeme
 }
 
 /// What the text begins with. Errors: out of memory.
-#[tactic(auto, unfolding(crate::specs::Lexer::first_lexeme))]
+#[tactic(auto, unfolding(crate::specs::Lexer::first_model_lexeme))]
 pub fn first_lexeme(alloc: Global, text: &[u8]) -> Result<NextLexeme, AllocError>
     requires { 0 < length text.now }
-    ensures { IfOk result (λ f. f ≡ first_lexeme text.now) }
+    ensures { IfOk result (λ f. f ≡ first_model_lexeme text.now) }
 {
     let byte = text[0];
     let next = byte_at(text, 1);

@@ -1,7 +1,7 @@
 //! The rules of the language.
 
 ghost use Rattle.std.specs.Prelude.{◌≡◌};
-ghost use Rattle.cat_tokens.specs.Tokens.{number_of};
+ghost use Rattle.cat_tokens.specs.Tokens.{digits_number};
 
 /// The rule that a text breaks, with its number.
 #[derive(Clone, Copy, Debug, PartialEq, Eq)]
@@ -28,7 +28,7 @@ pub enum CatRule {
 impl CatRule {
     /// The number that a refusal is printed with, from 1 to 7.
     pub fn number(self) -> u8
-        ensures { result ≡ number_of self }
+        ensures { result ≡ digits_number self }
     {
         match self {
             CatRule::Token => 1,

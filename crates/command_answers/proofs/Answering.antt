@@ -8,7 +8,7 @@ use Rattle.litmus_tokens.specs.declared.rule.LitmusRule.{LitmusRule}
 use Rattle.litmus_tokens.specs.Numbers.{number_of as test_rule_number}
 use Rattle.text_values.specs.declared.test.Test.{Test}
 use Rattle.cat_tokens.specs.declared.rule.CatRule.{CatRule}
-use Rattle.cat_tokens.specs.Tokens.{number_of as model_rule_number}
+use Rattle.cat_tokens.specs.Tokens.{digits_number as model_rule_number}
 use Rattle.litmus_ppc.specs.Faults as tests
 use Rattle.litmus_grammar.specs.Texts.{ReadsTest, IsTestFault}
 use Rattle.litmus_ppc.specs.declared.fault.LitmusFault.{LitmusFault}
@@ -18,7 +18,7 @@ use Rattle.text_values.specs.ModelValue.{Clause}
 use Rattle.cat_grammar.specs.declared.form.Form.TheVariants.{Model}
 use Rattle.cat_syntax.specs.Faults as models
 use Rattle.cat_syntax.specs.Faults.{IsCatFaultOf}
-use Rattle.cat_grammar.specs.Reads.{Reads}
+use Rattle.cat_grammar.specs.Reads.{ReadsClauses}
 use Rattle.cat_syntax.specs.declared.fault.CatFault.{CatFault}
 use Rattle.cat_syntax.specs.declared.fault.CatFault.TheVariants as model_faults
 use Rattle.command_answers.specs.declared.fault.EvalFault.{EvalFault}
@@ -47,7 +47,7 @@ log_said (Err f) test model o name said e h = tt
 -- a refusal of `read_model`, and one of `read_test`
 pub model_refused : (bytes : List ℕ) (e : CatFault) (rule : CatRule) (offset : ℕ)
     → e ≡ model_faults.Refused rule offset
-    → ((v : List Clause) → Reads Model bytes v → models.IsCatMemory e) → IsCatFaultOf Model bytes e
+    → ((v : List Clause) → ReadsClauses Model bytes v → models.IsCatMemory e) → IsCatFaultOf Model bytes e
     → IsModelRefused bytes rule offset
 model_refused bytes e rule offset is only fault =
     record {

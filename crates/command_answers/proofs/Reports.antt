@@ -4,7 +4,7 @@ use Rattle.std.proofs.lemmas.List.{take_more, nil_from_length}
 use Rattle.std.specs.declared.alloc.AllocError.{AllocError}
 use Rattle.std.specs.List.{AllZip}
 use Rattle.cat_tokens.specs.declared.rule.CatRule.{CatRule}
-use Rattle.cat_tokens.specs.Tokens.{number_of as model_rule_number}
+use Rattle.cat_tokens.specs.Tokens.{digits_number as model_rule_number}
 use Rattle.litmus_tokens.specs.declared.rule.LitmusRule.{LitmusRule}
 use Rattle.litmus_tokens.specs.Numbers.{number_of as test_rule_number}
 use Rattle.text_values.specs.declared.test.Test.{Test}

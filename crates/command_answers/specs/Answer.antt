@@ -13,12 +13,12 @@ use Rattle.litmus_ppc.specs.declared.fault.LitmusFault.TheVariants as test_fault
 use Rattle.cat_syntax.specs.declared.fault.CatFault.{CatFault}
 use Rattle.cat_syntax.specs.declared.fault.CatFault.TheVariants as model_faults
 use Rattle.cat_tokens.specs.declared.rule.CatRule.{CatRule}
-use Rattle.cat_tokens.specs.Tokens.{number_of as model_rule_number}
+use Rattle.cat_tokens.specs.Tokens.{digits_number as model_rule_number}
 use Rattle.text_values.specs.declared.model.ModelText.{ModelText}
 use Rattle.text_values.specs.ModelValue as cat_value
 use Rattle.text_values.specs.ModelValues.{clauses_of}
 use Rattle.cat_grammar.specs.declared.form.Form.TheVariants.{Model}
-use Rattle.cat_grammar.specs.Reads.{Reads, FaultAt}
+use Rattle.cat_grammar.specs.Reads.{ReadsClauses, FaultAt}
 use Rattle.verdict.specs.declared.answer.Outcome.{Outcome}
 use Rattle.from_scratch.specs.FromScratch.{IsFromScratch}
 use Rattle.command_answers.specs.declared.fault.EvalFault.{EvalFault}
@@ -39,7 +39,7 @@ IsLogOf test model log = (o : Outcome) × IsFromScratch test model o × (log ≡
 -- the log of the test and the model that the two texts mean
 pub record IsEvalLog (model test log : List ℕ) : Type 0 where
   pub items : ModelText
-  pub model_read : Reads Model model (clauses_of items.items.items)
+  pub model_read : ReadsClauses Model model (clauses_of items.items.items)
   pub known : Test
   pub test_read : ReadsTest test (content_of known)
   pub said : IsLogOf known items log
@@ -48,7 +48,7 @@ pub record IsEvalLog (model test log : List ℕ) : Type 0 where
 
 -- the text means no model, and is blamed at this offset, by this rule
 pub record IsModelRefused (model : List ℕ) (rule : CatRule) (offset : ℕ) : Type 0 where
-  pub unread : (v : List cat_value.Clause) → Reads Model model v → ⊥
+  pub unread : (v : List cat_value.Clause) → ReadsClauses Model model v → ⊥
   pub fault : FaultAt Model model rule offset
 
 -- the text means no test that the later checks pass, and is blamed at this offset, by this rule
@@ -58,7 +58,7 @@ pub record IsTestRefused (test : List ℕ) (rule : LitmusRule) (offset : ℕ) : 
 
 -- the text means some model
 abbrev pub IsModel : List ℕ → Type 0
-IsModel model = (v : List cat_value.Clause) × Reads Model model v
+IsModel model = (v : List cat_value.Clause) × ReadsClauses Model model v
 
 -- the fault of a text that means nothing; want of memory is none
 abbrev pub IsModelTextFault : List ℕ → CatFault → Type 0
@@ -106,17 +106,17 @@ IsModelLine (model_faults.Refused rule offset) text =
     text ≡ refused_line 67 (model_rule_number rule) offset
 IsModelLine (model_faults.OutOfMemory e) text = ⊥
 
-abbrev pub IsTestLine : LitmusFault → List ℕ → Type 0
-IsTestLine (test_faults.Refused rule offset) text =
+abbrev pub IsRefusedTestLine : LitmusFault → List ℕ → Type 0
+IsRefusedTestLine (test_faults.Refused rule offset) text =
     text ≡ refused_line 76 (test_rule_number rule) offset
-IsTestLine (test_faults.OutOfMemory e) text = ⊥
+IsRefusedTestLine (test_faults.OutOfMemory e) text = ⊥
 
 -- what is printed of a report, where `refused` is whether it was refused: the report, or the line
 -- of the refusal
 abbrev pub IsSaidOf : Result (Vec ℕ Global) EvalFault → List ℕ → Bool → Type 0
 IsSaidOf (Ok report) text refused = (text ≡ report.items) × (refused ≡ false)
 IsSaidOf (Err (eval_faults.Model fault)) text refused = IsModelLine fault text × (refused ≡ true)
-IsSaidOf (Err (eval_faults.Test fault)) text refused = IsTestLine fault text × (refused ≡ true)
+IsSaidOf (Err (eval_faults.Test fault)) text refused = IsRefusedTestLine fault text × (refused ≡ true)
 IsSaidOf (Err (eval_faults.Memory e)) text refused = ⊥
 
 -- whatever is said of the first two texts is said of the other two

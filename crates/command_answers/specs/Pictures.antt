@@ -6,7 +6,7 @@ use Rattle.litmus_grammar.specs.Texts.{ReadsTest}
 use Rattle.text_values.specs.declared.model.ModelText.{ModelText}
 use Rattle.text_values.specs.ModelValues.{clauses_of}
 use Rattle.cat_grammar.specs.declared.form.Form.TheVariants.{Model}
-use Rattle.cat_grammar.specs.Reads.{Reads}
+use Rattle.cat_grammar.specs.Reads.{ReadsClauses}
 use Rattle.draw_scene.specs.declared.drawn.Format.{Format}
 use Rattle.draw_scene.specs.declared.drawn.Format.TheVariants as formats
 use Rattle.why_forbidden.specs.declared.drawing.DrawRequest.{DrawRequest}
@@ -46,7 +46,7 @@ draw_request drawn (picture_words.Svg n) = one_of drawn n formats.Svg
 -- what is drawn of the test and the model that the two texts mean
 pub record IsPictureOf (request : DrawRequest) (model test text : List ℕ) : Type 0 where
   pub items : ModelText
-  pub model_read : Reads Model model (clauses_of items.items.items)
+  pub model_read : ReadsClauses Model model (clauses_of items.items.items)
   pub known : Test
   pub test_read : ReadsTest test (content_of known)
   pub pictured : IsDrawn request known items text

@@ -4,13 +4,13 @@ use Rattle.std.specs.Prelude.{◌≡◌, ℕ, ◌+◌, ◌⊎◌, List, [], ◌�
 use Rattle.std.specs.Io.KnownBytes.{Keeps}
 use Rattle.std.specs.List.{AllZip}
 use Rattle.cat_grammar.specs.declared.form.Form.TheVariants.{Model}
-use Rattle.cat_grammar.specs.Reads.{Reads}
+use Rattle.cat_grammar.specs.Reads.{ReadsClauses}
 use Rattle.cat_tokens.specs.declared.rule.CatRule.{CatRule}
-use Rattle.cat_tokens.specs.Tokens.{number_of as model_rule_number}
+use Rattle.cat_tokens.specs.Tokens.{digits_number as model_rule_number}
 use Rattle.text_values.specs.ModelValues.{clauses_of}
 use Rattle.outcome_texts.specs.Cells.{Cell, NoCell, Open, Settled}
 use Rattle.outcome_texts.specs.Columns.{Row, table_of}
-use Rattle.outcome_texts.specs.Differences.{difference_of}
+use Rattle.outcome_texts.specs.Differences.{differences_printed}
 use Rattle.session_answers.specs.Rows.{pair_in}
 use Rattle.litmus_grammar.specs.Texts.{ReadsTest}
 use Rattle.litmus_tokens.specs.declared.rule.LitmusRule.{LitmusRule}
@@ -29,7 +29,7 @@ use Rattle.command_answers.specs.Files.{model_stem, AddsFault}
 pub data AddsModel (file : TextFile) (models : List NamedModel) (faults : List ℕ)
     (more : List NamedModel) (lines : List ℕ) : Type 0 where
   IsModelAdded : (m : NamedModel) → m.name ≡ model_stem file.path.now
-      → Reads Model file.text.items (clauses_of m.model.items.items) → more ≡ models ++ m ∷ []
+      → ReadsClauses Model file.text.items (clauses_of m.model.items.items) → more ≡ models ++ m ∷ []
       → lines ≡ faults → AddsModel file models faults more lines
   IsModelFault : (rule : CatRule) → (offset : ℕ) → IsModelRefused file.text.items rule offset
       → more ≡ models
@@ -116,7 +116,7 @@ pub record IsTableReport (model_files test_files : List TextFile) (text faults :
 abbrev pub difference_under : List NamedModel → List Row → List ℕ
 difference_under [] rows = []
 difference_under (m ∷ []) rows = []
-difference_under (m ∷ n ∷ []) rows = difference_of (map pair_in rows)
+difference_under (m ∷ n ∷ []) rows = differences_printed (map pair_in rows)
 difference_under (m ∷ n ∷ o ∷ ms) rows = []
 
 pub record IsDifferenceReport (model_files test_files : List TextFile) (text faults : List ℕ)

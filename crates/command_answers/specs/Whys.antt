@@ -6,7 +6,7 @@ use Rattle.litmus_grammar.specs.Texts.{ReadsTest}
 use Rattle.text_values.specs.declared.model.ModelText.{ModelText}
 use Rattle.text_values.specs.ModelValues.{clauses_of}
 use Rattle.cat_grammar.specs.declared.form.Form.TheVariants.{Model}
-use Rattle.cat_grammar.specs.Reads.{Reads}
+use Rattle.cat_grammar.specs.Reads.{ReadsClauses}
 use Rattle.why_forbidden.specs.declared.answer.Asked.{Asked}
 use Rattle.why_forbidden.specs.Whys.{IsWhy}
 use Rattle.command_line.specs.declared.fault.SessionFault.{SessionFault}
@@ -16,7 +16,7 @@ use Rattle.command_answers.specs.Made.{IsAnswerWritten}
 -- what is said of the test and the model that the two texts mean
 pub record IsWhyOf (asked : Asked) (model test text : List ℕ) : Type 0 where
   pub items : ModelText
-  pub model_read : Reads Model model (clauses_of items.items.items)
+  pub model_read : ReadsClauses Model model (clauses_of items.items.items)
   pub known : Test
   pub test_read : ReadsTest test (content_of known)
   pub said : IsWhy asked known items text

@@ -2,7 +2,7 @@
 
 ghost use Rattle.std.specs.Prelude.{◌≡◌, IfOk, IfErr};
 ghost use Rattle.cat_grammar.specs.declared.form.Form.{Form};
-ghost use Rattle.cat_grammar.specs.Reads.{Reads};
+ghost use Rattle.cat_grammar.specs.Reads.{ReadsClauses};
 ghost use Rattle.text_values.specs.ModelValues.{clauses_of};
 ghost use Rattle.litmus_grammar.specs.Texts.{ReadsTest};
 ghost use Rattle.text_values.specs.TestValue.{content_of};
@@ -28,7 +28,7 @@ struct KnownTexts {
 }
 
 fn model_of(alloc: Global, text: &[u8]) -> Result<ModelText, EvalFault>
-    ensures found { IfOk result (λ m. Reads Form.Model text.now (clauses_of m.items.items)) }
+    ensures found { IfOk result (λ m. ReadsClauses Form.Model text.now (clauses_of m.items.items)) }
     ensures fault { IfErr result (IsModelEvalFault text.now) }
 {
     match read_model(alloc, text) {
@@ -56,7 +56,7 @@ fn test_of(alloc: Global, text: &[u8]) -> Result<Test, EvalFault>
 // The model is read first.
 fn known_texts(alloc: Global, model: &[u8], test: &[u8]) -> Result<KnownTexts, EvalFault>
     ensures model_read { IfOk result (λ k.
-        Reads Form.Model model.now (clauses_of k.model.items.items)) }
+        ReadsClauses Form.Model model.now (clauses_of k.model.items.items)) }
     ensures test_read { IfOk result (λ k. ReadsTest test.now (content_of k.test)) }
     ensures refusal { IfErr result (IsEvalRefusal model.now test.now) }
 {

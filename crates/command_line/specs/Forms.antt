@@ -135,8 +135,8 @@ abbrev pub table_with : Words → Option ResultFormat → Option CommandAsked
 table_with g None = None
 table_with g (Some format) = asked_if (has_both g) (Table g.paths g.last_paths format)
 
-abbrev pub table_of : Words → Option CommandAsked
-table_of g = table_with g (format_in g.options)
+abbrev pub table_command : Words → Option CommandAsked
+table_command g = table_with g (format_in g.options)
 
 -- MODEL MODEL TEST ..
 abbrev pub diff_with : Words → Option ResultFormat → Option CommandAsked
@@ -215,7 +215,7 @@ command_of word =
 -- what a command asks for, each of whose options it has
 abbrev pub taken : Command → Words → Option CommandAsked
 taken commands.Eval g = eval_of g
-taken commands.Table g = table_of g
+taken commands.Table g = table_command g
 taken commands.Diff g = diff_of g
 taken commands.Report g = report_of g
 taken commands.Session g = session_of g

@@ -4,7 +4,7 @@ ghost use Rattle.std.specs.Prelude.{◌≡◌, IfOk, IfErr, option_map, drop};
 ghost use Rattle.session_script.specs.Requests.{word_at};
 ghost use Rattle.command_line.specs.declared.option.OptionName.TheVariants as names;
 ghost use Rattle.command_line.specs.Words.{words_of, borrowed_words, words_given};
-ghost use Rattle.command_line.specs.Forms.{borrowed_word, asked_by_form, IsFormOf, IsNoForm, command_of, format_by, format_in, number_within, drawn_by, drawn_in, one_picture, more_pictures, pictures_by, pictures_in, workers_in, eval_of, table_of, diff_of, most_in, report_of, script_in, session_of, why_of, poll_in, watch_of, draw_of, taken, by_words, asked_by_words};
+ghost use Rattle.command_line.specs.Forms.{borrowed_word, asked_by_form, IsFormOf, IsNoForm, command_of, format_by, format_in, number_within, drawn_by, drawn_in, one_picture, more_pictures, pictures_by, pictures_in, workers_in, eval_of, table_command, diff_of, most_in, report_of, script_in, session_of, why_of, poll_in, watch_of, draw_of, taken, by_words, asked_by_words};
 
 use crate::option::{Command, GivenOption, OptionName, has_option, number_given, takes_all};
 use crate::words::{GivenWords, words_given};
@@ -270,7 +270,7 @@ fn eval_form<'a>(words: &GivenWords<'a>) -> Option<Form<'a>>
 }
 
 fn table_form<'a>(words: GivenWords<'a>) -> Option<Form<'a>>
-    ensures { option_map asked_by_form result ≡ table_of (words_of words.entry) }
+    ensures { option_map asked_by_form result ≡ table_command (words_of words.entry) }
 {
     match format_in(&words.options) {
         Some(format) if !words.paths.is_empty() && !words.last_paths.is_empty() => {

@@ -1,7 +1,7 @@
 //! The options of a command line.
 
 ghost use Rattle.std.specs.Prelude.{◌≡◌};
-ghost use Rattle.command_line.specs.Options.{flag_of, awaiting_of, setting_of, numbered, number_in, begins, number_behind, number_given, has_option, is_of_draw, takes, takes_all};
+ghost use Rattle.command_line.specs.Options.{flag_of, awaiting_of, setting_of, numbered, number_in, has_front, number_behind, number_given, has_option, is_of_draw, takes_option, takes_all};
 
 use session_script::number_of;
 
@@ -149,7 +149,7 @@ pub(crate) fn number_in(word: &[u8]) -> Option<u64>
 }
 
 fn begins(word: &str, front: &str) -> bool
-    ensures { result ≡ begins word.now front.now }
+    ensures { result ≡ has_front word.now front.now }
 {
     word.as_bytes().strip_prefix(front.as_bytes()).is_some()
 }
@@ -184,7 +184,7 @@ pub(crate) fn has_option(options: &[GivenOption], name: OptionName) -> bool
 
 // Whether a command has this option.
 pub(crate) fn takes(command: Command, name: OptionName) -> bool
-    ensures { result ≡ takes command name }
+    ensures { result ≡ takes_option command name }
 {
     match command {
         Command::Eval => matches!(name, OptionName::Json),

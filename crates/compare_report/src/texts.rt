@@ -3,7 +3,7 @@
 ghost use Rattle.std.specs.Prelude.{◌≡◌, IfOk};
 ghost use Rattle.outcome_texts.specs.Cells.{cell_log, cell_counts};
 ghost use Rattle.outcome_texts.specs.Columns.{table_of};
-ghost use Rattle.outcome_texts.specs.Differences.{difference_of};
+ghost use Rattle.outcome_texts.specs.Differences.{differences_printed};
 ghost use Rattle.board.specs.Contents.{cell_named};
 ghost use Rattle.board.specs.Listing.{rows_under, pairs_under};
 
@@ -62,7 +62,7 @@ pub fn difference_text(
     second: &[u8],
 ) -> Result<Vec<u8>, AllocError>
     ensures { IfOk result (λ v. v.items
-        ≡ difference_of (pairs_under board.now first.now second.now)) }
+        ≡ differences_printed (pairs_under board.now first.now second.now)) }
 {
     let pairs = board.pairs_under(alloc, first, second)?;
     text_of_pairs(alloc, &pairs)

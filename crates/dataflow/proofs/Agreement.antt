@@ -8,7 +8,7 @@ use Rattle.thread_runs.specs.declared.value.Value.TheVariants.{Number}
 use Rattle.thread_runs.specs.declared.instruction.Instruction.{Instruction}
 use Rattle.thread_runs.specs.declared.instruction.Instruction.TheVariants.{Immediate, Move, AddImmediate, Operate, Load, LoadIndexed, Store, StoreIndexed, Compare, CompareImmediate, Branch, Jump, Fence}
 use Rattle.thread_runs.specs.declared.state.State.{State}
-use Rattle.thread_runs.specs.Machine.{state_after, register, with_register, is_load, cancels, outcome_of, sum_of}
+use Rattle.thread_runs.specs.Machine.{state_after, register, with_register, is_load, cancels, operation_value, sum_of}
 use Rattle.dataflow.specs.Chains.{Executed, Resource, Register, Chain, FeedsOnward, WriteReaches, IsLastWriter, WritesTo, IsOperand, is_narrow}
 use Rattle.dataflow.specs.Law.{state_at, StoresTheSame}
 
@@ -62,8 +62,8 @@ one_step (AddImmediate d a n) v w t u r long other operands own =
 one_step (Operate o d a b) v w t u r long other operands own =
     register_same t u d r _ _ long (λ ne. other (λ e. ne (register_is r d e)))
     (λ e. chosen_same (cancels o a b) (Number 0) _ _ (λ narrow.
-    ap (λ (x : Value). outcome_of o x (register t b)) (operands (ap Register e) narrow a (inl refl))
-    ∙ ap (λ (x : Value). outcome_of o (register u a) x)
+    ap (λ (x : Value). operation_value o x (register t b)) (operands (ap Register e) narrow a (inl refl))
+    ∙ ap (λ (x : Value). operation_value o (register u a) x)
     (operands (ap Register e) narrow b (inr refl))))
 one_step (Load d a) v w t u r long other operands own =
     register_same t u d r _ _ long (λ ne. other (λ e. ne (register_is r d e)))

@@ -14,7 +14,7 @@ use Rattle.thread_runs.specs.declared.instruction.Event.{Event}
 use Rattle.thread_runs.specs.declared.instruction.Event.TheVariants as run_event
 use Rattle.thread_runs.specs.declared.state.State.{State}
 use Rattle.thread_runs.specs.Machine.{register, event_of, is_load, sum_of}
-use Rattle.thread_runs.specs.Runs.{Walk, Outcome, Thread, walk_at, run_of, executed, loaded_at, no_step, StoresFreely, InDomain}
+use Rattle.thread_runs.specs.Runs.{Walk, RunOutcome, Thread, walk_at, run_of, executed, loaded_at, no_step, StoresFreely, InDomain}
 use Rattle.dataflow.specs.Chains.{Executed, Register, IsNeed, IsStoredRegister}
 use Rattle.dataflow.specs.Law.{state_at, events_before, IsWalkFrom, IsPicked}
 use Rattle.dataflow.specs.Execution.{LoadSource, Initial, From, FreeExecution, IsFreeExecution, Node, LoadNode, StoreNode, IsEdge, EdgePath, LoadNeedsLoad, IsReadValue, loaded_value, executed_by, loaded_by}
@@ -142,11 +142,11 @@ unfolding chosen
 chosen-allowed P (inl y) v d a p = a y
 chosen-allowed P (inr n) v d a p = p
 
-abbrev picked_value : Outcome → ℕ → Value → ℕ → Value
+abbrev picked_value : RunOutcome → ℕ → Value → ℕ → Value
 picked_value r j d i = chosen (decide_need (executed r.walk.steps) i j) (loaded_at r.walk.steps i) d
 
 -- what the free run stores at the index
-same_store : (s : State) (r : Outcome) (d : Value) (j q : ℕ) (f : Walk)
+same_store : (s : State) (r : RunOutcome) (d : Value) (j q : ℕ) (f : Walk)
     → IsPicked (picked_value r j d) r.walk f
     → IsStoredRegister (executed r.walk.steps j) (Register q)
     → register (state_at (executed f.steps) (loaded_at f.steps) s j) q
@@ -162,7 +162,7 @@ same_store s r d j q f p stored =
     ∙ chosen-needed (decide_need (executed r.walk.steps) i j) (loaded_at r.walk.steps i) d need)) q
     stored)
 
-stored_in : (s : State) (r : Outcome) (d : Value) (j q : ℕ) (f : Walk) → IsWalkFrom s f
+stored_in : (s : State) (r : RunOutcome) (d : Value) (j q : ℕ) (f : Walk) → IsWalkFrom s f
     → IsPicked (picked_value r j d) r.walk f
     → IsStoredRegister (executed r.walk.steps j) (Register q)
     → (a : Value)
@@ -184,7 +184,7 @@ stored_in s r d j q f x p stored =
 
 -- a store of a run stores its value in a free run too, in which the loads that it needs keep their
 -- values and the others have an allowed one
-pub stored_freely : (threads : List Thread) (t : Thread) (vs : List Value) (r : Outcome)
+pub stored_freely : (threads : List Thread) (t : Thread) (vs : List Value) (r : RunOutcome)
     (P : Value → Type 0) (d : Value) (j q : ℕ)
     → Contains threads t → run_of t.lines t.first vs ≡ Some r
     → IsStoredRegister (executed r.walk.steps j) (Register q) → P d

@@ -15,7 +15,7 @@ use Rattle.thread_runs.specs.declared.instruction.RunStep.{RunStep}
 use Rattle.thread_runs.specs.declared.instruction.Event.{Event}
 use Rattle.thread_runs.specs.declared.state.State.{State}
 use Rattle.thread_runs.specs.Machine.{state_after, event_of, is_load, is_branch, is_fault, takes_branch}
-use Rattle.thread_runs.specs.Runs.{Walk, Outcome, walk_at, ended, walk_after, walk_past, after_load, after_instruction, after_line, ends, run_from, free_from, after_free_instruction, after_free_line, no_step, executed, loaded_at}
+use Rattle.thread_runs.specs.Runs.{Walk, RunOutcome, walk_at, ended, walk_after, walk_past, after_load, after_instruction, after_line, ends, run_from, free_from, after_free_instruction, after_free_line, no_step, executed, loaded_at}
 use Rattle.dataflow.specs.Chains.{Executed}
 use Rattle.dataflow.specs.Law.{state_at, events_before, IsWalkFrom, IsPicked}
 use Rattle.thread_runs.proofs.FreeStores.{step_of}
@@ -174,7 +174,7 @@ not_gone (Jump l) s e = refl
 not_gone (Fence f) s e = refl
 
 abbrev pub Free : Type 0
-Free = List Bool → List Value → Option Outcome
+Free = List Bool → List Value → Option RunOutcome
 
 -- a free run with allowed values that begins as the walk, with picked values
 pub record Followed (P : Value → Type 0) (pick : ℕ → Value) (s : State) (w : Walk) (go : Free)
@@ -182,7 +182,7 @@ pub record Followed (P : Value → Type 0) (pick : ℕ → Value) (s : State) (w
   pub choices : List Bool
   pub values : List Value
   pub allowed : All P values
-  pub outcome : Outcome
+  pub outcome : RunOutcome
   pub free : go choices values ≡ Some outcome
   pub walk : IsWalkFrom s outcome.walk
   pub picked : IsPicked pick w outcome.walk
@@ -262,7 +262,7 @@ module _ (P : Value → Type 0) (pick : ℕ → Value) (s : State) (allowed : (n
   complete (y ∷ ys) w u x p = complete_one u.seeking y ys (complete ys) w u x p
 
   abbrev Follows : List Line → Type 0
-  Follows xs = (w u : Walk) (vs : List Value) (r : Outcome) → run_from xs w vs ≡ Some r
+  Follows xs = (w u : Walk) (vs : List Value) (r : RunOutcome) → run_from xs w vs ≡ Some r
       → IsWalkFrom s u → u.seeking ≡ w.seeking → length u.steps ≡ length w.steps → IsPicked pick w u
       → Followed P pick s r.walk (free_from xs u)
 
@@ -274,7 +274,7 @@ module _ (P : Value → Type 0) (pick : ℕ → Value) (s : State) (allowed : (n
 
   follow_supplied : (ld : Bool) (i : Instruction) (b : Bool) (xs : List Line) → is_load i ≡ ld
       → Follows xs
-      → (w u : Walk) (vs : List Value) (r : Outcome) → after_load ld i b (run_from xs) w vs ≡ Some r
+      → (w u : Walk) (vs : List Value) (r : RunOutcome) → after_load ld i b (run_from xs) w vs ≡ Some r
       → IsWalkFrom s u → length u.steps ≡ length w.steps → IsPicked pick w u
       → Followed P pick s r.walk (λ bs us. after_load ld i b (λ a zs. free_from xs a bs zs) u us)
   follow_supplied true i b xs is ih w u [] r e x long p = absurd cc
@@ -290,16 +290,16 @@ module _ (P : Value → Type 0) (pick : ℕ → Value) (s : State) (allowed : (n
       (IsPicked-advanced pick w u i b b NoValue long p NoValue
       (λ load. absurd (false≢true (sym is ∙ load))))
 
-  same_end : (f : Bool) (w : Walk) (vs : List Value) (r : Outcome) → ends f w vs ≡ Some r
+  same_end : (f : Bool) (w : Walk) (vs : List Value) (r : RunOutcome) → ends f w vs ≡ Some r
       → w ≡ r.walk
-  same_end f w [] r e = ap (λ (o : Outcome). o.walk) (inside e)
+  same_end f w [] r e = ap (λ (o : RunOutcome). o.walk) (inside e)
     where
-      inside : {a b : Outcome} → Some a ≡ Some b → a ≡ b
+      inside : {a b : RunOutcome} → Some a ≡ Some b → a ≡ b
       inside e = cc
   same_end f w (v ∷ vs) r e = absurd cc
 
   follow_obeyed : (ft : Bool) (i : Instruction) (xs : List Line) → Follows xs
-      → (w u : Walk) (vs : List Value) (r : Outcome) → after_instruction ft i (run_from xs) w vs ≡ Some r
+      → (w u : Walk) (vs : List Value) (r : RunOutcome) → after_instruction ft i (run_from xs) w vs ≡ Some r
       → IsWalkFrom s u → length u.steps ≡ length w.steps → IsPicked pick w u
       → Followed P pick s r.walk (λ bs us. after_free_instruction (is_branch i) i (free_from xs) u bs us)
   follow_obeyed true i xs ih w u vs r e x long p =
@@ -313,7 +313,7 @@ module _ (P : Value → Type 0) (pick : ℕ → Value) (s : State) (allowed : (n
       (follow_supplied (is_load i) i (takes_branch i w.state) xs refl ih w u vs r e x long p)
 
   follow_one : (sk : Option ℕ) (y : Line) (xs : List Line) → Follows xs
-      → (w u : Walk) (vs : List Value) (r : Outcome) → after_line sk y (run_from xs) w vs ≡ Some r
+      → (w u : Walk) (vs : List Value) (r : RunOutcome) → after_line sk y (run_from xs) w vs ≡ Some r
       → IsWalkFrom s u → u.seeking ≡ w.seeking → length u.steps ≡ length w.steps → IsPicked pick w u
       → Followed P pick s r.walk (λ bs us. after_free_line sk y (free_from xs) u bs us)
   follow_one (Some l) y xs ih w u vs r e x seek long p =

@@ -3,7 +3,7 @@ use Rattle.std.specs.Prelude.{ℕ, ◌≡◌, ◌<◌, List, [], ◌∷◌, Some
 use Rattle.thread_runs.specs.declared.value.Value.{Value}
 use Rattle.thread_runs.specs.declared.value.Value.TheVariants.{NoValue}
 use Rattle.thread_runs.specs.Machine.{register, is_load}
-use Rattle.thread_runs.specs.Runs.{Thread, Outcome, InDomain, run_of, executed, loaded_at}
+use Rattle.thread_runs.specs.Runs.{Thread, RunOutcome, InDomain, run_of, executed, loaded_at}
 use Rattle.dataflow.specs.Chains.{Executed, Register, IsNeed, IsStoredRegister}
 use Rattle.dataflow.specs.Law.{state_at}
 
@@ -16,7 +16,7 @@ pub data LoadSource : Type 0 where
 pub record ThreadWithRun : Type 0 where
   pub thread : Thread
   pub values : List Value
-  pub outcome : Outcome
+  pub outcome : RunOutcome
 
 -- a load: its thread, its index in it, and its source
 pub record NumberedLoad : Type 0 where

@@ -15,7 +15,7 @@ use Rattle.memo_core.specs.Names.{same_node}
 use Rattle.memo_core.specs.Lemmas.Equality.{same_node_exact}
 use Rattle.memo_core.specs.Graph.{Memo, Net, memo_of, at, stored_output, stamp_or_zero, present_inputs, put_memo, input_nodes, IsSettledBy, IsSettled}
 use Rattle.memo_core.specs.Step.{Has, MemoState, Return, Accepts, FinishesReturn}
-use Rattle.memo_core.specs.Run.{Bench, Meaning, Claim, NoClaim, Returned, Refused, Step, state_in}
+use Rattle.memo_core.specs.Run.{Bench, TextsMeaning, Claim, NoClaim, Returned, Refused, Step, state_in}
 use Rattle.memo_core.proofs.Theory.{put_other}
 use Rattle.desk_history.proofs.Showing.{fold_push}
 use Rattle.cells.specs.Cells.{Cells, Carries, IsSettledCell, StandsOn}
@@ -272,7 +272,7 @@ known_within cells end test model is k =
 
 -- where something is owed nothing is said of what is posted
 
-module _ {T E V G O : Type 0} (means : Meaning T E V G) (of : Cells T E V O) (old new : Bench T V)
+module _ {T E V G O : Type 0} (means : TextsMeaning T E V G) (of : Cells T E V O) (old new : Bench T V)
     (cells : List (BoardCell O)) where
   pub posted_claimed : (number : ℕ) (n : Node) (given : G) (keys : List Key) (values : List V)
       → Step means old (Claim number n given keys values) new → ArePosted means.net of old cells
@@ -304,7 +304,7 @@ pub given_or_none : {J : Type 0} (r : Option J) (P : J → Type 0) (Q R : Type 0
 given_or_none (Some j) P Q R given none f g = f j given
 given_or_none None P Q R given none f g = g none
 
-module _ {T E V G : Type 0} (means : Meaning T E V G) (old new : Bench T V) where
+module _ {T E V G : Type 0} (means : TextsMeaning T E V G) (old new : Bench T V) where
   pub later_claimed : (number : ℕ) (n : Node) (given : G) (keys : List Key) (values : List V)
       → Step means old (Claim number n given keys values) new → old.taken ≤ new.taken
   later_claimed number n given keys values step =
@@ -365,7 +365,7 @@ appends_since is_settle before after all published spare closed owes owes' old n
     })
 
 -- where the bench refused a call, nothing else changed
-pub refused_since : {T E V G O : Type 0} (means : Meaning T E V G) (before after : Bench T V)
+pub refused_since : {T E V G O : Type 0} (means : TextsMeaning T E V G) (before after : Bench T V)
     (all published : List O) (spare : ℕ) (closed owes owes' : Bool) (old : Held T V O)
     → held before all published spare closed owes ≡ old
     → Step means before Refused after
@@ -415,7 +415,7 @@ ahead_of inside old me same more =
     lt_of_not-le (subst (λ (h : Held _ _ _). length me ≤ length h.all → ⊥) same more)
 
 -- the edit was made after all that a viewer knew, and settled cells were appended after it
-pub has_edit : {T E V G O : Type 0} (means : Meaning T E V G) (is_legal : List O → Type 0)
+pub has_edit : {T E V G O : Type 0} (means : TextsMeaning T E V G) (is_legal : List O → Type 0)
     (is_edit : List O → O → E → ℕ → Type 0) (is_settle : O → Type 0) (e : E) (number : ℕ)
     (old new : Bench T V) (me before list more all later : List O)
     → IsPrefix me before → IsEditAppended means is_edit e old new before list number → Each is_settle more

@@ -4,7 +4,7 @@ use Rattle.std.specs.List.{AllByRecursion as Each}
 use mathlib.Core.List.{IsPrefix}
 use Rattle.memo_core.specs.declared.claims.ClaimFault.TheVariants.{Spent}
 use Rattle.memo_core.specs.Run as core
-use Rattle.memo_core.specs.Run.{Bench, Meaning, Step}
+use Rattle.memo_core.specs.Run.{Bench, TextsMeaning, Step}
 use Rattle.desk.specs.declared.answer.Accepted.{Accepted}
 use Rattle.desk.specs.declared.answer.Accepted.TheVariants.{Now, Later}
 use Rattle.desk.specs.declared.answer.Posted.{Posted}
@@ -58,7 +58,7 @@ pub record AppendsSettles {T V O : Type 0} (is_settle : O → Type 0) (before : 
 
 -- one edit was made under the next number, and its operation, which is that of the edit after
 -- these, appended
-pub record IsEditAppended {T E V G O : Type 0} (means : Meaning T E V G)
+pub record IsEditAppended {T E V G O : Type 0} (means : TextsMeaning T E V G)
     (is_edit : List O → O → E → ℕ → Type 0) (e : E) (old new : Bench T V) (before after : List O)
     (number : ℕ) : Type 0 where
   pub step : Step means old (core.Edit e) new
@@ -68,7 +68,7 @@ pub record IsEditAppended {T E V G O : Type 0} (means : Meaning T E V G)
   pub list : after ≡ before ++ op ∷ []
 
 -- so it is, and settled cells were appended after it
-pub record IsEditTurn {T E V G O : Type 0} (means : Meaning T E V G)
+pub record IsEditTurn {T E V G O : Type 0} (means : TextsMeaning T E V G)
     (is_edit : List O → O → E → ℕ → Type 0) (is_settle : O → Type 0) (e : E) (old new : Held T V O)
     (number : ℕ) : Type 0 where
   pub list : List O
@@ -167,7 +167,7 @@ TellsSettled is_legal are_settled me me' Refused = me' ≡ me
 
 -- the call was refused: the texts of the bench may have more room, the desk may owe what it did
 -- not, and nothing else changed
-abbrev pub IsRefusedTurn : {T E V G O : Type 0} → Meaning T E V G → (old new : Held T V O) → Type 0
+abbrev pub IsRefusedTurn : {T E V G O : Type 0} → TextsMeaning T E V G → (old new : Held T V O) → Type 0
 IsRefusedTurn means old new =
     Step means old.bench core.Refused new.bench
     × (new ≡ held new.bench old.all old.published old.spare old.closed new.owes)

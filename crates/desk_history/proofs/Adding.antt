@@ -5,7 +5,7 @@ use Rattle.std.proofs.lemmas.Bool.Decides.{nat_tests}
 use mathlib.Core.List.{IsPrefix}
 use prog.Atomic.{either}
 use Rattle.logbook.specs.Pages.{Cell, cell, keeps, no_nib, step, Moves, Goes}
-use Rattle.desk_history.specs.Rules.{HasLengthOf, Adds}
+use Rattle.desk_history.specs.Rules.{HasLengthOf, AddsOperation}
 use Rattle.desk_history.proofs.Fronts.{prefix_whole}
 
 module _ {O : Type 0} where
@@ -18,7 +18,7 @@ module _ {O : Type 0} where
   adds_goes : (log v : List O) (e : O) (old : ℕ) → length v ≡ old → IsPrefix v log
       → (b : Bool) → (length log == old) ≡ b
       → Goes HasLengthOf shown moved 0 (v, (no_nib, None)) (λ n. either (n == old) (old + 1) n)
-      (Adds (step 0 old (old + 1) e) (v, (no_nib, None))) ((length log, true) ∷ (0, true) ∷ [])
+      (AddsOperation (step 0 old (old + 1) e) (v, (no_nib, None))) ((length log, true) ∷ (0, true) ∷ [])
       log
   adds_goes log v e old len pre true is =
       let here : length log ≡ old = grind (arith, nat_tests) in
@@ -48,7 +48,7 @@ module _ {O : Type 0} where
   -- history is longer
   pub adds_moves : (v : List O) (e : O) (old : ℕ) → length v ≡ old
       → Moves HasLengthOf shown moved 0 (v, (no_nib, None)) (λ n. either (n == old) (old + 1) n)
-      (Adds (step 0 old (old + 1) e) (v, (no_nib, None)))
+      (AddsOperation (step 0 old (old + 1) e) (v, (no_nib, None)))
   adds_moves v e old len cs log kept pre away =
-      let P : List Cell → Type 0 = λ c. (0 < length c) × ((cell c 0).1 ≡ true) × Goes HasLengthOf shown moved 0 (v, (no_nib, None)) (λ n. either (n == old) (old + 1) n) (Adds (step 0 old (old + 1) e) (v, (no_nib, None))) c log in
+      let P : List Cell → Type 0 = λ c. (0 < length c) × ((cell c 0).1 ≡ true) × Goes HasLengthOf shown moved 0 (v, (no_nib, None)) (λ n. either (n == old) (old + 1) n) (AddsOperation (step 0 old (old + 1) e) (v, (no_nib, None))) c log in
       subst P (sym kept) (omega arith, refl, adds_goes log v e old len pre (length log == old) refl)

@@ -43,9 +43,9 @@ impl<O> Gain<O, u64> for Nothing {
 pub struct Add;
 
 impl<O> Play<O, u64> for Add {
-    ghost use Rattle.desk_history.specs.Rules.{Adds};
+    ghost use Rattle.desk_history.specs.Rules.{AddsOperation};
 
-    ghost then = { Adds };
+    ghost then = { AddsOperation };
 }
 
 /// What a step asks for: the operation.

@@ -10,7 +10,7 @@ use Rattle.std.specs.Prelude.{Bool, IsTrue, slice_index}
 use Rattle.std.specs.Int.{bit_at}
 use Rattle.bit_relations.specs.Pairs.{Composite, Minus, Restriction, IsEmpty}
 use Rattle.bit_relations.specs.Relation.{Relation, Bit, Has, IsRelation, IsRegular}
-use Rattle.draw_graph.specs.Drawn.{AreEdges, Drawn, DrawnAmong, IsOrder, IsTransitive}
+use Rattle.draw_graph.specs.Drawn.{AreEdges, Drawn, DrawnAmong, IsStrictOrder, IsTransitive}
 
 -- before the pair of these two
 abbrev pub IsEarlier : ℕ → ℕ → ℕ × ℕ → Type 0
@@ -170,7 +170,7 @@ transitive_is r c o n m b composed outside told = ((λ t. forth (told.0 t)), (λ
         let (both, bare) = (outside.pairs x y).0 outer in
         bare (closed x y ((composed.pairs x y).0 both))
 
-pub drawn_of_order : (r c m : Relation) (n : ℕ) → IsOrder (Has r)
+pub drawn_of_order : (r c m : Relation) (n : ℕ) → IsStrictOrder (Has r)
     → IsRelation c n (Composite (Has r) (Has r)) → IsRelation m r.count (Minus (Has r) (Has c))
     → IsRelation m r.count (Drawn (Has r))
 drawn_of_order r c m n order composed between = record {
@@ -185,7 +185,7 @@ drawn_of_order r c m n order composed between = record {
       );
 }
 
-pub drawn_of_other : (r : Relation) → IsRegular r → (IsOrder (Has r) → ⊥)
+pub drawn_of_other : (r : Relation) → IsRegular r → (IsStrictOrder (Has r) → ⊥)
     → IsRelation r r.count (Drawn (Has r))
 drawn_of_other r regular none = record {
   count = refl;
@@ -214,7 +214,7 @@ same_drawn R S same a b = (
 )
   where
     order : (P Q : ℕ → ℕ → Type 0) → ((x y : ℕ) → P x y → Q x y) → ((x y : ℕ) → Q x y → P x y)
-        → IsOrder Q → IsOrder P
+        → IsStrictOrder Q → IsStrictOrder P
     order P Q to back o = (
       (λ x p. o.0 x (to x x p)),
       (λ x y c. let (z, f, s) = c in back x y (o.1 x y (z, to x z f, to z y s))),

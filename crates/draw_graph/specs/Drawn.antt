@@ -9,12 +9,12 @@ use Rattle.run_combinations.specs.declared.combination.Event.{Event}
 abbrev pub IsTransitive : (ℕ → ℕ → Type 0) → Type 0
 IsTransitive R = (a b : ℕ) → Composite R R a b → R a b
 
-abbrev pub IsOrder : (ℕ → ℕ → Type 0) → Type 0
-IsOrder R = IsIrreflexive R × IsTransitive R
+abbrev pub IsStrictOrder : (ℕ → ℕ → Type 0) → Type 0
+IsStrictOrder R = IsIrreflexive R × IsTransitive R
 
 -- a pair is drawn, unless the relation is an order and an event stands between the two
 abbrev pub Drawn : (ℕ → ℕ → Type 0) → ℕ → ℕ → Type 0
-Drawn R a b = R a b × (IsOrder R → Composite R R a b → ⊥)
+Drawn R a b = R a b × (IsStrictOrder R → Composite R R a b → ⊥)
 
 -- of the pairs between events of a set, those that are drawn
 abbrev pub DrawnAmong : (ℕ → Type 0) → (ℕ → ℕ → Type 0) → ℕ → ℕ → Type 0

@@ -15,8 +15,8 @@ use Rattle.draw_graph.specs.declared.drawing.Drawing.{Drawing}
 abbrev pub escaped_byte : ℕ → List ℕ
 escaped_byte b = if b == 34 || b == 92 then 92 ∷ b ∷ [] else b ∷ []
 
-abbrev pub escaped : List ℕ → List ℕ
-escaped bytes = flat_map escaped_byte bytes
+abbrev pub dot_escaped : List ℕ → List ℕ
+dot_escaped bytes = flat_map escaped_byte bytes
 
 -- ---- events
 
@@ -61,7 +61,7 @@ ink_text inks.Named = codes "color=\"#56B4E9\", fontcolor=\"#56B4E9\", constrain
 unfoldable pub line_front : ℕ → ℕ → ℕ → List ℕ → List ℕ
 line_front initial from to name =
     event_name initial from ++ codes " -> " ++ event_name initial to ++ codes " [label=\""
-    ++ escaped name
+    ++ dot_escaped name
 
 unfoldable pub edge_line : ℕ → List ℕ → Ink → ℕ × ℕ → List ℕ
 edge_line initial name ink p =
@@ -90,7 +90,7 @@ reason_steps initial (Some first) steps = steps_text initial first steps
 
 unfoldable pub head_text : List ℕ → List ℕ
 head_text title =
-    codes "digraph \"" ++ escaped title ++ codes "\" {\nlabel=\"" ++ escaped title
+    codes "digraph \"" ++ dot_escaped title ++ codes "\" {\nlabel=\"" ++ dot_escaped title
     ++ codes "\";\nnode [shape=box];\n"
 
 -- the initial stores and the threads

@@ -2,12 +2,13 @@
 
 ghost use Rattle.std.specs.Prelude.{◌≡◌, ◌↔◌, IfOk, IsTrue};
 ghost use Rattle.bit_relations.specs.Relation.{Has, IsMember, IsRelation};
-ghost use Rattle.draw_graph.specs.Drawn.{AreEdges, Drawn, DrawnAmong, IsOrder, IsTransitive};
+ghost use Rattle.draw_graph.specs.Drawn.{AreEdges, Drawn, DrawnAmong, IsStrictOrder, IsTransitive};
 
 use crate::drawing::Edge;
 use bit_relations::{EventSet, Rel};
 use std::alloc::{AllocError, Global};
 
+#[inline(never)]
 fn is_transitive(relation: &Rel) -> bool
     ensures { IsTrue result ↔ IsTransitive (Has relation.now) }
 {
@@ -17,12 +18,13 @@ fn is_transitive(relation: &Rel) -> bool
 }
 
 fn is_order(relation: &Rel) -> bool
-    ensures { IsTrue result ↔ IsOrder (Has relation.now) }
+    ensures { IsTrue result ↔ IsStrictOrder (Has relation.now) }
 {
     relation.is_irreflexive() && is_transitive(relation)
 }
 
 // The pairs that are drawn.
+#[inline(never)]
 fn drawn(relation: &Rel) -> Rel
     ensures { IsRelation result relation.now.count (Drawn (Has relation.now)) }
 {
@@ -34,6 +36,7 @@ fn drawn(relation: &Rel) -> Rel
 }
 
 // All pairs, in rising order.
+#[inline(never)]
 fn pairs(alloc: Global, relation: &Rel) -> Result<Vec<Edge>, AllocError>
     ensures { IfOk result (λ v. AreEdges (Has relation.now) v.items) }
 {

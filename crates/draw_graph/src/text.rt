@@ -2,7 +2,7 @@
 
 ghost use Rattle.std.specs.Prelude.{◌≡◌, ◌++◌, OnOk, true};
 ghost use Rattle.std.specs.List.{flat_map};
-ghost use Rattle.draw_graph.specs.Texts.{boxes_text, cluster_front, cluster_label, cluster_text, drawing_text, edge_line, edges_text, escaped, escaped_byte, head_text, ink_text, line_front, lines_text, node_line, origin_text, reason_steps, steps_text, thick_line};
+ghost use Rattle.draw_graph.specs.Texts.{boxes_text, cluster_front, cluster_label, cluster_text, drawing_text, edge_line, edges_text, dot_escaped, escaped_byte, head_text, ink_text, line_front, lines_text, node_line, origin_text, reason_steps, steps_text, thick_line};
 
 use crate::drawing::{Cluster, Drawing, Edge, Edges, Ink};
 use ppc_semantics::Instruction;
@@ -21,7 +21,7 @@ fn put_escaped_byte(text: &mut Vec<u8>, byte: u8) -> Result<(), AllocError>
 }
 
 fn put_escaped(text: &mut Vec<u8>, bytes: &[u8]) -> Result<(), AllocError>
-    ensures { OnOk result (text.new.items ≡ text.old.items ++ escaped bytes.now) }
+    ensures { OnOk result (text.new.items ≡ text.old.items ++ dot_escaped bytes.now) }
 {
     for byte in bytes {
         put_escaped_byte(text, *byte)?;

@@ -236,8 +236,8 @@ sizes_fit p =
     && nat_lt (length p.lines.items) 513 && nat_lt (longest_text p) 513
     && nat_lt (longest_spine p.lines.items) 513
 
-abbrev pub fits : Picture → Bool
-fits p = sizes_fit p && list_all (line_fits p) p.lines.items
+abbrev pub picture_fits : Picture → Bool
+picture_fits p = sizes_fit p && list_all (line_fits p) p.lines.items
 
 -- ---- the whole
 

@@ -2,7 +2,7 @@
 
 ghost use Rattle.std.specs.Prelude.{◌≡◌, ◌≤◌, ◌<◌, ◌^◌, true, false, MatchResult, IfOk, length};
 ghost use Rattle.std.specs.List.{list_all};
-ghost use Rattle.draw_layout.specs.Layout.{has_box, line_fits, sizes_fit, fits, lefts_of, arrows_of, columns_of, picture_frame, picture_bottom, IsLayoutWith, IsLayout};
+ghost use Rattle.draw_layout.specs.Layout.{has_box, line_fits, sizes_fit, picture_fits, lefts_of, arrows_of, columns_of, picture_frame, picture_bottom, IsLayoutWith, IsLayout};
 
 use crate::arrow::{Arrow, arrow_of};
 use crate::ends::{End, ends_of};
@@ -99,7 +99,7 @@ fn lines_fit(picture: &Picture, lines: &[Line]) -> bool
 /// Whether a picture fits: 1 to 8 columns, at most 128 rows and 512 lines, texts of at most 512
 /// letters, names of at most 255, and each line joins two of its boxes, not two initial stores.
 pub fn fits(picture: &Picture) -> bool
-    ensures { result ≡ fits picture.now }
+    ensures { result ≡ picture_fits picture.now }
 {
     sizes_fit(picture) && lines_fit(picture, &picture.lines)
 }
@@ -205,7 +205,7 @@ fn layout_of(alloc: Global, picture: &Picture) -> Result<Layout, AllocError>
 pub fn lay_out(alloc: Global, picture: &Picture) -> Result<Layout, LayoutError>
     ensures { MatchResult result
         (λ l. IsLayout picture.now l)
-        (λ e. e ≡ LayoutError.Unfit → fits picture.now ≡ false) }
+        (λ e. e ≡ LayoutError.Unfit → picture_fits picture.now ≡ false) }
 {
     if !fits(picture) {
         return Err(LayoutError::Unfit);

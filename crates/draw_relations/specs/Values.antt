@@ -59,14 +59,14 @@ pub record IsShownValue (clauses : List Clause) (space : Space) (x : ShownName) 
 
 -- what the name stands for has a fault, as a name without a meaning, or a set in the place of a
 -- relation
-abbrev pub HasFault : List Clause → ShownName → Type 0
-HasFault clauses x =
+abbrev pub HasNameFault : List Clause → ShownName → Type 0
+HasNameFault clauses x =
     (text : ModelText) × IsTextFor clauses x text.items.items × (fault : ModelFault)
     × IsFaultOf text fault
 
 -- or there is no such expression
 abbrev pub HasNoValue : List Clause → ShownName → Type 0
-HasNoValue clauses x = HasFault clauses x ⊎ (body_of clauses x ≡ None)
+HasNoValue clauses x = HasNameFault clauses x ⊎ (body_of clauses x ≡ None)
 
 -- of the names before a number those that stand for a relation, with their values
 pub data AreValuesBefore (space : Space) (clauses : List Clause) (xs : List ShownName)

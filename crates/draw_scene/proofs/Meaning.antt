@@ -13,8 +13,8 @@ use Rattle.draw_layout.specs.declared.picture.Ink as line_ink
 use Rattle.draw_layout.specs.declared.picture.Ink.TheVariants as line_inks
 use Rattle.draw_layout.specs.declared.picture.Position.{Position}
 use Rattle.draw_scene.specs.declared.links.Link.{Link}
-use Rattle.draw_scene.specs.Laws.{IsBoxIn, IsLine, IsLineOfPair, IsLineOfStep, IsNumbered, LeadsFromTo}
-use Rattle.draw_scene.specs.Lines.{Seen, above, below, edge_by, edge_line, edge_lines, goes_by, index_of, is_edge, is_link_by, joined, label_of, line_between, line_ink_of, lines_of, links_of, or_else, place_in, place_of, position, step_line}
+use Rattle.draw_scene.specs.Laws.{IsBoxIn, IsDrawnLine, IsLineOfPair, IsLineOfStep, IsEventOfNumber, LeadsFromTo}
+use Rattle.draw_scene.specs.Lines.{Seen, above, below, edge_by, edge_line, edge_lines, goes_by, index_of, is_edge, is_link_by, joining_lines, label_of, line_between, line_ink_of, drawing_lines, links_of, or_else, place_in, place_of, position, step_line}
 use Rattle.why_text.specs.declared.event.ToldEvent.{ToldEvent}
 
 -- ---- lists
@@ -47,7 +47,7 @@ pub record IsJoined (a b : Option Position) (name : List ℕ) (thick : Bool) (l 
   pub kind : l.is_thick ≡ thick
 
 joined_is : (a b : Option Position) (name : List ℕ) (ink : line_ink.Ink) (thick : Bool) (l : Seen)
-    → Contains (joined a b name ink thick) l → IsJoined a b name thick l
+    → Contains (joining_lines a b name ink thick) l → IsJoined a b name thick l
 joined_is None b name ink thick l h = absurd (none_in l h)
 joined_is (Some f) None name ink thick l h = absurd (none_in l h)
 joined_is (Some f) (Some t) name ink thick l h =
@@ -96,10 +96,10 @@ label_found (link ∷ links) name ink p label is =
 line_by : (d : Drawing) (links : List Link) (e : Edges) (p : ℕ × ℕ) (l : Seen)
     (label : Option (List ℕ)) → label_of links e.name.items e.ink p ≡ label
     → links ≡ links_of d.first d.steps.items → Contains d.edges.items e → Contains e.pairs.items p
-    → Contains (edge_by label d e.name.items e.ink p) l → IsLine l.is_thick d l
+    → Contains (edge_by label d e.name.items e.ink p) l → IsDrawnLine l.is_thick d l
 line_by d links e p l None is all relation related h =
     let found = between_is d p.0 p.1 e.name.items (line_ink_of e.ink) false l h in
-    subst (λ (b : Bool). IsLine b d l) (sym found.kind) record {
+    subst (λ (b : Bool). IsDrawnLine b d l) (sym found.kind) record {
       edges = e;
       relation = relation;
       pair = p;
@@ -110,7 +110,7 @@ line_by d links e p l None is all relation related h =
 line_by d links e p l (Some label) is all relation related h =
     let found = between_is d p.0 p.1 label (line_ink_of e.ink) true l h in
     let (link, inside, from, to, same) = label_found links e.name.items e.ink p label is in
-    subst (λ (b : Bool). IsLine b d l) (sym found.kind) record {
+    subst (λ (b : Bool). IsDrawnLine b d l) (sym found.kind) record {
       link = link;
       step = subst (λ (ls : List Link). Contains ls link) all inside;
       leads = (ap (place_of d) from ∙ found.from, ap (place_of d) to ∙ found.to);
@@ -118,20 +118,20 @@ line_by d links e p l (Some label) is all relation related h =
     }
 
 line_of_step : (d : Drawing) (link : Link) (l : Seen) → Contains (links_of d.first d.steps.items) link
-    → Contains (step_line d link) l → IsLine l.is_thick d l
+    → Contains (step_line d link) l → IsDrawnLine l.is_thick d l
 line_of_step d link l inside h =
     cond_both (list_any (is_edge link) d.edges.items) _ _
-    (λ ls. Contains ls l → IsLine l.is_thick d l) (λ edge none. absurd (none_in l none))
+    (λ ls. Contains ls l → IsDrawnLine l.is_thick d l) (λ edge none. absurd (none_in l none))
     (λ own one.
     let found = between_is d link.from link.to link.label line_inks.Step true l one in
-    subst (λ (b : Bool). IsLine b d l) (sym found.kind) record {
+    subst (λ (b : Bool). IsDrawnLine b d l) (sym found.kind) record {
       link = link;
       step = inside;
       leads = (found.from, found.to);
       name = found.named;
     }) h
 
-pub each_line_is : (d : Drawing) (l : Seen) → Contains (lines_of d) l → IsLine l.is_thick d l
+pub each_line_is : (d : Drawing) (l : Seen) → Contains (drawing_lines d) l → IsDrawnLine l.is_thick d l
 each_line_is d l h =
     let links = links_of d.first d.steps.items in
     elim (Contains-append_cases (flat_map (edge_lines d links) d.edges.items)
@@ -149,23 +149,23 @@ each_line_is d l h =
 
 -- counted from the index of the first
 index_is : (n index : ℕ) (events : List ToldEvent) (j : ℕ) → index_of n index events ≡ Some j
-    → (index ≤ j) × IsNumbered n (slice_get events (j - index))
+    → (index ≤ j) × IsEventOfNumber n (slice_get events (j - index))
 index_is n index [] j is = absurd cc
 index_is n index (e ∷ events) j is =
     cond_both (e.number == n) _ _
     (λ (found : Option ℕ). found ≡ Some j
-    → (index ≤ j) × IsNumbered n (slice_get (e ∷ events) (j - index)))
+    → (index ≤ j) × IsEventOfNumber n (slice_get (e ∷ events) (j - index)))
     (λ same here.
     let at : index ≡ j = same_Some _ _ here in
     let zeroth : 0 ≡ j - index = omega (arith, at) in (
       omega (arith, at),
-      subst (λ k. IsNumbered n (slice_get (e ∷ events) k)) zeroth (e, refl, eqb-true e.number n same),
+      subst (λ k. IsEventOfNumber n (slice_get (e ∷ events) k)) zeroth (e, refl, eqb-true e.number n same),
     ))
     (λ other later.
     let (le, has) = index_is n (index + 1) events j later in
     let next : suc (j - (index + 1)) ≡ j - index = omega (arith, le) in (
       omega (arith, le),
-      subst (λ k. IsNumbered n (slice_get (e ∷ events) k)) next has,
+      subst (λ k. IsEventOfNumber n (slice_get (e ∷ events) k)) next has,
     )) is
 
 position_is : (column row : ℕ) (p : Position) → position column row ≡ Some p
@@ -185,7 +185,7 @@ above_is d n (Some k) p index is =
     let (column, row) = position_is k 0 p is in
     let has = (index_is n 0 d.initial.items k index).1 in
     let whole : k - 0 ≡ k = omega arith in
-    let here : IsBoxIn d n k 0 = subst (λ (j : ℕ). IsNumbered n (slice_get d.initial.items j)) whole has in
+    let here : IsBoxIn d n k 0 = subst (λ (j : ℕ). IsEventOfNumber n (slice_get d.initial.items j)) whole has in
     subst (λ (c : ℕ). IsBoxIn d n c p.row) (sym column)
     (subst (λ (r : ℕ). IsBoxIn d n k r) (sym row) here)
 
@@ -201,7 +201,7 @@ below_is d n t c (Some r) p at index is =
     let (column, row) = position_is t (r + 1) p is in
     let has = (index_is n 0 c.events.items r index).1 in
     let whole : r - 0 ≡ r = omega arith in
-    let numbered = subst (λ (j : ℕ). IsNumbered n (slice_get c.events.items j)) whole has in
+    let numbered = subst (λ (j : ℕ). IsEventOfNumber n (slice_get c.events.items j)) whole has in
     let one : r + 1 ≡ suc r = omega arith in
     let here : IsBoxIn d n t (suc r) = (c, at, numbered) in
     subst (λ (k : ℕ). IsBoxIn d n k p.row) (sym column)

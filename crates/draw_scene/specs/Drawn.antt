@@ -5,7 +5,7 @@ use Rattle.draw_graph.specs.declared.drawing.Drawing.{Drawing}
 use Rattle.draw_graph.specs.Texts.{drawing_text}
 use Rattle.draw_layout.specs.declared.layout.Layout.{Layout}
 use Rattle.draw_layout.specs.declared.picture.Picture.{Picture}
-use Rattle.draw_layout.specs.Layout.{IsLayout, fits}
+use Rattle.draw_layout.specs.Layout.{IsLayout, picture_fits}
 use Rattle.draw_svg.specs.Svg.{svg_text}
 use Rattle.html_text.specs.Elements.{element}
 use Rattle.html_text.specs.Escaped.{escaped}
@@ -19,7 +19,7 @@ use Rattle.draw_scene.specs.declared.drawn.TheConstants.{STYLE, THICK, TOO_LARGE
 -- the text of a picture at its places, behind another; or the picture does not fit
 pub data AddsSvg (style : List ℕ) (p : Picture) (old new : List ℕ) : Type 0 where
   Fits : (l : Layout) → IsLayout p l → new ≡ old ++ svg_text style p l → AddsSvg style p old new
-  FitsNot : fits p ≡ false → new ≡ old ++ TOO_LARGE.now → AddsSvg style p old new
+  FitsNot : picture_fits p ≡ false → new ≡ old ++ TOO_LARGE.now → AddsSvg style p old new
 
 -- the text of a drawing, with this style
 abbrev pub AddsSvgOf : (style : List ℕ) → List (List ℕ) → ℕ → Drawing → (old new : List ℕ)

@@ -30,19 +30,19 @@ pub record IsLineOfStep (d : Drawing) (l : Seen) : Type 0 where
   pub name : l.name ≡ link.label
 
 -- a thick line is a step, and any other a pair
-abbrev pub IsLine : (is_thick : Bool) → Drawing → Seen → Type 0
-IsLine true d l = IsLineOfStep d l
-IsLine false d l = IsLineOfPair d l
+abbrev pub IsDrawnLine : (is_thick : Bool) → Drawing → Seen → Type 0
+IsDrawnLine true d l = IsLineOfStep d l
+IsDrawnLine false d l = IsLineOfPair d l
 
 -- ---- boxes
 
 -- this event is the one of number n
-abbrev pub IsNumbered : ℕ → Option ToldEvent → Type 0
-IsNumbered n found = (e : ToldEvent) × (found ≡ Some e) × (e.number ≡ n)
+abbrev pub IsEventOfNumber : ℕ → Option ToldEvent → Type 0
+IsEventOfNumber n found = (e : ToldEvent) × (found ≡ Some e) × (e.number ≡ n)
 
 -- in row 0 an initial store, in row r + 1 event r of the thread of the column
 abbrev pub IsBoxIn : Drawing → ℕ → (column row : ℕ) → Type 0
-IsBoxIn d n column zero = IsNumbered n (slice_get d.initial.items column)
+IsBoxIn d n column zero = IsEventOfNumber n (slice_get d.initial.items column)
 IsBoxIn d n column (suc r) =
     (c : Cluster) × (slice_get d.clusters.items column ≡ Some c)
-    × IsNumbered n (slice_get c.events.items r)
+    × IsEventOfNumber n (slice_get c.events.items r)

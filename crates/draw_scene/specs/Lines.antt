@@ -61,23 +61,23 @@ pub record Seen : Type 0 where
   pub ink : line_ink.Ink
   pub is_thick : Bool
 
-abbrev pub seen : Line → Seen
-seen l =
+abbrev pub seen_line : Line → Seen
+seen_line l =
     record { from = l.from; to = l.to; name = l.name.items; ink = l.ink; is_thick = l.is_thick }
 
 -- a line from box to box, where both are drawn; between initial stores there is none
-abbrev pub joined : Option Position → Option Position → (name : List ℕ) → line_ink.Ink
+abbrev pub joining_lines : Option Position → Option Position → (name : List ℕ) → line_ink.Ink
     → (is_thick : Bool) → List Seen
-joined None to name ink thick = []
-joined (Some from) None name ink thick = []
-joined (Some from) (Some to) name ink thick =
+joining_lines None to name ink thick = []
+joining_lines (Some from) None name ink thick = []
+joining_lines (Some from) (Some to) name ink thick =
     if (from.row == 0) && (to.row == 0) then []
     else record { from = from; to = to; name = name; ink = ink; is_thick = thick } ∷ []
 
 -- from event a to event b
 unfoldable pub line_between : Drawing → (a b : ℕ) → (name : List ℕ) → line_ink.Ink
     → (is_thick : Bool) → List Seen
-line_between d a b name ink thick = joined (place_of d a) (place_of d b) name ink thick
+line_between d a b name ink thick = joining_lines (place_of d a) (place_of d b) name ink thick
 
 -- ---- steps
 
@@ -160,5 +160,5 @@ step_line d link =
 abbrev pub lines_with : Drawing → List Link → List Seen
 lines_with d links = flat_map (edge_lines d links) d.edges.items ++ flat_map (step_line d) links
 
-abbrev pub lines_of : Drawing → List Seen
-lines_of d = lines_with d (links_of d.first d.steps.items)
+abbrev pub drawing_lines : Drawing → List Seen
+drawing_lines d = lines_with d (links_of d.first d.steps.items)

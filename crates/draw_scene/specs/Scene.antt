@@ -6,7 +6,7 @@ use Rattle.draw_graph.specs.declared.drawing.Cluster.{Cluster}
 use Rattle.draw_graph.specs.declared.drawing.Drawing.{Drawing}
 use Rattle.draw_layout.specs.declared.picture.Label.{Label}
 use Rattle.draw_layout.specs.declared.picture.Picture.{Picture}
-use Rattle.draw_scene.specs.Lines.{seen, lines_of}
+use Rattle.draw_scene.specs.Lines.{seen_line, drawing_lines}
 use Rattle.thread_runs.specs.declared.instruction.Instruction.{Instruction}
 use Rattle.why_text.specs.Events.{action_text, event_name, instruction_text}
 use Rattle.why_text.specs.declared.event.ToldEvent.{ToldEvent}
@@ -47,4 +47,4 @@ pub record IsPicture (locations : List (List ℕ)) (initial : ℕ) (d : Drawing)
   pub stores : map texts_in p.initial.items ≡ map (store_texts locations initial) d.initial.items
   pub threads :
       map column_texts p.threads.items ≡ map (thread_texts locations initial) d.clusters.items
-  pub lines : map seen p.lines.items ≡ lines_of d
+  pub lines : map seen_line p.lines.items ≡ drawing_lines d

@@ -2,7 +2,7 @@
 
 ghost use Rattle.std.specs.Prelude.{◌≡◌, ◌++◌, IfOk, OnOk, map, true};
 ghost use Rattle.std.specs.List.{flat_map, list_any};
-ghost use Rattle.draw_scene.specs.Lines.{edge_by, edge_line, edge_lines, is_edge, joined, line_between, line_ink_of, lines_of, lines_with, seen, step_line};
+ghost use Rattle.draw_scene.specs.Lines.{edge_by, edge_line, edge_lines, is_edge, joining_lines, line_between, line_ink_of, drawing_lines, lines_with, seen_line, step_line};
 ghost use Rattle.draw_scene.specs.Scene.{IsPicture};
 
 use crate::boxes::{column_labels, store_labels};
@@ -37,8 +37,8 @@ fn put_joined(
     ink: LineInk,
     is_thick: bool,
 ) -> Result<(), AllocError>
-    ensures { OnOk result (map seen lines.new.items
-        ≡ map seen lines.old.items ++ joined from to name.now ink is_thick) }
+    ensures { OnOk result (map seen_line lines.new.items
+        ≡ map seen_line lines.old.items ++ joining_lines from to name.now ink is_thick) }
 {
     let (Some(from), Some(to)) = (from, to) else {
         return Ok(());
@@ -67,8 +67,8 @@ fn put_between(
     ink: LineInk,
     is_thick: bool,
 ) -> Result<(), AllocError>
-    ensures { OnOk result (map seen lines.new.items
-        ≡ map seen lines.old.items
+    ensures { OnOk result (map seen_line lines.new.items
+        ≡ map seen_line lines.old.items
         ++ line_between drawing.now pair.0 pair.1 name.now ink is_thick) }
 {
     let from = place_of(drawing, pair.0);
@@ -86,8 +86,8 @@ fn put_edge(
     ink: Ink,
     pair: Edge,
 ) -> Result<(), AllocError>
-    ensures { OnOk result (map seen lines.new.items
-        ≡ map seen lines.old.items ++ edge_line drawing.now links.now name.now ink pair) }
+    ensures { OnOk result (map seen_line lines.new.items
+        ≡ map seen_line lines.old.items ++ edge_line drawing.now links.now name.now ink pair) }
 {
     match label_of(links, name, ink, pair) {
         None => put_between(alloc, lines, drawing, pair, name, line_ink_of(ink), false),
@@ -102,8 +102,8 @@ fn put_edges(
     links: &[Link],
     edges: &Edges,
 ) -> Result<(), AllocError>
-    ensures { OnOk result (map seen lines.new.items
-        ≡ map seen lines.old.items ++ edge_lines drawing.now links.now edges.now) }
+    ensures { OnOk result (map seen_line lines.new.items
+        ≡ map seen_line lines.old.items ++ edge_lines drawing.now links.now edges.now) }
 {
     for pair in &edges.pairs {
         put_edge(alloc, lines, drawing, links, &edges.name, edges.ink, *pair)?;
@@ -118,8 +118,8 @@ fn put_relations(
     drawing: &Drawing,
     links: &[Link],
 ) -> Result<(), AllocError>
-    ensures { OnOk result (map seen lines.new.items
-        ≡ map seen lines.old.items
+    ensures { OnOk result (map seen_line lines.new.items
+        ≡ map seen_line lines.old.items
         ++ flat_map (edge_lines drawing.now links.now) drawing.now.edges.items) }
 {
     for edges in &drawing.edges {
@@ -147,8 +147,8 @@ fn put_step(
     drawing: &Drawing,
     link: &Link,
 ) -> Result<(), AllocError>
-    ensures { OnOk result (map seen lines.new.items
-        ≡ map seen lines.old.items ++ step_line drawing.now link.now) }
+    ensures { OnOk result (map seen_line lines.new.items
+        ≡ map seen_line lines.old.items ++ step_line drawing.now link.now) }
 {
     if is_any_edge(link, &drawing.edges) {
         return Ok(());
@@ -164,8 +164,8 @@ fn put_steps(
     drawing: &Drawing,
     links: &[Link],
 ) -> Result<(), AllocError>
-    ensures { OnOk result (map seen lines.new.items
-        ≡ map seen lines.old.items ++ flat_map (step_line drawing.now) links.now) }
+    ensures { OnOk result (map seen_line lines.new.items
+        ≡ map seen_line lines.old.items ++ flat_map (step_line drawing.now) links.now) }
 {
     for link in links {
         put_step(alloc, lines, drawing, link)?;
@@ -174,7 +174,7 @@ fn put_steps(
 }
 
 fn lines_with(alloc: Global, drawing: &Drawing, links: &[Link]) -> Result<Vec<Line>, AllocError>
-    ensures { IfOk result (λ v. map seen v.items ≡ lines_with drawing.now links.now) }
+    ensures { IfOk result (λ v. map seen_line v.items ≡ lines_with drawing.now links.now) }
 {
     let mut lines = Vec::new(alloc);
     put_relations(alloc, &mut lines, drawing, links)?;
@@ -183,7 +183,7 @@ fn lines_with(alloc: Global, drawing: &Drawing, links: &[Link]) -> Result<Vec<Li
 }
 
 fn lines_of(alloc: Global, drawing: &Drawing) -> Result<Vec<Line>, AllocError>
-    ensures { IfOk result (λ v. map seen v.items ≡ lines_of drawing.now) }
+    ensures { IfOk result (λ v. map seen_line v.items ≡ drawing_lines drawing.now) }
 {
     let links = links_of(alloc, drawing.first, &drawing.steps)?;
     lines_with(alloc, drawing, &links)

@@ -10,7 +10,7 @@ use Rattle.draw_layout.specs.declared.picture.Label.{Label}
 use Rattle.draw_layout.specs.declared.picture.Line.{Line}
 use Rattle.draw_layout.specs.declared.arrow.Arrow.{Arrow}
 use Rattle.draw_layout.specs.declared.layout.Layout.{Layout}
-use Rattle.draw_svg.specs.Svg.{box_at, ground, grounds, stores, thread_boxes, threads_boxes, line_text, name_text, lines_text, names_text}
+use Rattle.draw_svg.specs.Svg.{box_at, ground, grounds, stores, thread_boxes, threads_boxes, svg_line, name_text, lines_text, names_text}
 
 some_next : {X : Type 0} (xs : List X) (k : ℕ) (x : X) → slice_get xs k ≡ Some x
     → drop k xs ≡ x ∷ drop (k + 1) xs
@@ -76,9 +76,9 @@ threads_nil l (events ∷ threads) = refl
 pub lines_go : (lines : List Line) (arrows : List Arrow) (k : ℕ) (line : Line) (a : Arrow)
     → (text all : List ℕ) → k < length lines → line ≡ get_or lines k line
     → slice_get arrows k ≡ Some a → text ++ lines_text (drop k lines) (drop k arrows) ≡ all
-    → (text ++ line_text line a) ++ lines_text (drop (k + 1) lines) (drop (k + 1) arrows) ≡ all
+    → (text ++ svg_line line a) ++ lines_text (drop (k + 1) lines) (drop (k + 1) arrows) ≡ all
 lines_go =
-    both_go (λ k. lines_text) (λ k. line_text) (λ k line lines a arrows. refl)
+    both_go (λ k. lines_text) (λ k. svg_line) (λ k line lines a arrows. refl)
 
 pub lines_stop : (lines : List Line) (arrows : List Arrow) (k : ℕ) (text all : List ℕ)
     → slice_get arrows k ≡ None → text ++ lines_text (drop k lines) (drop k arrows) ≡ all

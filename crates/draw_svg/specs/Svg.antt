@@ -114,8 +114,8 @@ head_path a =
     codes "<path class=\"h\" d=\"M" ++ pair a.end.x a.end.y ++ head_on a.course a
     ++ codes "\"></path>"
 
-unfoldable pub line_text : Line → Arrow → List ℕ
-line_text line a =
+unfoldable pub svg_line : Line → Arrow → List ℕ
+svg_line line a =
     codes "<g class=\"" ++ line_class line.ink line.is_thick ++ codes "\">" ++ line_path a
     ++ head_path a ++ codes "</g>"
 
@@ -134,7 +134,7 @@ name_text line a = name_front line a ++ codes ">" ++ escaped line.name.items ++ 
 abbrev pub lines_text : List Line → List Arrow → List ℕ
 lines_text [] arrows = []
 lines_text (line ∷ lines) [] = []
-lines_text (line ∷ lines) (a ∷ arrows) = line_text line a ++ lines_text lines arrows
+lines_text (line ∷ lines) (a ∷ arrows) = svg_line line a ++ lines_text lines arrows
 
 abbrev pub names_text : List Line → List Arrow → List ℕ
 names_text [] arrows = []

@@ -1,7 +1,7 @@
 //! The elements.
 
 ghost use Rattle.std.specs.Prelude.{◌≡◌, ◌++◌, ◌<◌, ◌≤◌, ◌^◌, OnOk, length, slice_get};
-ghost use Rattle.draw_svg.specs.Svg.{at_point, sizes, ink_class, line_class, text_at, rectangle, box_texts, box_at, thread_name, ground, grounds, stores, events_from, thread_boxes, threads_boxes, line_path, head_path, line_text, anchor, name_front, name_text, lines_text, names_text, svg_start, view_text, head_text, boxes_text, svg_text};
+ghost use Rattle.draw_svg.specs.Svg.{at_point, sizes, ink_class, line_class, text_at, rectangle, box_texts, box_at, thread_name, ground, grounds, stores, events_from, thread_boxes, threads_boxes, line_path, head_path, svg_line, anchor, name_front, name_text, lines_text, names_text, svg_start, view_text, head_text, boxes_text, svg_text};
 
 use crate::bytes::{put_bytes, put_number};
 use crate::path::{head_bytes, put_pair, put_path};
@@ -264,9 +264,9 @@ fn put_head_path(text: &mut Vec<u8>, arrow: Arrow) -> Result<(), AllocError>
     put_bytes(text, b"\"></path>")
 }
 
-#[tactic(auto, unfolding(crate::specs::Svg::line_text))]
+#[tactic(auto, unfolding(crate::specs::Svg::svg_line))]
 fn put_line(text: &mut Vec<u8>, line: &Line, arrow: Arrow) -> Result<(), AllocError>
-    ensures { OnOk result (text.new.items ≡ text.old.items ++ line_text line.now arrow) }
+    ensures { OnOk result (text.new.items ≡ text.old.items ++ svg_line line.now arrow) }
 {
     put_bytes(text, b"<g class=\"")?;
     put_bytes(text, line_class(line.ink, line.is_thick))?;

@@ -12,7 +12,7 @@ use Rattle.verdict.specs.declared.answer.Evaluation.{Evaluation}
 use Rattle.bench_texts.specs.declared.model.NamedModel.{NamedModel}
 use Rattle.bench_texts.specs.declared.reading.Reading.{Reading}
 use Rattle.bench_texts.specs.declared.reading.Reading.TheVariants as readings
-use Rattle.bench_texts.specs.Readings.{AreSoundItems, IsModelReading}
+use Rattle.bench_texts.specs.Readings.{AreResolvedItems, IsModelReading}
 use Rattle.binding_kinds.specs.Outermost.{outermost_names}
 use Rattle.bench_slices.specs.Slices.{slice_by}
 use Rattle.from_scratch.specs.Answers.{IsRisingRole}
@@ -35,7 +35,7 @@ map_reverse f (x ∷ xs) =
     ∙ (ap (λ (l : List _). l ++ f x ∷ []) (map_reverse f xs)
     ∙ sym (reverse-append (f x ∷ []) (map f xs))))
 
-rising_back : (m : NamedModel) (rs : List ResolvedItem) → AreSoundItems m.text.items.items rs
+rising_back : (m : NamedModel) (rs : List ResolvedItem) → AreResolvedItems m.text.items.items rs
     → Each (λ r. IsRisingRole r.role) (reverse rs)
 rising_back m rs a =
     all_reverse (λ r. IsRisingRole r.role) rs (resolved_rising outermost_names 0

@@ -18,7 +18,7 @@ use Rattle.binding_graph.specs.declared.resolved.ResolvedItem.{ResolvedItem}
 use Rattle.binding_graph.specs.Inputs.{inputs_of}
 use Rattle.binding_graph.specs.Resolved.{IsResolvedIn}
 use Rattle.binding_graph.specs.Usages.{Usage, with_values, with_functions, with_all_values, with_all_functions}
-use Rattle.binding_laws.specs.ItemLaws.{Scope, with_names}
+use Rattle.binding_laws.specs.ItemLaws.{Scope, scope_with_names}
 use Rattle.bench_slots.proofs.Lists.{has_reverse, has_map}
 use Rattle.bench_slot_laws.proofs.Naming.{binder_at, at_below, found_at, own_same}
 use Rattle.bench_slot_laws.proofs.Using.{IsBoundBy, items_in}
@@ -30,7 +30,7 @@ use Rattle.binding_laws.proofs.Sound.{sound_term, sound_group, sound_body}
 
 -- each name of an item is kept: the bodies of a recursive group see its own names too
 abbrev pub HasKeptNamesIn : Reach → Scope → List Naming → BareItem → Type 0
-HasKeptNamesIn u s own (Group true bs) = Each (λ b. HasKeptNames u (with_names s own) [] b.body) bs
+HasKeptNamesIn u s own (Group true bs) = Each (λ b. HasKeptNames u (scope_with_names s own) [] b.body) bs
 HasKeptNamesIn u s own (Group false bs) = Each (λ b. HasKeptNames u s [] b.body) bs
 HasKeptNamesIn u s own (Check w e) = HasKeptNames u s [] e
 HasKeptNamesIn u s own Mute = Unit {0}
@@ -167,7 +167,7 @@ module _ (u : Reach) (s : Scope) (at : ℕ)
       → Grows (map (λ i. i.item) r.inputs.items) u.items → Grows r.functions.items u.items
       → HasKeptNamesIn u s (names_after s.senses s.names at c) c
   item_kept (Group true bs) r none h all apps =
-      let t = with_names s (with_own s.names at 0 bs) in
+      let t = scope_with_names s (with_own s.names at 0 bs) in
       bodies_kept s.names u t (length s.names) (seen_own bs) (own_kept bs) values functions bs [] []
       (sound_group t counts (length s.names) true [] bs none) tt
       (inputs_kept u.items r _ h.1.inputs all) (functions_kept u.items r _ h.1.functions apps)

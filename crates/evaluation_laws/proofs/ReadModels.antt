@@ -15,7 +15,7 @@ use Rattle.binding_kinds.specs.Value.{Naming, bare_item}
 use Rattle.binding_graph.specs.declared.resolved.ResolvedItem.{ResolvedItem}
 use Rattle.binding_graph.specs.Reach.{ItemUses, AreReached}
 use Rattle.binding_graph.proofs.Reaching.{leads_more}
-use Rattle.bench_texts.specs.Readings.{AreSoundItems}
+use Rattle.bench_texts.specs.Readings.{AreResolvedItems}
 use Rattle.bench_slices.specs.Slices.{clause_at}
 use Rattle.binding_laws.specs.ItemLaws.{Scope, first_scope}
 use Rattle.bench_slots.proofs.Lists.{each_has, each_reverse, has_contains, contains_has}
@@ -131,7 +131,7 @@ abbrev whole_of : List Item → List ResolvedItem → List ℕ → Whole
 whole_of xs rs us =
     record { items = xs; resolved = rs; used = us; functions = functions_in 0 (map bare_item xs) }
 
-module _ (xs : List Item) (rs : List ResolvedItem) (us : List ℕ) (sound : AreSoundItems xs rs)
+module _ (xs : List Item) (rs : List ResolvedItem) (us : List ℕ) (sound : AreResolvedItems xs rs)
     (reached : AreReached rs us) where
   closed : AreClosed rs
   closed = resolved_closed (map bare_item xs) rs sound.as_resolved
@@ -212,8 +212,8 @@ module _ (xs : List Item) (rs : List ResolvedItem) (us : List ℕ) (sound : AreS
 
 -- ---- two models
 
-module _ (xs ys : List Item) (rs qs : List ResolvedItem) (us vs : List ℕ) (sound : AreSoundItems xs rs)
-    (others : AreSoundItems ys qs) (reached : AreReached rs us) (more : AreReached qs vs)
+module _ (xs ys : List Item) (rs qs : List ResolvedItem) (us vs : List ℕ) (sound : AreResolvedItems xs rs)
+    (others : AreResolvedItems ys qs) (reached : AreReached rs us) (more : AreReached qs vs)
     (texts : map (clause_at xs) us ≡ map (clause_at ys) vs) where
   pub models_walked : IsWalked (whole_of xs rs us) (whole_of ys qs vs)
       (is_whole xs rs us sound reached) (is_whole ys qs vs others more) rs qs us vs [] []

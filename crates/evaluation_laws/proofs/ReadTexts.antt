@@ -6,7 +6,7 @@ use Rattle.text_values.specs.declared.model.Item.TheVariants as items
 use Rattle.text_values.specs.ModelValue.{Term}
 use Rattle.text_values.specs.ModelValue as value
 use Rattle.text_values.specs.ModelValues as values
-use Rattle.binding_kinds.specs.Value.{Bound, BareItem, Group, Check, Mute, Defined, bound_of, bare_item}
+use Rattle.binding_kinds.specs.Value.{Bound, BareItem, Group, Check, Mute, Defined, bound_value_of, bare_item}
 use Rattle.binding_graph.specs.declared.resolved.ResolvedItem.{ResolvedItem}
 use Rattle.binding_graph.specs.Resolved.{IsLabelled, IsLabelledAs}
 use Rattle.binding_laws.specs.ItemLaws.{label_of, SayTheSame}
@@ -30,9 +30,9 @@ to_label (value.Flagging c l) = Some (c.negated, Some l)
 to_label (value.Showing h s) = None
 to_label (value.Including p) = None
 
-bounds_read : (bs : List Binding) → map to_bound (map values.binding_of bs) ≡ map bound_of bs
+bounds_read : (bs : List Binding) → map to_bound (map values.binding_of bs) ≡ map bound_value_of bs
 bounds_read [] = refl
-bounds_read (b ∷ bs) = λ i. bound_of b ∷ bounds_read bs i
+bounds_read (b ∷ bs) = λ i. bound_value_of b ∷ bounds_read bs i
 
 clause_read : (x : Item) → to_clause (values.clause_of x) ≡ bare_item x
 clause_read (items.Let r g) = ap (λ (bs : List Bound). Group r bs) (bounds_read g.items)

@@ -12,7 +12,7 @@ use Rattle.binding_kinds.specs.declared.fault.ModelFault.TheVariants as faults
 use Rattle.binding_kinds.specs.declared.kinds.Kind.{Kind}
 use Rattle.binding_kinds.specs.declared.kinds.Kind.TheVariants.{OfSet, OfRelation, OfAny}
 use Rattle.binding_kinds.specs.declared.scope.Used.{Used}
-use Rattle.binding_kinds.specs.Value.{Naming, Bound, BareItem, Group, Check, Mute, Defined, bare_item, bound_of}
+use Rattle.binding_kinds.specs.Value.{Naming, Bound, BareItem, Group, Check, Mute, Defined, bare_item, bound_value_of}
 use Rattle.binding_kinds.specs.Senses.{Sense, kind_in}
 use Rattle.binding_kinds.specs.Functions.{formula_in}
 use Rattle.binding_kinds.specs.Faults.{width, with_own, names_after, IsFaultIn, IsFaultOfItem, HasNoFault, senses_after}
@@ -24,7 +24,7 @@ use Rattle.binding_graph.specs.declared.resolved.Role.TheVariants as roles
 use Rattle.binding_graph.specs.declared.resolved.Step.{Step}
 use Rattle.binding_graph.specs.Trees.{SetTree, RelTree}
 use Rattle.binding_graph.specs.Meaning.{IsCode, set_tree, rel_tree, steps_of}
-use Rattle.binding_graph.specs.Resolved.{AreBodies, IsGroupRole, IsCheckRole, HasUses, IsResolvedIn, AreResolved, IsLabelled, IsLabelledAs, AreLabelled}
+use Rattle.binding_graph.specs.Resolved.{AreBodies, IsGroupRole, IsCheckRole, HasUses, IsResolvedIn, AreResolved, IsLabelled, IsLabelledAs, AreLabelledAs}
 use Rattle.binding_graph.specs.Usages.{Usage, with_values, usages_after}
 use Rattle.cat_eval_laws.specs.Items as content
 use Rattle.cat_eval_laws.specs.Items.{code_content, body_content, role_content, item_content}
@@ -101,10 +101,10 @@ item_one : (ss : List Sense) (us : List Usage) (names own : List Naming) (from :
     → IsResolvedIn ss us names own from (bare_item x) q → IsLabelledAs x r → IsLabelledAs x q
     → item_content r ≡ item_content q
 item_one ss us names own from (items.Let true g) r q h k l m =
-    uses_one r q _ _ (group_one ss us own from true (map bound_of g.items) r.role q.role h.0 k.0)
+    uses_one r q _ _ (group_one ss us own from true (map bound_value_of g.items) r.role q.role h.0 k.0)
     h.1 k.1
 item_one ss us names own from (items.Let false g) r q h k l m =
-    uses_one r q _ _ (group_one ss us names from false (map bound_of g.items) r.role q.role h.0 k.0)
+    uses_one r q _ _ (group_one ss us names from false (map bound_value_of g.items) r.role q.role h.0 k.0)
     h.1 k.1
 item_one ss us names own from (items.Function n ps b) r q h k l m =
     uses_one r q _ _ (ap role_content (h.0 ∙ sym k.0)) h.1 k.1
@@ -124,7 +124,7 @@ item_one ss us names own from (items.Include n) r q h k l m =
 all_one : (ss : List Sense) (us : List Usage) (names : List Naming) (at : ℕ)
     (xs : List code_item.Item) (rs qs : List ResolvedItem)
     → AreResolved ss us names at (map bare_item xs) rs
-    → AreResolved ss us names at (map bare_item xs) qs → AreLabelled xs rs → AreLabelled xs qs
+    → AreResolved ss us names at (map bare_item xs) qs → AreLabelledAs xs rs → AreLabelledAs xs qs
     → map item_content rs ≡ map item_content qs
 all_one ss us names at [] [] [] h g l m = refl
 all_one ss us names at [] [] (q ∷ qs) h g l m = absurd g

@@ -28,7 +28,7 @@ use Rattle.from_scratch.specs.Answers.{AreNamed, HasColumns, HasAnswers, AreItem
 use Rattle.from_scratch.specs.FromScratch.{IsFaultless, IsEvaluationOf, IsResultOf}
 use Rattle.from_scratch.proofs.Sole.{one_fault, fault_or_none}
 use Rattle.cat_eval_laws.specs.Items.{ItemContent, RoleContent, Group, Check, Silent, role_content, item_content}
-use Rattle.cat_eval_laws.specs.Laws.{AreSame}
+use Rattle.cat_eval_laws.specs.Laws.{AreSameItems}
 use Rattle.cat_eval_laws.proofs.Keeping.{columns_kept, answers_kept, later}
 use Rattle.evaluation_laws.specs.Laws.{IsCoded, HasOneOutcomeFromScratch}
 use Rattle.evaluation_laws.proofs.Sole.{one_columns, one_answers}
@@ -73,7 +73,7 @@ module _ (space another : Space) (shown : shown_in space ≡ shown_in another) w
       (one : (j : ℕ) (cs ds : List Column) → Values j cs → Others j ds → cs ≡ ds)
       (r q : ResolvedItem) (e : item_content r ≡ item_content q) (coded : IsCoded r.role) where
     inputs_one : (ins outs : List (Bor Column)) → AreNamed Values r.inputs.items ins
-        → AreNamed Others q.inputs.items outs → AreSame q.role r.role another space outs ins
+        → AreNamed Others q.inputs.items outs → AreSameItems q.role r.role another space outs ins
     inputs_one ins outs h g =
         let as_named : AreNamed Others r.inputs.items outs = subst (λ (ns : List Input). AreNamed Others ns outs) (ap (λ (x : ItemContent). x.inputs) (sym e)) g in
         record {

@@ -17,7 +17,7 @@ use Rattle.binding_kinds.specs.Functions.{sense_of_function}
 use Rattle.binding_kinds.specs.Faults.{with_own, with_all, names_after, senses_after, HasNoFault}
 use Rattle.binding_graph.specs.declared.resolved.ResolvedItem.{ResolvedItem}
 use Rattle.binding_graph.specs.Reach.{is_check}
-use Rattle.binding_graph.specs.Resolved.{AreResolved, AreLabelled}
+use Rattle.binding_graph.specs.Resolved.{AreResolved, AreLabelledAs}
 use Rattle.binding_graph.specs.Usages.{Usage, usage_of_function, usages_after, with_values}
 use Rattle.binding_laws.specs.ItemLaws.{Scope, with_function}
 use Rattle.bench_slots.proofs.Lists.{each_to, each_reverse}
@@ -59,7 +59,7 @@ functions_in at (c ∷ cs) = with_function at c (functions_in (at + 1) cs)
 pub record IsSeen (w : Whole) (s : Scope) (at : ℕ) (xs : List Item) (rs : List ResolvedItem)
     : Type 0 where
   pub as_resolved : AreResolved s.senses s.usages s.names at (map bare_item xs) rs
-  pub labelled : AreLabelled xs rs
+  pub labelled : AreLabelledAs xs rs
   pub no_fault : HasNoFault s.senses s.names at (map bare_item xs)
   pub texts : (k : ℕ) → slice_get w.items (at + k) ≡ slice_get xs k
   pub items : (k : ℕ) → slice_get w.resolved (at + k) ≡ slice_get rs k

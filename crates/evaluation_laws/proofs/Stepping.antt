@@ -15,7 +15,7 @@ use Rattle.binding_kinds.specs.Senses.{Sense, kind_in}
 use Rattle.binding_kinds.specs.Functions.{sense_of_function}
 use Rattle.binding_kinds.specs.Faults.{naming_at, with_own, with_all, names_after, senses_after}
 use Rattle.binding_graph.specs.Usages.{usage_of_function, usages_after}
-use Rattle.binding_laws.specs.ItemLaws.{Scope, IsPairing, HasSameNames, HasSameNamesIn, with_names}
+use Rattle.binding_laws.specs.ItemLaws.{Scope, IsPairing, HasSameNames, HasSameNamesIn, scope_with_names}
 use Rattle.binding_laws.proofs.Alike.{kind_same}
 use Rattle.binding_laws.proofs.Applied.{alike_sense, alike_usage}
 use Rattle.binding_laws.proofs.Before.{get_last}
@@ -85,8 +85,8 @@ grown K L at bt p (b ∷ bs) names others cs =
 module _ (u v : Reach) (at bt : ℕ) where
   one_shared : (s o : Scope) (cs : List Shared) (p : ℕ) (b : Bound) (k l : Kind) → k ≡ l
       → AreShared u v s o cs
-      → AreShared u v (with_names s (naming_at at p b k ∷ s.names))
-      (with_names o (naming_at bt p b l ∷ o.names)) (shared_one b s.names o.names
+      → AreShared u v (scope_with_names s (naming_at at p b k ∷ s.names))
+      (scope_with_names o (naming_at bt p b l ∷ o.names)) (shared_one b s.names o.names
       (naming_at at p b k) (naming_at bt p b l) ∷ cs)
   one_shared s o cs p b k l e h =
       let n = naming_at at p b k in
@@ -99,19 +99,19 @@ module _ (u v : Reach) (at bt : ℕ) where
         common = (
           record { slots = contains_here (length s.names, length o.names) (slots_of cs); kinds = e; matched = contains_here (record { item = at; position = p }, record { item = bt; position = p }) (inputs_of cs) },
           all_within (pairing_of cs) (pairing_of (c ∷ cs)) (within_one c cs) s o
-              (with_names s (n ∷ s.names)) (with_names o (m ∷ o.names)) (λ i x g. g) (λ i x g. g)
+              (scope_with_names s (n ∷ s.names)) (scope_with_names o (m ∷ o.names)) (λ i x g. g) (λ i x g. g)
               (λ i x g. g) (λ i x g. g) cs h.common,
         );
       }
 
   pub grown_shared : (K L : Bound → Kind) (bs : List Bound) (p : ℕ) (s o : Scope) (cs : List Shared)
       → Each (λ b. K b ≡ L b) bs → AreShared u v s o cs
-      → AreShared u v (with_names s (with_kinds K s.names at p bs))
-      (with_names o (with_kinds L o.names bt p bs)) (grown K L at bt p bs s.names o.names cs)
+      → AreShared u v (scope_with_names s (with_kinds K s.names at p bs))
+      (scope_with_names o (with_kinds L o.names bt p bs)) (grown K L at bt p bs s.names o.names cs)
   grown_shared K L [] p s o cs e h = h
   grown_shared K L (b ∷ bs) p s o cs e h =
-      grown_shared K L bs (suc p) (with_names s (naming_at at p b (K b) ∷ s.names))
-      (with_names o (naming_at bt p b (L b) ∷ o.names))
+      grown_shared K L bs (suc p) (scope_with_names s (naming_at at p b (K b) ∷ s.names))
+      (scope_with_names o (naming_at bt p b (L b) ∷ o.names))
       (shared_one b s.names o.names (naming_at at p b (K b)) (naming_at bt p b (L b)) ∷ cs) e.1
       (one_shared s o cs p b (K b) (L b) e.0 h)
 
@@ -279,16 +279,16 @@ module _ (u v : Reach) (s o : Scope) (at bt : ℕ) (cs : List Shared) (shared : 
       let K : Bound → Kind = λ b. OfRelation in
       let ds = grown K K at bt 0 bs s.names o.names cs in
       let raw = grown_shared u v at bt K K bs 0 s o cs (same_relations bs) shared in
-      let half : AreShared u v (with_names s (with_own s.names at 0 bs)) (with_names o (with_kinds K o.names bt 0 bs)) ds = subst (λ (ns : List Naming). AreShared u v (with_names s ns) (with_names o (with_kinds K o.names bt 0 bs)) ds) (own_kinds s.names at 0 bs) raw in
-      let all : AreShared u v (with_names s (with_own s.names at 0 bs)) (with_names o (with_own o.names bt 0 bs)) ds = subst (λ (ns : List Naming). AreShared u v (with_names s (with_own s.names at 0 bs)) (with_names o ns) ds) (own_kinds o.names bt 0 bs) half in
+      let half : AreShared u v (scope_with_names s (with_own s.names at 0 bs)) (scope_with_names o (with_kinds K o.names bt 0 bs)) ds = subst (λ (ns : List Naming). AreShared u v (scope_with_names s ns) (scope_with_names o (with_kinds K o.names bt 0 bs)) ds) (own_kinds s.names at 0 bs) raw in
+      let all : AreShared u v (scope_with_names s (with_own s.names at 0 bs)) (scope_with_names o (with_own o.names bt 0 bs)) ds = subst (λ (ns : List Naming). AreShared u v (scope_with_names s (with_own s.names at 0 bs)) (scope_with_names o ns) ds) (own_kinds o.names bt 0 bs) half in
       let placed = grown_placed u v at bt (length s.names) (length o.names) K K bs 0 0 s.names o.names cs (omega arith) (omega arith) (λ a b h. inl (falling_below cs (length s.names) (length o.names) a b shared.falling h)) in
       let origin = grown_from u v at bt (λ i j. P i j ⊎ IsOwnPair at bt i j) (λ p. inr (refl, refl, refl)) K K bs 0 s.names o.names cs from_more in
       record {
         during = ds;
         pairing = placed_pairing ds (length s.names) (length o.names) _ _ all.falling placed;
         names =
-            bodies_same (with_names s (with_own s.names at 0 bs))
-            (with_names o (with_own o.names bt 0 bs)) ds all bs l r;
+            bodies_same (scope_with_names s (with_own s.names at 0 bs))
+            (scope_with_names o (with_own o.names bt 0 bs)) ds all bs l r;
         during_from = origin;
         behind = ds;
         shared = all;
@@ -300,8 +300,8 @@ module _ (u v : Reach) (s o : Scope) (at bt : ℕ) (cs : List Shared) (shared : 
       let L : Bound → Kind = λ b. kind_in o.senses o.names b.body in
       let ds = grown K L at bt 0 bs s.names o.names cs in
       let raw = grown_shared u v at bt K L bs 0 s o cs (kinds_same bs names) shared in
-      let half : AreShared u v (with_names s (with_all s.senses s.names s.names at 0 bs)) (with_names o (with_kinds L o.names bt 0 bs)) ds = subst (λ (ns : List Naming). AreShared u v (with_names s ns) (with_names o (with_kinds L o.names bt 0 bs)) ds) (all_kinds s.senses s.names s.names at 0 bs) raw in
-      let all : AreShared u v (with_names s (with_all s.senses s.names s.names at 0 bs)) (with_names o (with_all o.senses o.names o.names bt 0 bs)) ds = subst (λ (ns : List Naming). AreShared u v (with_names s (with_all s.senses s.names s.names at 0 bs)) (with_names o ns) ds) (all_kinds o.senses o.names o.names bt 0 bs) half in
+      let half : AreShared u v (scope_with_names s (with_all s.senses s.names s.names at 0 bs)) (scope_with_names o (with_kinds L o.names bt 0 bs)) ds = subst (λ (ns : List Naming). AreShared u v (scope_with_names s ns) (scope_with_names o (with_kinds L o.names bt 0 bs)) ds) (all_kinds s.senses s.names s.names at 0 bs) raw in
+      let all : AreShared u v (scope_with_names s (with_all s.senses s.names s.names at 0 bs)) (scope_with_names o (with_all o.senses o.names o.names bt 0 bs)) ds = subst (λ (ns : List Naming). AreShared u v (scope_with_names s (with_all s.senses s.names s.names at 0 bs)) (scope_with_names o ns) ds) (all_kinds o.senses o.names o.names bt 0 bs) half in
       record {
         during = cs;
         pairing = low_pairing;

@@ -5,13 +5,13 @@ use Rattle.text_values.specs.declared.model.Item.{Item}
 use Rattle.binding_kinds.specs.declared.fault.ModelFault.{ModelFault}
 use Rattle.binding_kinds.specs.Value.{Naming, BareItem, bare_item}
 use Rattle.binding_kinds.specs.Senses.{Sense}
-use Rattle.binding_kinds.specs.Faults.{IsFault, names_after, senses_after}
+use Rattle.binding_kinds.specs.Faults.{IsFaultBehind, names_after, senses_after}
 use Rattle.fault_places.specs.declared.place.ItemFault.{ItemFault}
 use Rattle.fault_places.specs.Found.{IsItemFault}
 use Rattle.binding_kinds.specs.Outermost.{outermost_names}
 
 item_below : (ss : List Sense) (names : List Naming) (from : ℕ) (cs : List BareItem) (i p : ℕ)
-    (k : ModelFault) → IsFault ss names from cs i p k → i < length cs
+    (k : ModelFault) → IsFaultBehind ss names from cs i p k → i < length cs
 item_below ss names from [] i p k h = absurd h
 item_below ss names from (c ∷ cs) i p k h = elim h [
   | inl (e, f) ↦ omega (arith, e)

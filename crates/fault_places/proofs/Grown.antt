@@ -9,7 +9,7 @@ use Rattle.binding_kinds.specs.declared.fault.ModelFault.{ModelFault}
 use Rattle.binding_kinds.specs.declared.function.Function.{Function}
 use Rattle.binding_kinds.specs.declared.kinds.Kind.TheVariants.{OfAny}
 use Rattle.text_values.specs.ModelValues.{term_of}
-use Rattle.binding_kinds.specs.Value.{Naming, entry_of, bound_of}
+use Rattle.binding_kinds.specs.Value.{Naming, entry_of, bound_value_of}
 use Rattle.binding_kinds.specs.Senses.{Sense, HasSense, HaveSenses, kind_in}
 use Rattle.binding_kinds.specs.Verdict.{or_else, of_parameter, of_parameters}
 use Rattle.binding_kinds.proofs.Applications.{kept_long, kept_more}
@@ -22,9 +22,9 @@ pub all_more : (ss : List Sense) (outer : List Naming) (g : List Binding) (i ite
     (s : List Entry) (e : Entry) → i < length g → e.name ≡ (get_or g i d).name
     → e.kind ≡ kind_in ss outer (term_of (get_or g i d).body)
     → e.binder ≡ binders.Bound (record { item = item; position = i })
-    → with_all ss outer (reverse (map entry_of s)) item i (map bound_of (drop i g))
+    → with_all ss outer (reverse (map entry_of s)) item i (map bound_value_of (drop i g))
     ≡ with_all ss outer (reverse (map entry_of (s ++ e ∷ []))) item (i + 1)
-    (map bound_of (drop (i + 1) g))
+    (map bound_value_of (drop (i + 1) g))
 all_more ss outer g i item d s e lt name k b =
     rw (drop-cons g i d lt, rev_push entry_of s e, name, k, b, add-one i) refl
 

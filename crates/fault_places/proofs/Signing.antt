@@ -9,7 +9,7 @@ use Rattle.binding_kinds.specs.declared.fault.ModelFault.{ModelFault}
 use Rattle.binding_kinds.specs.declared.fault.ModelFault.TheVariants as faults
 use Rattle.binding_kinds.specs.declared.scope.Found.{Found}
 use Rattle.binding_kinds.specs.Value.{Naming, Bound, BareItem, Group, Check, Mute, Defined}
-use Rattle.binding_kinds.specs.Kinds.{found, takes, is_relation, is_set, is_turned, takes_body}
+use Rattle.binding_kinds.specs.Kinds.{found, takes, is_relation, is_set_kind, is_turned, takes_body}
 use Rattle.binding_kinds.specs.Meanings.{parameter_of}
 use Rattle.binding_kinds.specs.Senses.{Sense, size_with, sense_of, count_of, sizes_in, kind_in, kinds_in, under_of, fault_applied}
 use Rattle.binding_kinds.specs.Faults.{width, widths, IsAmong, IsFaultOfApplication, IsFaultAt, IsFaultAmong, IsFaultOfBinding, IsFaultIn, IsFaultOfParameter, IsFaultOfParameters, IsFaultInside, IsFaultApplied, IsFaultOfBody, IsFaultOfBodies, IsFaultOfItem, IsFirst, IsFaultNoLater, FirstFault, HasNoFault, with_own, names_after, senses_after}
@@ -226,7 +226,7 @@ mutual
   shown ss names from under (On a) =
       let zs = signs (On a) in
       turn _ _ 1 zs _ _ (λ p k s. omega (arith, s.0)) (λ p k (after, e, f). omega (arith, e))
-      (at_sign _ 0 zs _ _ (λ p k h. h.0) refl (tested 0 (is_set (kind_in ss names a)) faults.Kind))
+      (at_sign _ 0 zs _ _ (λ p k h. h.0) refl (tested 0 (is_set_kind (kind_in ss names a)) faults.Kind))
       (behind (IsFaultAt ss names from under a) 1 (signs a) zs _ (next_at (codes "[") (signs a))
       (shown ss names from under a))
   shown ss names from under (Apply x ts) =

@@ -13,7 +13,7 @@ use Rattle.binding_kinds.specs.declared.fault.ModelFault.{ModelFault}
 use Rattle.binding_kinds.specs.GroupNames.{let_names}
 use Rattle.binding_kinds.specs.Kinds.{found}
 use Rattle.binding_kinds.specs.Meanings.{parameter_of}
-use Rattle.binding_kinds.specs.Value.{Naming, Bound, bound_of}
+use Rattle.binding_kinds.specs.Value.{Naming, Bound, bound_value_of}
 use Rattle.binding_kinds.specs.Verdict.{of_parameter}
 use Rattle.binding_kinds.specs.First.{let_fault, apply_fault}
 use Rattle.binding_kinds.specs.Senses.{Sense, IsSameSize, sense_of, size_in, sizes_in, size_applied, kinds_in, under_of, fault_applied}
@@ -177,31 +177,31 @@ all_bodies ss names ps xs i now total past e =
 pub next_binding : (ss : List Sense) (names : List Naming) (from : ℕ) (r : Bool) (g : List Binding)
     (i : ℕ) (b : Binding) (own : Option ModelFault)
     (before after body here total : Option SignedFault) → i < length g → b ≡ get_or g i b
-    → own ≡ let_fault ss names r (let_names (take i g)) (bound_of b)
+    → own ≡ let_fault ss names r (let_names (take i g)) (bound_value_of b)
     → body ≡ first_fault_in ss names from false (term_of b.body)
     → here ≡ or_later (signed_fault own b.name) body → after ≡ or_later before here
     → or_later before (first_fault_in_group ss names from r (let_names (take i g))
-    (map bound_of (drop i g))) ≡ total
+    (map bound_value_of (drop i g))) ≡ total
     → or_later after (first_fault_in_group ss names from r (let_names (take (i + 1) g))
-    (map bound_of (drop (i + 1) g))) ≡ total
+    (map bound_value_of (drop (i + 1) g))) ≡ total
 next_binding ss names from r g i b own before after body here total lt is own_is body_is here_is
     after_is inv =
-    let rest = first_fault_in_group ss names from r (b.name ∷ let_names (take i g)) (map bound_of (drop (i + 1) g)) in
+    let rest = first_fault_in_group ss names from r (b.name ∷ let_names (take i g)) (map bound_value_of (drop (i + 1) g)) in
     let ns : let_names (take (i + 1) g) ≡ b.name ∷ let_names (take i g) = rev_more (λ (x : Binding). x.name) g i b lt ∙ ap (λ (x : Binding). x.name ∷ let_names (take i g)) (sym is) in
-    let bs : map bound_of (drop i g) ≡ bound_of b ∷ map bound_of (drop (i + 1) g) =
-    ap (map bound_of) (drop-cons g i b lt)
-    ∙ ap (λ (x : Binding). bound_of x ∷ map bound_of (drop (suc i) g)) (sym is)
-    ∙ ap (λ (n : ℕ). bound_of b ∷ map bound_of (drop n g)) (sym (add-one i)) in
+    let bs : map bound_value_of (drop i g) ≡ bound_value_of b ∷ map bound_value_of (drop (i + 1) g) =
+    ap (map bound_value_of) (drop-cons g i b lt)
+    ∙ ap (λ (x : Binding). bound_value_of x ∷ map bound_value_of (drop (suc i) g)) (sym is)
+    ∙ ap (λ (n : ℕ). bound_value_of b ∷ map bound_value_of (drop n g)) (sym (add-one i)) in
     ap
     (λ (l : List (List ℕ)).
-    or_later after (first_fault_in_group ss names from r l (map bound_of (drop (i + 1) g))))
+    or_later after (first_fault_in_group ss names from r l (map bound_value_of (drop (i + 1) g))))
     ns
     ∙ ap (λ (o : Option SignedFault). or_later o rest) (after_is
     ∙ ap (λ (o : Option SignedFault). or_later before o) (here_is
     ∙ ap (λ (o : Option ModelFault). or_later (signed_fault o b.name) body) own_is
     ∙ ap
     (λ (o : Option SignedFault). or_later
-    (signed_fault (let_fault ss names r (let_names (take i g)) (bound_of b))
+    (signed_fault (let_fault ss names r (let_names (take i g)) (bound_value_of b))
     b.name) o) body_is))
     ∙ later_assoc before _ rest
     ∙ ap (λ (o : Option SignedFault). or_later before o) (later_assoc _ _ rest)
@@ -213,13 +213,13 @@ next_binding ss names from r g i b own before after body here total lt is own_is
 pub all_bindings : (ss : List Sense) (names : List Naming) (from : ℕ) (r : Bool)
     (earlier : List (List ℕ)) (g : List Binding) (i : ℕ) (now total : Option SignedFault)
     → length g ≤ i
-    → or_later now (first_fault_in_group ss names from r earlier (map bound_of (drop i g))) ≡ total
+    → or_later now (first_fault_in_group ss names from r earlier (map bound_value_of (drop i g))) ≡ total
     → now ≡ total
 all_bindings ss names from r earlier g i now total past e =
     sym (later_none now)
     ∙ sym (ap
     (λ (l : List Binding).
-    or_later now (first_fault_in_group ss names from r earlier (map bound_of l)))
+    or_later now (first_fault_in_group ss names from r earlier (map bound_value_of l)))
     (drop_all i g past)) ∙ e
 
 pub next_parameter : (ps : List (List ℕ)) (i : ℕ) (p : List ℕ) (own : Option ModelFault)

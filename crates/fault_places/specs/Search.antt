@@ -4,7 +4,7 @@ use Rattle.text_values.specs.ModelValue.{Term, Terms, Atom, AllEvents, EmptyRela
 use Rattle.binding_kinds.specs.declared.fault.ModelFault.{ModelFault}
 use Rattle.binding_kinds.specs.declared.fault.ModelFault.TheVariants as faults
 use Rattle.binding_kinds.specs.Value.{Naming, Bound, BareItem, Group, Check, Mute, Defined}
-use Rattle.binding_kinds.specs.Kinds.{found, takes, is_relation, is_set, is_turned, takes_body}
+use Rattle.binding_kinds.specs.Kinds.{found, takes, is_relation, is_set_kind, is_turned, takes_body}
 use Rattle.binding_kinds.specs.Meanings.{parameter_of}
 use Rattle.binding_kinds.specs.Verdict.{unless, of_name, of_parameter}
 use Rattle.binding_kinds.specs.Senses.{Sense, sense_of, count_of, sizes_in, kind_in, kinds_in, under_of, fault_applied}
@@ -50,7 +50,7 @@ abbrev mutual
       (unless (is_relation (kind_in ss names a)) faults.Kind) (postfix_sign op))
   first_fault_in ss names from under (Not a) = first_fault_in ss names from true a
   first_fault_in ss names from under (On a) =
-      or_later (signed_fault (unless (is_set (kind_in ss names a)) faults.Kind) (codes "["))
+      or_later (signed_fault (unless (is_set_kind (kind_in ss names a)) faults.Kind) (codes "["))
       (first_fault_in ss names from under a)
   first_fault_in ss names from under (Apply x arguments) =
       let f = sense_of ss (count_of arguments) (found names x) in

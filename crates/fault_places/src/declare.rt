@@ -2,7 +2,7 @@
 
 ghost use Rattle.std.specs.Prelude.{◌≡◌, [], None, IfOk, OnOk, List, reverse, map, length, option_map, false};
 ghost use Rattle.text_values.specs.ModelValues.{term_of};
-ghost use Rattle.binding_kinds.specs.Value.{Defined, entry_of, bound_of, bare_item};
+ghost use Rattle.binding_kinds.specs.Value.{Defined, entry_of, bound_value_of, bare_item};
 ghost use Rattle.binding_kinds.specs.Kinds.{takes_body};
 ghost use Rattle.binding_kinds.specs.Senses.{Sense, HaveSenses, kind_in};
 ghost use Rattle.binding_kinds.specs.Faults.{with_all, names_after, senses_after};
@@ -34,7 +34,7 @@ fn declare_all(
     ensures { (senses : List Sense) → HaveSenses functions.now senses
         → OnOk result (reverse (map entry_of entries.new.items)
         ≡ with_all senses (reverse (map entry_of entries.old.items))
-        (reverse (map entry_of entries.old.items)) item 0 (map bound_of group.now)) }
+        (reverse (map entry_of entries.old.items)) item 0 (map bound_value_of group.now)) }
 {
     let before = entries.len();
     for (position, binding) in group.iter().enumerate() {

@@ -1,7 +1,7 @@
 //! The first fault of a group and of parameters, and the sign that it stands at.
 
 ghost use Rattle.std.specs.Prelude.{◌≡◌, [], List, reverse, map, option_map};
-ghost use Rattle.binding_kinds.specs.Value.{entry_of, bound_of};
+ghost use Rattle.binding_kinds.specs.Value.{entry_of, bound_value_of};
 ghost use Rattle.binding_kinds.specs.Senses.{Sense, HaveSenses};
 ghost use Rattle.fault_places.specs.Search.{signed_fault_of, signed_fault, first_fault_in_group, first_fault_in_parameters};
 
@@ -21,7 +21,7 @@ pub fn group_fault<'t>(
     ensures { (senses : List Sense) → HaveSenses functions.now senses
         → option_map signed_fault_of result
         ≡ first_fault_in_group senses (reverse (map entry_of entries.now)) from recursive []
-        (map bound_of group.now) }
+        (map bound_value_of group.now) }
 {
     let mut all = None;
     for (index, binding) in group.iter().enumerate() {

@@ -14,7 +14,7 @@ use Rattle.binding_kinds.specs.Faults.{HasNoFault, FirstFault}
 use Rattle.binding_kinds.specs.Outermost.{outermost_names}
 use Rattle.binding_kinds.specs.Value.{BareItem, bare_item}
 use Rattle.binding_graph.specs.declared.resolved.ResolvedItem.{ResolvedItem}
-use Rattle.binding_graph.specs.Resolved.{AreResolved, AreLabelled}
+use Rattle.binding_graph.specs.Resolved.{AreResolved, AreLabelledAs}
 use Rattle.verdict.specs.declared.answer.Evaluation.{Evaluation}
 use Rattle.verdict.specs.declared.answer.Outcome.{Outcome}
 use Rattle.verdict.specs.declared.answer.OutcomeResult.{OutcomeResult}
@@ -36,7 +36,7 @@ IsFaultless model = HasNoFault [] outermost_names 0 (bare_items model)
 -- in the text
 abbrev pub AreItemsOf : ModelText → List ResolvedItem → Type 0
 AreItemsOf model items =
-    AreResolved [] [] outermost_names 0 (bare_items model) items × AreLabelled model.items.items items
+    AreResolved [] [] outermost_names 0 (bare_items model) items × AreLabelledAs model.items.items items
 
 -- the evaluation of the test's condition on its candidates that the checks of the model keep
 abbrev pub IsEvaluationOf : Test → ModelText → Evaluation → Type 0

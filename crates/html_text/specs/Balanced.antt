@@ -4,26 +4,26 @@ use Rattle.std.specs.List.{list_all, list_any}
 use Rattle.std.specs.Str.{bytes_eq}
 use Rattle.html_text.specs.Elements.{Attribute}
 
-abbrev pub Names : Type 0
-Names = List (List ℕ)
+abbrev pub ElementNames : Type 0
+ElementNames = List (List ℕ)
 
 -- Where the reader stands. `around` are the names of the elements that are open, the innermost
 -- first.
-pub data Reader : Type 0 where
+pub data MarkupReader : Type 0 where
   -- between two tags
-  Content : (around : Names) → Reader
+  Content : (around : ElementNames) → MarkupReader
   -- behind `<`
-  Angle : (around : Names) → Reader
+  Angle : (around : ElementNames) → MarkupReader
   -- in the name of a tag that opens
-  Opening : (name : List ℕ) (around : Names) → Reader
+  Opening : (name : List ℕ) (around : ElementNames) → MarkupReader
   -- behind that name
-  Attributes : (name : List ℕ) (around : Names) → Reader
+  Attributes : (name : List ℕ) (around : ElementNames) → MarkupReader
   -- in the value of an attribute
-  Quoted : (name : List ℕ) (around : Names) → Reader
+  Quoted : (name : List ℕ) (around : ElementNames) → MarkupReader
   -- in the name of a tag that closes
-  Closing : (name : List ℕ) (around : Names) → Reader
+  Closing : (name : List ℕ) (around : ElementNames) → MarkupReader
   -- the tags do not close in order, whatever follows
-  Broken : Reader
+  Broken : MarkupReader
 
 abbrev pub is_name_letter : ℕ → Bool
 is_name_letter b = nat_le 97 b && nat_le b 122
@@ -32,7 +32,7 @@ abbrev pub is_name_byte : ℕ → Bool
 is_name_byte b = is_name_letter b || (nat_le 48 b && nat_le b 57)
 
 -- elements that have no tag that closes
-abbrev pub void_names : Names
+abbrev pub void_names : ElementNames
 void_names =
     codes "area" ∷ codes "base" ∷ codes "br" ∷ codes "col" ∷ codes "embed" ∷ codes "hr"
     ∷ codes "img" ∷ codes "input" ∷ codes "link" ∷ codes "meta" ∷ codes "source"
@@ -41,40 +41,40 @@ void_names =
 unfoldable pub is_void : List ℕ → Bool
 is_void name = list_any (bytes_eq name) void_names
 
-abbrev pub opened : List ℕ → Names → Reader
-opened name around = if is_void name then Content around else Content (name ∷ around)
+abbrev pub element_opened : List ℕ → ElementNames → MarkupReader
+element_opened name around = if is_void name then Content around else Content (name ∷ around)
 
 -- only the innermost element closes
-abbrev pub closed : List ℕ → Names → Reader
-closed name [] = Broken
-closed name (inner ∷ around) = if bytes_eq name inner then Content around else Broken
+abbrev pub element_closed : List ℕ → ElementNames → MarkupReader
+element_closed name [] = Broken
+element_closed name (inner ∷ around) = if bytes_eq name inner then Content around else Broken
 
-abbrev pub step : Reader → ℕ → Reader
-step (Content around) b = if b == 60 then Angle around else Content around
-step (Angle around) b =
+abbrev pub markup_step : MarkupReader → ℕ → MarkupReader
+markup_step (Content around) b = if b == 60 then Angle around else Content around
+markup_step (Angle around) b =
     if b == 47 then Closing [] around else (
     if is_name_letter b then Opening (b ∷ []) around else Broken)
-step (Opening name around) b =
+markup_step (Opening name around) b =
     if is_name_byte b then Opening (name ++ b ∷ []) around else (
     if b == 32 then Attributes name around else (
-    if b == 62 then opened name around else Broken))
-step (Attributes name around) b =
+    if b == 62 then element_opened name around else Broken))
+markup_step (Attributes name around) b =
     if b == 34 then Quoted name around else (
-    if b == 62 then opened name around else (
+    if b == 62 then element_opened name around else (
     if b == 60 || b == 39 then Broken else Attributes name around))
-step (Quoted name around) b = if b == 34 then Attributes name around else Quoted name around
-step (Closing name around) b =
+markup_step (Quoted name around) b = if b == 34 then Attributes name around else Quoted name around
+markup_step (Closing name around) b =
     if is_name_byte b then Closing (name ++ b ∷ []) around else (
-    if b == 62 then closed name around else Broken)
-step Broken b = Broken
+    if b == 62 then element_closed name around else Broken)
+markup_step Broken b = Broken
 
 -- where the reader stands behind a text
-abbrev pub behind : Reader → List ℕ → Reader
-behind reader text = fold step reader text
+abbrev pub markup_behind : MarkupReader → List ℕ → MarkupReader
+markup_behind reader text = fold markup_step reader text
 
 -- Whatever elements are open before the text, just these are open behind it.
 abbrev pub IsBalanced : List ℕ → Type 0
-IsBalanced text = (around : Names) → behind (Content around) text ≡ Content around
+IsBalanced text = (around : ElementNames) → markup_behind (Content around) text ≡ Content around
 
 -- ---- names that elements are built with
 

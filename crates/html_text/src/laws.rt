@@ -4,7 +4,7 @@ ghost use Rattle.std.specs.Prelude.{◌≡◌, ◌++◌, ℕ, List, true, false,
 ghost use Rattle.std.specs.List.{AllPass, concat};
 ghost use Rattle.html_text.specs.Escaped.{escaped, read_from, shown_byte, is_safe, HasEntitiesOnly};
 ghost use Rattle.html_text.specs.Elements.{Attribute, open_tag, element};
-ghost use Rattle.html_text.specs.Balanced.{Names, Reader, Content, Quoted, behind, is_void, is_tag_name, are_named, IsBalanced};
+ghost use Rattle.html_text.specs.Balanced.{ElementNames, MarkupReader, Content, Quoted, markup_behind, is_void, is_tag_name, are_named, IsBalanced};
 
 /// A text of anyone stays the text that it is, whatever its bytes.
 pub fn texts_are_no_markup()
@@ -15,12 +15,13 @@ pub fn texts_are_no_markup()
     // Each `&` in it begins one of the five entities.
     ensures entities { (text : List ℕ) → HasEntitiesOnly (escaped text) }
     // Between tags a reader of the page stays there all along.
-    ensures content { (text before after : List ℕ) (around : Names) → escaped text ≡ before ++ after
-        → behind (Content around) before ≡ Content around }
+    ensures content { (text before after : List ℕ) (around : ElementNames) → escaped text
+        ≡ before ++ after
+        → markup_behind (Content around) before ≡ Content around }
     // So it stays in the value of an attribute.
-    ensures value { (text before after name : List ℕ) (around : Names)
+    ensures value { (text before after name : List ℕ) (around : ElementNames)
         → escaped text ≡ before ++ after
-        → behind (Quoted name around) before ≡ Quoted name around }
+        → markup_behind (Quoted name around) before ≡ Quoted name around }
 {}
 
 /// Elements close in order.

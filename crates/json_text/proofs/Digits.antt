@@ -3,7 +3,7 @@ use Rattle.std.proofs.Common.{◌≡◌, ℕ, ◌+◌, ◌-◌, ◌*◌, ◌/◌
 use Rattle.std.specs.Prelude.{◌&&◌, nat_lt, nat_le, Some}
 use Rattle.std.proofs.Math.Nat.{div-add-mod, mod-lt, div-lt_iff_lt-mul}
 use Rattle.std.proofs.lemmas.Bool.{cond_both, cond-true, cond-false, and_from, and_right, lt-leb, le-leb, ltb-true, ltb-false}
-use Rattle.json_text.specs.Strings.{hex_digit, is_printable}
+use Rattle.json_text.specs.Strings.{hex_digit, is_ascii_printable}
 use Rattle.json_text.specs.Reading.{digit_value}
 
 pub high_digit : (b : ℕ) → b < 256 → b / 16 < 16
@@ -40,12 +40,12 @@ digit_is_read n small =
     let value : (97 + (n - 10)) - 87 ≡ n = omega (arith, above) in
     letter_value (97 + (n - 10)) (omega arith) (omega (arith, small, above)) ∙ ap Some value)
 
-within : (b : ℕ) → 32 ≤ b → b ≤ 126 → is_printable b ≡ true
+within : (b : ℕ) → 32 ≤ b → b ≤ 126 → is_ascii_printable b ≡ true
 within b low high = and_from _ _ (le-leb 32 b low) (le-leb b 126 high)
 
-pub digit_is_printable : (n : ℕ) → n < 16 → is_printable (hex_digit n) ≡ true
+pub digit_is_printable : (n : ℕ) → n < 16 → is_ascii_printable (hex_digit n) ≡ true
 digit_is_printable n small =
-    cond_both (nat_lt n 10) (48 + n) (97 + (n - 10)) (λ d. is_printable d ≡ true)
+    cond_both (nat_lt n 10) (48 + n) (97 + (n - 10)) (λ d. is_ascii_printable d ≡ true)
     (λ first.
     let below : n < 10 = ltb-true n 10 first in
     within (48 + n) (omega arith) (omega (arith, below)))

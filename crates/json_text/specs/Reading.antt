@@ -1,22 +1,22 @@
 -- What a JSON string says: a reader of bytes, after RFC 8259. It reads strings whose bytes are
 -- ASCII, as all that `put_string` writes, and answers the numbers of their characters.
 use Rattle.std.specs.Prelude.{◌≡◌, ℕ, zero, suc, List, [], ◌∷◌, ◌++◌, ◌+◌, ◌-◌, ◌*◌, ◌==◌, ◌||◌, ◌&&◌, nat_le, fold, if◌then◌else◌, Option, Some, None}
-use Rattle.json_text.specs.Strings.{is_printable}
+use Rattle.json_text.specs.Strings.{is_ascii_printable}
 
 -- where the reader stands, with the characters so far
-pub data Reader : Type 0 where
+pub data StringReader : Type 0 where
   -- before the quote that opens
-  Start : Reader
+  Start : StringReader
   -- between two characters
-  Inside : (said : List ℕ) → Reader
+  Inside : (said : List ℕ) → StringReader
   -- behind a backslash
-  Escape : (said : List ℕ) → Reader
+  Escape : (said : List ℕ) → StringReader
   -- behind `\u` and some digits, of which `left` more must follow
-  Digits : (said : List ℕ) (left number : ℕ) → Reader
+  Digits : (said : List ℕ) (left number : ℕ) → StringReader
   -- behind the quote that closes
-  Ended : (said : List ℕ) → Reader
+  Ended : (said : List ℕ) → StringReader
   -- this is no string
-  Broken : Reader
+  Broken : StringReader
 
 abbrev pub digit_value : ℕ → Option ℕ
 digit_value b =
@@ -34,31 +34,31 @@ escape_value b =
     if b == 114 then Some 13 else (
     if b == 116 then Some 9 else None)))))
 
-abbrev pub plus_character : List ℕ → Option ℕ → Reader
+abbrev pub plus_character : List ℕ → Option ℕ → StringReader
 plus_character said None = Broken
 plus_character said (Some character) = Inside (said ++ character ∷ [])
 
-abbrev pub plus_digit : List ℕ → ℕ → ℕ → Option ℕ → Reader
+abbrev pub plus_digit : List ℕ → ℕ → ℕ → Option ℕ → StringReader
 plus_digit said left number None = Broken
 plus_digit said zero number (Some digit) = Broken
 plus_digit said (suc zero) number (Some digit) = Inside (said ++ (16 * number + digit) ∷ [])
 plus_digit said (suc (suc left)) number (Some digit) = Digits said (suc left) (16 * number + digit)
 
-abbrev pub step : Reader → ℕ → Reader
-step Start b = if b == 34 then Inside [] else Broken
-step (Inside said) b =
+abbrev pub string_step : StringReader → ℕ → StringReader
+string_step Start b = if b == 34 then Inside [] else Broken
+string_step (Inside said) b =
     if b == 34 then Ended said else (
     if b == 92 then Escape said else (
-    if is_printable b then Inside (said ++ b ∷ []) else Broken))
-step (Escape said) b =
+    if is_ascii_printable b then Inside (said ++ b ∷ []) else Broken))
+string_step (Escape said) b =
     if b == 117 then Digits said 4 0 else plus_character said (escape_value b)
-step (Digits said left number) b = plus_digit said left number (digit_value b)
-step (Ended said) b = Broken
-step Broken b = Broken
+string_step (Digits said left number) b = plus_digit said left number (digit_value b)
+string_step (Ended said) b = Broken
+string_step Broken b = Broken
 
-abbrev pub behind : Reader → List ℕ → Reader
-behind reader text = fold step reader text
+abbrev pub string_behind : StringReader → List ℕ → StringReader
+string_behind reader text = fold string_step reader text
 
 -- the text is one string, which says this
-abbrev pub Says : List ℕ → List ℕ → Type 0
-Says text said = behind Start text ≡ Ended said
+abbrev pub IsStringOf : List ℕ → List ℕ → Type 0
+IsStringOf text said = string_behind Start text ≡ Ended said

@@ -3,8 +3,8 @@ use Rattle.std.specs.Prelude.{ℕ, List, [], ◌∷◌, ◌++◌, Bool, ◌+◌,
 use Rattle.std.specs.List.{flat_map}
 
 -- what ASCII prints
-abbrev pub is_printable : ℕ → Bool
-is_printable b = nat_le 32 b && nat_le b 126
+abbrev pub is_ascii_printable : ℕ → Bool
+is_ascii_printable b = nat_le 32 b && nat_le b 126
 
 -- a number below 16 as a digit: `0` to `9`, then `a` to `f`
 abbrev pub hex_digit : ℕ → ℕ
@@ -15,7 +15,7 @@ hex_digit n = if nat_lt n 10 then 48 + n else 97 + (n - 10)
 unfoldable pub string_byte : ℕ → List ℕ
 string_byte b =
     if b == 34 || b == 92 then 92 ∷ b ∷ [] else (
-    if is_printable b then b ∷ [] else
+    if is_ascii_printable b then b ∷ [] else
     codes "\\u00" ++ hex_digit (b / 16) ∷ hex_digit (b % 16) ∷ [])
 
 -- in quotes

@@ -9,12 +9,12 @@ use Rattle.litmus_tokens.specs.declared.stage.Stage.{Stage}
 use Rattle.litmus_tokens.specs.declared.token.Token.{Token}
 use Rattle.litmus_tokens.specs.declared.token.Token.TheVariants as tokens
 use Rattle.litmus_tokens.specs.declared.token.Mark.TheVariants as marks
-use Rattle.litmus_tokens.specs.Stage.{after}
-use Rattle.litmus_tokens.specs.Texts.{TokenAt, tokens_of, stage_after, begins_tail}
+use Rattle.litmus_tokens.specs.Stage.{next_stage}
+use Rattle.litmus_tokens.specs.Texts.{TokenAt, test_tokens_of, stage_after, begins_tail}
 use Rattle.litmus_tokens.specs.Words.{column_name, names_column}
 use Rattle.litmus_tokens.specs.Faults.{Begins}
 use Rattle.text_values.specs.declared.test.Step.{Step}
-use Rattle.litmus_tokens.specs.Conditions.{limits, place_meaning, formula_meaning, IsFormulaTree}
+use Rattle.litmus_tokens.specs.Conditions.{condition_limits, place_meaning, tree_formula, IsFormulaTree}
 use Rattle.litmus_table.specs.Grammar.{RowTree, spelled_rows, spelled_names, AreRowTrees, columns_meaning}
 use Rattle.litmus_table.specs.Late.{columns_notes}
 use Rattle.litmus_table.specs.Machine as table
@@ -26,7 +26,7 @@ use Rattle.litmus_table.proofs.Tables.{table_complete, table_begins}
 use Rattle.litmus_grammar.specs.Grammar.{members, ArePlaceTrees}
 use Rattle.litmus_grammar.specs.InitMachine as init
 use Rattle.litmus_grammar.specs.TextMachine as text
-use Rattle.litmus_grammar.specs.TextMachine.{Draft, Next, TextState, TextResult, with_offset, and_then, stepped, run}
+use Rattle.litmus_grammar.specs.TextMachine.{Draft, Next, TextState, TextResult, with_offset, and_then, stepped, run_parts}
 use Rattle.litmus_grammar.proofs.Equations.{no_first, same_first, same_others}
 use Rattle.litmus_grammar.proofs.Outcomes.{not_both}
 use Rattle.litmus_grammar.proofs.Passing.{test_at}
@@ -59,7 +59,7 @@ same_table : (a b : table.TableState) → ran_to a ≡ ran_to b → a ≡ b
 same_table a b e = cc
 
 -- a table keeps its columns
-kept : (n : ℕ) (ps : List TokenAt) (v : table.TableState) → laws.run (columns n) ps ≡ Some v
+kept : (n : ℕ) (ps : List TokenAt) (v : table.TableState) → laws.run_table (columns n) ps ≡ Some v
     → table.is_row_start v ≡ true → length v.threads ≡ n + 1
 kept n ps v e row =
     let r = table_complete [] ps [] n (table_sound n ps v e row) in
@@ -126,13 +126,13 @@ module _ (name : List ℕ) (block : init.Block) where
 
   abbrev row_step : Stage → table.TableState → TokenAt → List TokenAt → Option Next → TextResult
   row_step g u p ps o =
-      and_then (with_offset p.offset (stepped (rows_at g u) p.token o)) (λ x. run x ps)
+      and_then (with_offset p.offset (stepped (rows_at g u) p.token o)) (λ x. run_parts x ps)
 
   -- the test is still within the table
   record Within (g : Stage) (u : table.TableState) (ps : List TokenAt) (s : TextState) : Type 0 where
     reached : table.TableState
-    by : laws.run u ps ≡ Some reached
-    same : s ≡ rows_at (stage_after g (tokens_of ps)) reached
+    by : laws.run_table u ps ≡ Some reached
+    same : s ≡ rows_at (stage_after g (test_tokens_of ps)) reached
 
   -- the table has ended before some token
   record Behind (g : Stage) (u : table.TableState) (ps : List TokenAt) (s : TextState) : Type 0 where
@@ -141,19 +141,19 @@ module _ (name : List ℕ) (block : init.Block) where
     behind : List TokenAt
     reached : table.TableState
     whole : ps ≡ before ++ token ∷ behind
-    by : laws.run u before ≡ Some reached
+    by : laws.run_table u before ≡ Some reached
     row : table.is_row_start reached ≡ true
-    on : row_step (stage_after g (tokens_of before)) reached token behind
+    on : row_step (stage_after g (test_tokens_of before)) reached token behind
         (text.next_at (draft_at reached) (text.tail_start token.token)) ≡ Ok s
 
   within_on : (g : Stage) (u v : table.TableState) (p : TokenAt) (ps : List TokenAt) (s : TextState)
-      → table.step u p.token p.offset ≡ Some v
-      → Within (after g p.token) v ps s ⊎ Behind (after g p.token) v ps s
+      → table.table_step u p.token p.offset ≡ Some v
+      → Within (next_stage g p.token) v ps s ⊎ Behind (next_stage g p.token) v ps s
       → Within g u (p ∷ ps) s ⊎ Behind g u (p ∷ ps) s
   within_on g u v p ps s e (inl r) =
       inl (record {
         reached = r.reached;
-        by = ap (then_on (λ x. laws.run x ps)) e ∙ r.by;
+        by = ap (then_on (λ x. laws.run_table x ps)) e ∙ r.by;
         same = r.same;
       })
   within_on g u v p ps s e (inr r) =
@@ -163,34 +163,34 @@ module _ (name : List ℕ) (block : init.Block) where
         behind = r.behind;
         reached = r.reached;
         whole = ap (λ (l : List TokenAt). p ∷ l) r.whole;
-        by = ap (then_on (λ x. laws.run x r.before)) e ∙ r.by;
+        by = ap (then_on (λ x. laws.run_table x r.before)) e ∙ r.by;
         row = r.row;
         on = r.on;
       })
 
   rows_pass : (ps : List TokenAt) (u : table.TableState) (g : Stage) (s : TextState)
-      → run (rows_at g u) ps ≡ Ok s → Within g u ps s ⊎ Behind g u ps s
+      → run_parts (rows_at g u) ps ≡ Ok s → Within g u ps s ⊎ Behind g u ps s
   rows_pass [] u g s e =
       let same : rows_at g u ≡ s = same_state _ _ e in
       inl (record { reached = u; by = refl; same = sym same })
   rows_pass (p ∷ ps) u g s e =
       by_tail (table.is_row_start u && begins_tail p.token) refl e
-      (λ v k. rows_pass ps v (after g p.token) s k)
+      (λ v k. rows_pass ps v (next_stage g p.token) s k)
     where
-      by_step : (o : Option table.TableState) → table.step u p.token p.offset ≡ o
+      by_step : (o : Option table.TableState) → table.table_step u p.token p.offset ≡ o
           → row_step g u p ps (text.table_result (draft_at u) text.Rows o) ≡ Ok s
-          → ((v : table.TableState) → run (rows_at (after g p.token) v) ps ≡ Ok s
-          → Within (after g p.token) v ps s ⊎ Behind (after g p.token) v ps s)
+          → ((v : table.TableState) → run_parts (rows_at (next_stage g p.token) v) ps ≡ Ok s
+          → Within (next_stage g p.token) v ps s ⊎ Behind (next_stage g p.token) v ps s)
           → Within g u (p ∷ ps) s ⊎ Behind g u (p ∷ ps) s
       by_step None c k later = absurd (not_both _ _ k)
       by_step (Some v) c k later = within_on g u v p ps s c (later v k)
 
       by_tail : (b : Bool) → (table.is_row_start u && begins_tail p.token) ≡ b
           → row_step g u p ps (if b then text.next_at (draft_at u) (text.tail_start p.token)
-          else text.table_result (draft_at u) text.Rows (table.step u p.token p.offset))
+          else text.table_result (draft_at u) text.Rows (table.table_step u p.token p.offset))
           ≡ Ok s
-          → ((v : table.TableState) → run (rows_at (after g p.token) v) ps ≡ Ok s
-          → Within (after g p.token) v ps s ⊎ Behind (after g p.token) v ps s)
+          → ((v : table.TableState) → run_parts (rows_at (next_stage g p.token) v) ps ≡ Ok s
+          → Within (next_stage g p.token) v ps s ⊎ Behind (next_stage g p.token) v ps s)
           → Within g u (p ∷ ps) s ⊎ Behind g u (p ∷ ps) s
       by_tail true c k later =
           inr (record {
@@ -203,16 +203,16 @@ module _ (name : List ℕ) (block : init.Block) where
             row = (and_parts (table.is_row_start u) (begins_tail p.token) c).0;
             on = k;
           })
-      by_tail false c k later = by_step (table.step u p.token p.offset) refl k later
+      by_tail false c k later = by_step (table.table_step u p.token p.offset) refl k later
 
   -- a token that the table takes ends no table
-  row_goes : (u v : table.TableState) (t : Token) (offset : ℕ) → table.step u t offset ≡ Some v
+  row_goes : (u v : table.TableState) (t : Token) (offset : ℕ) → table.table_step u t offset ≡ Some v
       → text.row_read (draft_at u) t offset ≡ Some (record { part = text.Rows; draft = draft_at v })
   row_goes u v t offset e = choose (table.is_row_start u && begins_tail t) refl
     where
       choose : (b : Bool) → (table.is_row_start u && begins_tail t) ≡ b
           → (if b then text.next_at (draft_at u) (text.tail_start t)
-          else text.table_result (draft_at u) text.Rows (table.step u t offset))
+          else text.table_result (draft_at u) text.Rows (table.table_step u t offset))
           ≡ Some (record { part = text.Rows; draft = draft_at v })
       choose true c =
           let b = and_parts (table.is_row_start u) (begins_tail t) c in
@@ -220,20 +220,20 @@ module _ (name : List ℕ) (block : init.Block) where
           absurd (none-some v (sym none ∙ e))
       choose false c = ap (text.table_result (draft_at u) text.Rows) e
 
-  rows_run : (ps : List TokenAt) (u v : table.TableState) (g : Stage) → laws.run u ps ≡ Some v
-      → run (rows_at g u) ps ≡ Ok (rows_at (stage_after g (tokens_of ps)) v)
+  rows_run : (ps : List TokenAt) (u v : table.TableState) (g : Stage) → laws.run_table u ps ≡ Some v
+      → run_parts (rows_at g u) ps ≡ Ok (rows_at (stage_after g (test_tokens_of ps)) v)
   rows_run [] u v g e =
       let same : u ≡ v = same_Some u v e in
       ap (λ (x : table.TableState). Ok (rows_at g x)) same
   rows_run (p ∷ ps) u v g e =
-      by_step (table.step u p.token p.offset) refl e (λ w k. rows_run ps w v (after g p.token) k)
+      by_step (table.table_step u p.token p.offset) refl e (λ w k. rows_run ps w v (next_stage g p.token) k)
     where
-      by_step : (o : Option table.TableState) → table.step u p.token p.offset ≡ o
-          → then_on (λ x. laws.run x ps) o ≡ Some v
-          → ((w : table.TableState) → laws.run w ps ≡ Some v
-          → run (rows_at (after g p.token) w) ps
-          ≡ Ok (rows_at (stage_after (after g p.token) (tokens_of ps)) v))
-          → run (rows_at g u) (p ∷ ps) ≡ Ok (rows_at (stage_after g (tokens_of (p ∷ ps))) v)
+      by_step : (o : Option table.TableState) → table.table_step u p.token p.offset ≡ o
+          → then_on (λ x. laws.run_table x ps) o ≡ Some v
+          → ((w : table.TableState) → laws.run_table w ps ≡ Some v
+          → run_parts (rows_at (next_stage g p.token) w) ps
+          ≡ Ok (rows_at (stage_after (next_stage g p.token) (test_tokens_of ps)) v))
+          → run_parts (rows_at g u) (p ∷ ps) ≡ Ok (rows_at (stage_after g (test_tokens_of (p ∷ ps))) v)
       by_step None c k later = absurd (none-some v k)
       by_step (Some w) c k later =
           ap (row_step g u p ps) (row_goes u w p.token p.offset c) ∙ later w k
@@ -264,82 +264,82 @@ module _ (name : List ℕ) (block : init.Block) where
       }
 
   rows_begin : (n : ℕ) → n + 1 < 18446744073709551616 → (ps : List TokenAt) (g : Stage) (s : TextState)
-      → run (rows_at g (columns n)) ps ≡ Ok s → Begins (IsRows n) (tokens_of ps)
+      → run_parts (rows_at g (columns n)) ps ≡ Ok s → Begins (IsRows n) (test_tokens_of ps)
   rows_begin n few ps g s e = by_pass (rows_pass ps (columns n) g s e)
     where
       by_pass : Within g (columns n) ps s ⊎ Behind g (columns n) ps s
-          → Begins (IsRows n) (tokens_of ps)
+          → Begins (IsRows n) (test_tokens_of ps)
       by_pass (inl r) =
           let b = table_begins n ps (record { after = r.reached; by = r.by }) in
           let a = any_of n few in
-          record { rest = b.rest ++ a.rest; text = subst (IsRows n) (append_assoc (tokens_of ps) b.rest a.rest) (rows_with n few (tokens_of ps ++ b.rest) a.rest b.text a.text) }
+          record { rest = b.rest ++ a.rest; text = subst (IsRows n) (append_assoc (test_tokens_of ps) b.rest a.rest) (rows_with n few (test_tokens_of ps ++ b.rest) a.rest b.text a.text) }
       by_pass (inr r) =
           let k = kept n r.before r.reached r.by r.row in
-          let b = tail_begins name block r.reached (subst (λ (m : ℕ). m < 18446744073709551616) (sym k) few) r.token r.behind (stage_after g (tokens_of r.before)) s r.on in
+          let b = tail_begins name block r.reached (subst (λ (m : ℕ). m < 18446744073709551616) (sym k) few) r.token r.behind (stage_after g (test_tokens_of r.before)) s r.on in
           let x = table_sound n r.before r.reached r.by r.row in
-          let us = tokens_of (r.token ∷ r.behind) in
-          let same : tokens_of ps ≡ tokens_of r.before ++ us = ap tokens_of r.whole ∙ tokens_of-append r.before (r.token ∷ r.behind) in
+          let us = test_tokens_of (r.token ∷ r.behind) in
+          let same : test_tokens_of ps ≡ test_tokens_of r.before ++ us = ap test_tokens_of r.whole ∙ tokens_of-append r.before (r.token ∷ r.behind) in
           record {
             rest = b.rest;
             text =
                 subst (IsRows n)
-                (sym (append_assoc (tokens_of r.before) us b.rest)
+                (sym (append_assoc (test_tokens_of r.before) us b.rest)
                 ∙ ap (λ (l : List Token). l ++ b.rest) (sym same))
-                (rows_with n few (tokens_of r.before) (us ++ b.rest) x
+                (rows_with n few (test_tokens_of r.before) (us ++ b.rest) x
                 (subst (λ (m : ℕ). IsTail m (us ++ b.rest)) k b.text));
           }
 
   -- ---- all rows are taken
 
   -- behind some tokens
-  pub record TakesBody (n : ℕ) (pre ps : List TokenAt) (x : IsRows n (tokens_of ps)) (g : Stage)
+  pub record TakesBody (n : ℕ) (pre ps : List TokenAt) (x : IsRows n (test_tokens_of ps)) (g : Stage)
       : Type 0 where
     pub stage : Stage
     pub reached : table.TableState
-    pub by : run (rows_at g (columns n)) ps
+    pub by : run_parts (rows_at g (columns n)) ps
         ≡ Ok (test_at stage text.Done (with_all name block reached
         (map place_meaning (members x.tail.observed)) x.tail.quantifier
-        (formula_meaning x.tail.condition)))
+        (tree_formula x.tail.condition)))
     pub meant : steps_of reached.threads ≡ columns_meaning 0 (n + 1) x.rows
-    pub noted : AreNoted (pre ++ ps) (columns_notes 0 (n + 1) (tokens_of pre) x.rows)
+    pub noted : AreNoted (pre ++ ps) (columns_notes 0 (n + 1) (test_tokens_of pre) x.rows)
         reached.threads
 
   pub rows_led : (n : ℕ) → n + 1 < 18446744073709551616
-      → (pre ps : List TokenAt) (x : IsRows n (tokens_of ps)) (g : Stage) → TakesBody n pre ps x g
+      → (pre ps : List TokenAt) (x : IsRows n (test_tokens_of ps)) (g : Stage) → TakesBody n pre ps x g
   rows_led n few pre ps x g =
       let cut = split ps (spelled_rows x.rows []) x.behind (x.whole ∙ sym (rows-append x.rows [] x.behind)) in
       let r = table_complete pre cut.before cut.behind n (record { rows = x.rows; fine = x.fine; whole = cut.are_before }) in
       let k = kept n cut.before r.after r.by r.ended in
       let few_there = subst (λ (m : ℕ). m < 18446744073709551616) (sym k) few in
-      let g' = stage_after g (tokens_of cut.before) in
+      let g' = stage_after g (test_tokens_of cut.before) in
       let o = x.tail.observed in
       let l = tail_led name block r.after few_there r.ended cut.behind g' o x.tail.quantifier x.tail.condition
       (subst (λ (m : ℕ). ArePlaceTrees m (members o)) (sym k) x.tail.are_items)
-      (subst (λ (m : ℕ). IsFormulaTree limits m x.tail.condition) (sym k) x.tail.fine)
+      (subst (λ (m : ℕ). IsFormulaTree condition_limits m x.tail.condition) (sym k) x.tail.fine)
       (cut.are_behind ∙ x.tail.whole) in
       record {
         stage = l.stage;
         reached = r.after;
         by =
-            ap (run (rows_at g (columns n))) cut.whole
+            ap (run_parts (rows_at g (columns n))) cut.whole
             ∙ run-append (rows_at g (columns n)) (rows_at g' r.after) cut.before cut.behind
             (rows_run cut.before (columns n) r.after g r.by) ∙ l.by;
         meant = r.meant;
         noted =
             subst
             (λ (l : List TokenAt). AreNoted (pre ++ l)
-            (columns_notes 0 (n + 1) (tokens_of pre) x.rows) r.after.threads)
+            (columns_notes 0 (n + 1) (test_tokens_of pre) x.rows) r.after.threads)
             (sym cut.whole)
             (subst
             (λ (l : List TokenAt).
-            AreNoted l (columns_notes 0 (n + 1) (tokens_of pre) x.rows) r.after.threads)
+            AreNoted l (columns_notes 0 (n + 1) (test_tokens_of pre) x.rows) r.after.threads)
             (append_assoc pre cut.before cut.behind) r.noted);
       }
 
   -- ---- the header
 
   abbrev pub names : ℕ → table.TableState
-  names zero = table.start
+  names zero = table.table_start
   names (suc k) = table.widened (names k)
 
   names_are : (n : ℕ) → columns n ≡ names (suc n)
@@ -367,8 +367,8 @@ module _ (name : List ℕ) (block : init.Block) where
       record { rest = tokens.Word (column_name k) ∷ a.rest; text = one_name k a.rest a.text }
 
   pub header_begins : (ps : List TokenAt) (has : Bool) (k : ℕ) (g : Stage) (s : TextState)
-      → k + length ps + 1 < 18446744073709551616 → run (header_at has g k) ps ≡ Ok s
-      → Begins (IsHeader has k) (tokens_of ps)
+      → k + length ps + 1 < 18446744073709551616 → run_parts (header_at has g k) ps ≡ Ok s
+      → Begins (IsHeader has k) (test_tokens_of ps)
   header_begins [] has k g s few e =
       any_header has k (let h : k + 1 < 18446744073709551616 = omega (arith, few) in h)
   header_begins (p ∷ ps) has k g s few e =
@@ -379,33 +379,33 @@ module _ (name : List ℕ) (block : init.Block) where
           (with_offset n (stepped (header_at false g k) (tokens.Word w)
           (text.table_result (draft_at (names k)) text.HasColumn
           (if b then Some (table.widened (names k)) else None))))
-          (λ x. run x ps) ≡ Ok s
+          (λ x. run_parts x ps) ≡ Ok s
           → ((more : Bool) (j : ℕ) (f : Stage) → j + length ps + 1 < 18446744073709551616
-          → run (header_at more f j) ps ≡ Ok s
-          → Begins (IsHeader more j) (tokens_of ps))
-          → Begins (IsName k) (tokens.Word w ∷ tokens_of ps)
+          → run_parts (header_at more f j) ps ≡ Ok s
+          → Begins (IsHeader more j) (test_tokens_of ps))
+          → Begins (IsName k) (tokens.Word w ∷ test_tokens_of ps)
       by_word w n true c l later =
-          let b = later true k (after g (tokens.Word w)) (let h : k + length ps + 1 < 18446744073709551616 = omega (arith, few) in h) l in
+          let b = later true k (next_stage g (tokens.Word w)) (let h : k + length ps + 1 < 18446744073709551616 = omega (arith, few) in h) l in
           let same : w ≡ column_name k = (bytes_eq-Decides w (column_name (length (names k).threads))).0 c ∙ ap column_name (length-names k) in
-          record { rest = b.rest; text = subst (λ (v : List ℕ). IsName k (tokens.Word v ∷ (tokens_of ps ++ b.rest))) (sym same) (one_name k (tokens_of ps ++ b.rest) b.text) }
+          record { rest = b.rest; text = subst (λ (v : List ℕ). IsName k (tokens.Word v ∷ (test_tokens_of ps ++ b.rest))) (sym same) (one_name k (test_tokens_of ps ++ b.rest) b.text) }
       by_word w n false c l later = absurd (not_both _ _ l)
 
       by_part : (b : Bool) (t : Token) (n : ℕ)
-          → run (header_at b g k) (record { token = t; offset = n } ∷ ps) ≡ Ok s
+          → run_parts (header_at b g k) (record { token = t; offset = n } ∷ ps) ≡ Ok s
           → ((more : Bool) (j : ℕ) (f : Stage) → j + length ps + 1 < 18446744073709551616
-          → run (header_at more f j) ps ≡ Ok s
-          → Begins (IsHeader more j) (tokens_of ps))
-          → Begins (IsHeader b k) (t ∷ tokens_of ps)
+          → run_parts (header_at more f j) ps ≡ Ok s
+          → Begins (IsHeader more j) (test_tokens_of ps))
+          → Begins (IsHeader b k) (t ∷ test_tokens_of ps)
       by_part false (tokens.Word w) n l later =
           by_word w n (names_column (length (names k).threads) w) refl l later
       by_part false t n l later = absurd (not_both _ _ l)
       by_part true (tokens.Mark marks.Bar) n l later =
-          let b = later false (suc k) (after g (tokens.Mark marks.Bar)) (let h : suc k + length ps + 1 < 18446744073709551616 = omega (arith, few) in h) l in
-          record { rest = b.rest; text = next_name k (tokens_of ps ++ b.rest) b.text }
+          let b = later false (suc k) (next_stage g (tokens.Mark marks.Bar)) (let h : suc k + length ps + 1 < 18446744073709551616 = omega (arith, few) in h) l in
+          record { rest = b.rest; text = next_name k (test_tokens_of ps ++ b.rest) b.text }
       by_part true (tokens.Mark marks.Semicolon) n l later =
-          let g' = after g (tokens.Mark marks.Semicolon) in
-          let b = rows_begin k (let h : k + 1 < 18446744073709551616 = omega (arith, few) in h) ps g' s (ap (λ (u : table.TableState). run (rows_at g' u) ps) (names_are k) ∙ l) in
-          record { rest = b.rest; text = last_name k (tokens_of ps ++ b.rest) b.text }
+          let g' = next_stage g (tokens.Mark marks.Semicolon) in
+          let b = rows_begin k (let h : k + 1 < 18446744073709551616 = omega (arith, few) in h) ps g' s (ap (λ (u : table.TableState). run_parts (rows_at g' u) ps) (names_are k) ∙ l) in
+          record { rest = b.rest; text = last_name k (test_tokens_of ps ++ b.rest) b.text }
       by_part true t n l later = absurd (not_both _ _ l)
 
   -- ---- all headers are taken
@@ -416,9 +416,9 @@ module _ (name : List ℕ) (block : init.Block) where
     pub left : List TokenAt
     pub stage : Stage
     pub whole : ps ≡ before ++ left
-    pub are_before : tokens_of before ≡ spelled_names (k + 1) m []
-    pub are_left : tokens_of left ≡ behind
-    pub by : run (header_at true g k) before ≡ Ok (rows_at stage (columns (k + m)))
+    pub are_before : test_tokens_of before ≡ spelled_names (k + 1) m []
+    pub are_left : test_tokens_of left ≡ behind
+    pub by : run_parts (header_at true g k) before ≡ Ok (rows_at stage (columns (k + m)))
 
   is_named : (k : ℕ) → names_column (length (names k).threads) (column_name k) ≡ true
   is_named k =
@@ -426,25 +426,25 @@ module _ (name : List ℕ) (block : init.Block) where
       ∙ (bytes_eq-Decides (column_name k) (column_name k)).1 refl
 
   pub name_step : (k : ℕ) (n : ℕ) (ps : List TokenAt) (g : Stage)
-      → run (header_at false g k) (record { token = tokens.Word (column_name k); offset = n } ∷ ps)
-      ≡ run (header_at true (after g (tokens.Word (column_name k))) k) ps
+      → run_parts (header_at false g k) (record { token = tokens.Word (column_name k); offset = n } ∷ ps)
+      ≡ run_parts (header_at true (next_stage g (tokens.Word (column_name k))) k) ps
   name_step k n ps g =
       ap
       (λ (b : Bool). and_then
       (with_offset n (stepped (header_at false g k) (tokens.Word (column_name k))
       (text.table_result (draft_at (names k)) text.HasColumn
       (if b then Some (table.widened (names k)) else None))))
-      (λ x. run x ps))
+      (λ x. run_parts x ps))
       (is_named k)
 
   pub names_led : (m k : ℕ) (ps : List TokenAt) (behind : List Token) (g : Stage)
-      → tokens_of ps ≡ spelled_names (k + 1) m behind → TakesNames k m ps behind g
+      → test_tokens_of ps ≡ spelled_names (k + 1) m behind → TakesNames k m ps behind g
   names_led zero k [] behind g e = absurd (no_first e)
   names_led zero k (p ∷ ps) behind g e =
       let t : p.token ≡ tokens.Mark marks.Semicolon = same_first e in
-      let others : tokens_of ps ≡ behind = same_others e in
+      let others : test_tokens_of ps ≡ behind = same_others e in
       let z : k ≡ k + 0 = omega arith in
-      let g' = after g (tokens.Mark marks.Semicolon) in
+      let g' = next_stage g (tokens.Mark marks.Semicolon) in
       record {
         before = p ∷ [];
         left = ps;
@@ -455,7 +455,7 @@ module _ (name : List ℕ) (block : init.Block) where
         by =
             ap
             (λ (x : Token).
-            run (header_at true g k) (record { token = x; offset = p.offset } ∷ [])) t
+            run_parts (header_at true g k) (record { token = x; offset = p.offset } ∷ [])) t
             ∙ ap (λ (u : table.TableState). Ok (rows_at g' u)) (sym (names_are k))
             ∙ ap (λ (j : ℕ). Ok (rows_at g' (columns j))) z;
       }
@@ -465,10 +465,10 @@ module _ (name : List ℕ) (block : init.Block) where
       let t : p.token ≡ tokens.Mark marks.Bar = same_first e in
       let from_name = same_others e in
       let w : q.token ≡ tokens.Word (column_name (k + 1)) = same_first from_name in
-      let others : tokens_of ps ≡ spelled_names (k + 1 + 1) m behind = same_others from_name in
+      let others : test_tokens_of ps ≡ spelled_names (k + 1 + 1) m behind = same_others from_name in
       let next : tokens.Word (column_name (k + 1)) ≡ tokens.Word (column_name (suc k)) = ap (λ (j : ℕ). tokens.Word (column_name j)) (add-one k) in
-      let g1 = after g (tokens.Mark marks.Bar) in
-      let g2 = after g1 (tokens.Word (column_name (suc k))) in
+      let g1 = next_stage g (tokens.Mark marks.Bar) in
+      let g2 = next_stage g1 (tokens.Word (column_name (suc k))) in
       let r = names_led m (suc k) ps behind g2 (others ∙ ap (λ (j : ℕ). spelled_names (j + 1) m behind) (add-one k)) in
       let z : suc k + m ≡ k + suc m = omega arith in
       record {
@@ -477,17 +477,17 @@ module _ (name : List ℕ) (block : init.Block) where
         stage = r.stage;
         whole = ap (λ (l : List TokenAt). p ∷ q ∷ l) r.whole;
         are_before =
-            ap (λ (x : Token). x ∷ q.token ∷ tokens_of r.before) t
-            ∙ ap (λ (x : Token). tokens.Mark marks.Bar ∷ x ∷ tokens_of r.before) w
+            ap (λ (x : Token). x ∷ q.token ∷ test_tokens_of r.before) t
+            ∙ ap (λ (x : Token). tokens.Mark marks.Bar ∷ x ∷ test_tokens_of r.before) w
             ∙ ap (λ (l : List Token). tokens.Mark marks.Bar ∷ tokens.Word (column_name (k + 1)) ∷ l)
             (r.are_before ∙ ap (λ (j : ℕ). spelled_names (j + 1) m []) (sym (add-one k)));
         are_left = r.are_left;
         by =
             ap
-            (λ (x : Token). run (header_at true g k)
+            (λ (x : Token). run_parts (header_at true g k)
             (record { token = x; offset = p.offset } ∷ q ∷ r.before)) t
             ∙ ap
-            (λ (x : Token). run (header_at false g1 (suc k))
+            (λ (x : Token). run_parts (header_at false g1 (suc k))
             (record { token = x; offset = q.offset } ∷ r.before))
             (w ∙ next)
             ∙ name_step (suc k) q.offset r.before g1

@@ -9,7 +9,7 @@ use Rattle.litmus_tokens.specs.declared.token.Mark.TheVariants as marks
 use Rattle.litmus_tokens.specs.declared.lexer.NextLexeme.{NextLexeme}
 use Rattle.litmus_tokens.specs.declared.lexer.NextLexeme.TheVariants.{Layout, Lexeme}
 use Rattle.litmus_tokens.specs.Lexer.{first_lexeme}
-use Rattle.litmus_tokens.specs.Texts.{TokenAt, after_lexeme, tokens_from, lexing, is_end, begins_tail}
+use Rattle.litmus_tokens.specs.Texts.{TokenAt, after_lexeme, tokens_from, test_lexing, is_end, begins_tail}
 use Rattle.litmus_tokens.specs.Words.{is_test_name, names_column}
 use Rattle.text_values.specs.declared.test.InitEntry.{InitEntry}
 use Rattle.text_values.specs.declared.test.Place.{Place}
@@ -19,7 +19,7 @@ use Rattle.litmus_tokens.specs.declared.place.PlaceExpectation.{PlaceExpectation
 use Rattle.litmus_tokens.specs.declared.place.PlaceExpectation.TheVariants as places
 use Rattle.litmus_tokens.specs.declared.place.PlaceStep.{PlaceStep}
 use Rattle.litmus_tokens.specs.declared.place.PlaceStep.TheVariants as place_steps
-use Rattle.litmus_tokens.specs.Conditions.{limits}
+use Rattle.litmus_tokens.specs.Conditions.{condition_limits}
 use Rattle.litmus_tokens.specs.PlaceMachine.{place_step, value_read, has_thread}
 use Rattle.litmus_tokens.specs.ConditionMachine as condition
 use Rattle.litmus_table.specs.Machine as table
@@ -34,7 +34,7 @@ use Rattle.litmus_grammar.specs.declared.parts.InitExpectation.TheVariants as ex
 use Rattle.litmus_grammar.specs.InitMachine as init
 use Rattle.litmus_grammar.specs.InitMachine.{Block, Did, missing, lacks_thread}
 use Rattle.litmus_grammar.specs.TextMachine as text
-use Rattle.litmus_grammar.specs.TextMachine.{Part, Draft, Next, TextState, with_name, at, next_at, stepped, and_then, run, start, nothing, first_stage}
+use Rattle.litmus_grammar.specs.TextMachine.{Part, Draft, Next, TextState, with_name, at, next_at, stepped, and_then, run_parts, text_start, nothing, first_stage}
 use Rattle.litmus_grammar.specs.Kept.{AreAtMost, AreDraftUpTo, StandsUpTo}
 
 pushed : (n p : ℕ) (ps : List ℕ) → p ≤ n → AreAtMost n ps → AreAtMost n (ps ++ p ∷ [])
@@ -99,13 +99,13 @@ module _ (n p : ℕ) (le : p ≤ n) where
   valued_within b q (Some v) h = h
   valued_within b q None h = tt
 
-  behind_within : (b : Block) (t : Token) → AreAtMost n b.starts → InDid n (init.behind b t)
+  behind_within : (b : Block) (t : Token) → AreAtMost n b.starts → InDid n (init.entry_behind b t)
   behind_within b (tokens.Mark marks.Semicolon) h = h
   behind_within b (tokens.Mark marks.CloseBrace) h = h
   behind_within b t h = tt
 
   init_within : (b : Block) (expected : InitExpectation) (t : Token) → AreAtMost n b.starts
-      → InDid n (init.step b expected t p)
+      → InDid n (init.init_step b expected t p)
   init_within b expectations.WantsOpen t h = open_within b t h
   init_within b expectations.WantsEntry t h = entry_within b t h
   init_within b (expectations.InPlace within) t h = place_within b within t h
@@ -157,12 +157,12 @@ module _ (n p : ℕ) (le : p ≤ n) (kind : TextKind) (h : Draft) (k : AreDraftU
   table_kept q (Some s) f = (k.0, f s refl)
   table_kept q None f = tt
 
-  rows_kept : (q : Part) (t : Token) → InNext n (text.table_result h q (table.step h.table t p))
+  rows_kept : (q : Part) (t : Token) → InNext n (text.table_result h q (table.table_step h.table t p))
   rows_kept q t =
-      table_kept q (table.step h.table t p) (λ s e.
+      table_kept q (table.table_step h.table t p) (λ s e.
       expectation_within n p le h.table.threads h.table.column k.1 h.table.expected t s e)
 
-  named_kept : (t : Token) → InNext n (text.table_result h text.HasColumn (table.named h.table t))
+  named_kept : (t : Token) → InNext n (text.table_result h text.HasColumn (table.name_thread h.table t))
   named_kept (tokens.Word w) = choose (names_column (length h.table.threads) w)
     where
       choose : (b : Bool)
@@ -202,13 +202,13 @@ module _ (n p : ℕ) (le : p ≤ n) (kind : TextKind) (h : Draft) (k : AreDraftU
   row_kept : (t : Token) → InNext n (text.row_read h t p)
   row_kept t =
       either_way (table.is_row_start h.table && begins_tail t) (next_at h (text.tail_start t))
-      (text.table_result h text.Rows (table.step h.table t p)) (led (text.tail_start t))
+      (text.table_result h text.Rows (table.table_step h.table t p)) (led (text.tail_start t))
       (rows_kept text.Rows t)
 
   cell_kept : (t : Token) → InNext n (text.cell_read h t p)
   cell_kept t =
       either_way (table.can_end h.table.expected && is_end t) (at h text.Done)
-      (text.table_result h text.Cells (table.step h.table t p)) k (rows_kept text.Cells t)
+      (text.table_result h text.Cells (table.table_step h.table t p)) k (rows_kept text.Cells t)
 
   part_kept : (given : ℕ) (q : Part) (t : Token) → InNext n (text.part_step kind given h q t p)
   part_kept given text.Magic t = led (text.magic_read t)
@@ -216,7 +216,7 @@ module _ (n p : ℕ) (le : p ≤ n) (kind : TextKind) (h : Draft) (k : AreDraftU
   part_kept given text.TitleEnd t = led (text.title_ended t)
   part_kept given (text.Head b) t = led (text.head_read b t)
   part_kept given (text.Init expected) t =
-      init_kept (init.step h.init expected t p) (init_within n p le h.init expected t k.0)
+      init_kept (init.init_step h.init expected t p) (init_within n p le h.init expected t k.0)
   part_kept given text.WantsColumn t = named_kept t
   part_kept given text.HasColumn t = led (text.column_ended t)
   part_kept given text.Rows t = row_kept t
@@ -226,7 +226,7 @@ module _ (n p : ℕ) (le : p ≤ n) (kind : TextKind) (h : Draft) (k : AreDraftU
   part_kept given text.WantsQuantifier t = led (text.quantifier_read t)
   part_kept given text.AfterTilde t = led (text.exists_read t)
   part_kept given (text.Proposition q fs used expected) t =
-      proposition_kept q (condition.proposition_step limits (text.threads_in kind given h) fs used
+      proposition_kept q (condition.proposition_step condition_limits (text.threads_in kind given h) fs used
       expected t)
   part_kept given text.ListOrEnd t = led (text.list_start t)
   part_kept given text.WantsEnd t = led (text.end_read t)
@@ -239,7 +239,7 @@ AreBefore n [] = Unit {0}
 AreBefore n (q ∷ qs) = (q.offset ≤ n) × AreBefore n qs
 
 run_kept : (n : ℕ) (s : TextState) (ps : List TokenAt) → AreBefore n ps → AreDraftUpTo n s.draft
-    → StandsUpTo n (run s ps)
+    → StandsUpTo n (run_parts s ps)
 run_kept n s [] h k = k
 run_kept n s (q ∷ ps) h k =
     by_next (text.part_step s.kind s.threads s.draft s.part q.token q.offset)
@@ -247,8 +247,8 @@ run_kept n s (q ∷ ps) h k =
     (λ x j. run_kept n x ps h.1 j)
   where
     by_next : (o : Option Next) → InNext n o
-        → ((x : TextState) → AreDraftUpTo n x.draft → StandsUpTo n (run x ps))
-        → StandsUpTo n (and_then (text.with_offset q.offset (stepped s q.token o)) (λ x. run x ps))
+        → ((x : TextState) → AreDraftUpTo n x.draft → StandsUpTo n (run_parts x ps))
+        → StandsUpTo n (and_then (text.with_offset q.offset (stepped s q.token o)) (λ x. run_parts x ps))
     by_next (Some x) j f = f _ j
     by_next None j f = h.0
 
@@ -277,13 +277,13 @@ start_kept n kinds.Condition = (tt, tt)
 start_kept n kinds.Locations = (tt, tt)
 
 module _ (kind : TextKind) (threads : ℕ) (bytes : List ℕ) where
-  pub all_kept : StandsUpTo (length bytes) (run (start kind threads) (lexing (first_stage kind) bytes))
+  pub all_kept : StandsUpTo (length bytes) (run_parts (text_start kind threads) (test_lexing (first_stage kind) bytes))
   all_kept =
-      run_kept (length bytes) (start kind threads) (lexing (first_stage kind) bytes)
+      run_kept (length bytes) (text_start kind threads) (test_lexing (first_stage kind) bytes)
       (tokens_before (length bytes) (first_stage kind) false 0 0 bytes (omega arith))
       (start_kept (length bytes) kind)
 
-  kept : (s : TextState) → run (start kind threads) (lexing (first_stage kind) bytes) ≡ Ok s
+  kept : (s : TextState) → run_parts (text_start kind threads) (test_lexing (first_stage kind) bytes) ≡ Ok s
       → AreDraftUpTo (length bytes) s.draft
   kept s h = subst (StandsUpTo (length bytes)) h all_kept
 
@@ -299,6 +299,6 @@ is_short bytes bounded = choose (cases_lt 65536 (length bytes))
     choose (inr le) = le
 
 pub kept_short : (kind : TextKind) (threads : ℕ) (bytes : List ℕ) (s : TextState)
-    → (length bytes ≤ 65536 → run (start kind threads) (lexing (first_stage kind) bytes) ≡ Ok s)
+    → (length bytes ≤ 65536 → run_parts (text_start kind threads) (test_lexing (first_stage kind) bytes) ≡ Ok s)
     → (65536 < length bytes → ⊥) → AreDraftUpTo (length bytes) s.draft
 kept_short kind threads bytes s h bounded = kept kind threads bytes s (h (is_short bytes bounded))

@@ -7,7 +7,7 @@ use Rattle.text_values.specs.declared.test.Quantifier.{Quantifier}
 use Rattle.text_values.specs.TestValue.{Formula, Constant}
 use Rattle.litmus_tokens.specs.declared.place.PlaceExpectation.{PlaceExpectation}
 use Rattle.litmus_tokens.specs.declared.place.PlaceExpectation.TheVariants as places
-use Rattle.litmus_tokens.specs.Conditions.{limits}
+use Rattle.litmus_tokens.specs.Conditions.{condition_limits}
 use Rattle.litmus_tokens.specs.PlaceMachine.{place_step}
 use Rattle.litmus_tokens.specs.ConditionMachine as condition
 use Rattle.litmus_tokens.specs.ConditionMachine.{ConditionFrame}
@@ -21,7 +21,7 @@ use Rattle.litmus_grammar.specs.declared.parts.ItemExpectation.TheVariants as it
 use Rattle.litmus_grammar.specs.declared.parts.TextKind.{TextKind}
 use Rattle.litmus_grammar.specs.InitMachine as init
 use Rattle.litmus_grammar.specs.TextMachine as text
-use Rattle.litmus_grammar.specs.TextMachine.{Part, Draft, Next, TextState, TextResult, stepped, and_then, part_step, run}
+use Rattle.litmus_grammar.specs.TextMachine.{Part, Draft, Next, TextState, TextResult, stepped, and_then, part_step, run_parts}
 use Rattle.litmus_grammar.proofs.Runs.{run-split}
 
 no_place : (expected : PlaceExpectation) → place_step expected End ≡ None
@@ -56,25 +56,25 @@ IsDone None = Unit {0}
 IsDone (Some n) = n.part ≡ text.Done
 
 module _ (kind : TextKind) (given : ℕ) (h : Draft) (offset : ℕ) where
-  no_row : (q : Part) → IsDone (text.table_result h q (table.step h.table End offset))
+  no_row : (q : Part) → IsDone (text.table_result h q (table.table_step h.table End offset))
   no_row q =
       subst (λ (o : Option table.TableState). IsDone (text.table_result h q o))
       (sym (no_cell h.table.threads h.table.column h.table.expected offset)) tt
 
   row_done : (b : Bool)
       → IsDone (if b && false then text.next_at h (text.tail_start End)
-      else text.table_result h text.Rows (table.step h.table End offset))
+      else text.table_result h text.Rows (table.table_step h.table End offset))
   row_done true = no_row text.Rows
   row_done false = no_row text.Rows
 
   cell_done : (b : Bool)
       → IsDone (if b && true then text.at h text.Done
-      else text.table_result h text.Cells (table.step h.table End offset))
+      else text.table_result h text.Cells (table.table_step h.table End offset))
   cell_done true = refl
   cell_done false = no_row text.Cells
 
   init_done : (expected : InitExpectation)
-      → IsDone (text.init_result kind h (init.step h.init expected End offset))
+      → IsDone (text.init_result kind h (init.init_step h.init expected End offset))
   init_done expectations.WantsOpen = tt
   init_done expectations.WantsEntry = tt
   init_done (expectations.InPlace within) =
@@ -93,7 +93,7 @@ module _ (kind : TextKind) (given : ℕ) (h : Draft) (offset : ℕ) where
   item_done threads items.HasItem = tt
 
   ended_done : (q : Quantifier) (p : List ConditionFrame × Formula)
-      → IsDone (text.proposition_result h q (condition.ended p))
+      → IsDone (text.proposition_result h q (condition.condition_ended p))
   ended_done q ([], v) = refl
   ended_done q (f ∷ fs, v) = tt
 
@@ -104,13 +104,13 @@ module _ (kind : TextKind) (given : ℕ) (h : Draft) (offset : ℕ) where
 
   proposition_done : (threads : ℕ) (q : Quantifier) (fs : List ConditionFrame) (used : ℕ)
       (expected : condition.ConditionExpectation)
-      → IsDone (text.proposition_result h q (condition.proposition_step limits threads fs used
+      → IsDone (text.proposition_result h q (condition.proposition_step condition_limits threads fs used
       expected End))
   proposition_done threads q fs used condition.Wants = tt
   proposition_done threads q fs used (condition.HasConstant b) =
       ended_done q (condition.fold_to 0 fs (Constant b))
   proposition_done threads q fs used condition.HasNot =
-      not_done q (nat_lt (condition.open_count fs) limits.nesting)
+      not_done q (nat_lt (condition.open_count fs) condition_limits.nesting)
   proposition_done threads q fs used (condition.InPlace within) =
       subst
       (λ o. IsDone (text.proposition_result h q (condition.in_place fs used
@@ -145,16 +145,16 @@ part_in (Ok x) = x.part
 part_in (Err d) = text.Done
 
 pub ends_done : (s s' : TextState) (ps : List TokenAt) (n : ℕ)
-    → run s (ps ++ record { token = End; offset = n } ∷ []) ≡ Ok s' → s'.part ≡ text.Done
+    → run_parts s (ps ++ record { token = End; offset = n } ∷ []) ≡ Ok s' → s'.part ≡ text.Done
 ends_done s s' ps n e =
-    by_run (run s ps) (sym (run-split s ps (record { token = End; offset = n } ∷ [])) ∙ e)
+    by_run (run_parts s ps) (sym (run-split s ps (record { token = End; offset = n } ∷ [])) ∙ e)
   where
     by_end : (x : TextState) (o : Option Next) → IsDone o
         → and_then (text.with_offset n (stepped x End o)) (λ y. Ok y) ≡ Ok s' → s'.part ≡ text.Done
     by_end x (Some y) d k = sym (ap part_in k) ∙ d
     by_end x None d k = absurd cc
 
-    by_run : (r : TextResult) → and_then r (λ x. run x (record { token = End; offset = n } ∷ [])) ≡ Ok s'
+    by_run : (r : TextResult) → and_then r (λ x. run_parts x (record { token = End; offset = n } ∷ [])) ≡ Ok s'
         → s'.part ≡ text.Done
     by_run (Ok x) k =
         by_end x (part_step x.kind x.threads x.draft x.part End n)

@@ -7,8 +7,8 @@ use Rattle.litmus_tokens.specs.declared.stage.Stage.{Stage}
 use Rattle.litmus_tokens.specs.declared.token.Token.{Token}
 use Rattle.litmus_tokens.specs.declared.token.Token.TheVariants as tokens
 use Rattle.litmus_tokens.specs.declared.token.Mark.TheVariants as marks
-use Rattle.litmus_tokens.specs.Stage.{after}
-use Rattle.litmus_tokens.specs.Texts.{TokenAt, tokens_of}
+use Rattle.litmus_tokens.specs.Stage.{next_stage}
+use Rattle.litmus_tokens.specs.Texts.{TokenAt, test_tokens_of}
 use Rattle.litmus_tokens.specs.Words.{signed, decimal, register_of, is_known, or_zero}
 use Rattle.text_values.specs.declared.test.Place.{Place}
 use Rattle.litmus_tokens.specs.declared.place.PlaceExpectation.TheVariants as places
@@ -22,9 +22,9 @@ use Rattle.litmus_grammar.specs.declared.parts.TextKind.TheVariants as kinds
 use Rattle.litmus_grammar.specs.Grammar.{Listed, EntryTree, spelled_entry, spelled_others, spelled_init, members, LacksPlace, AreEntryTrees}
 use Rattle.litmus_grammar.specs.InitMachine as init
 use Rattle.litmus_grammar.specs.InitMachine.{Block, has_key, with_key, with_start, with_entry, and_place, valued}
-use Rattle.litmus_grammar.specs.Laws.{entry_kept, AreStarts}
+use Rattle.litmus_grammar.specs.Laws.{entry_kept, AreEntryStarts}
 use Rattle.litmus_grammar.specs.TextMachine as text
-use Rattle.litmus_grammar.specs.TextMachine.{Part, Next, TextState, with_offset, and_then, stepped, part_step, start, run, init_result}
+use Rattle.litmus_grammar.specs.TextMachine.{Part, Next, TextState, with_offset, and_then, stepped, part_step, text_start, run_parts, init_result}
 use Rattle.litmus_grammar.proofs.Equations.{no_first, same_first, same_others}
 use Rattle.litmus_grammar.proofs.InitKeys.{key_of, Keeps, keeps_none, keeps_more, added_new}
 use Rattle.litmus_grammar.proofs.InitLeft.{closing, draft, standing}
@@ -71,13 +71,13 @@ module _ (threads : ℕ) where
     prefix : List TokenAt
     behind : List TokenAt
     split : ps ≡ prefix ++ behind
-    are : tokens_of prefix ≡ us
-    rest : tokens_of behind ≡ ts
-    by : run (standing threads g p b) ps ≡ run (standing threads stage q c) behind
+    are : test_tokens_of prefix ≡ us
+    rest : test_tokens_of behind ≡ ts
+    by : run_parts (standing threads g p b) ps ≡ run_parts (standing threads stage q c) behind
 
   leads_on : (g : Stage) (p q r : Part) (b c d : Block) (ps : List TokenAt)
       (us ts vs ws : List Token) → Leads g p b ps q c us ts
-      → ((h : Stage) (qs : List TokenAt) → tokens_of qs ≡ ts → Leads h q c qs r d vs ws)
+      → ((h : Stage) (qs : List TokenAt) → test_tokens_of qs ≡ ts → Leads h q c qs r d vs ws)
       → Leads g p b ps r d (us ++ vs) ws
   leads_on g p q r b c d ps us ts vs ws l f =
       let m = f l.stage l.behind l.rest in
@@ -89,7 +89,7 @@ module _ (threads : ℕ) where
             l.split ∙ ap (λ (x : List TokenAt). l.prefix ++ x) m.split
             ∙ sym (append_assoc l.prefix m.prefix m.behind);
         are =
-            tokens_of-append l.prefix m.prefix ∙ ap (λ (x : List Token). x ++ tokens_of m.prefix) l.are
+            tokens_of-append l.prefix m.prefix ∙ ap (λ (x : List Token). x ++ test_tokens_of m.prefix) l.are
             ∙ ap (λ (x : List Token). us ++ x) m.are;
         rest = m.rest;
         by = l.by ∙ m.by;
@@ -99,12 +99,12 @@ module _ (threads : ℕ) where
   first : (g : Stage) (p q : Part) (b c : Block) (x : TokenAt) (t : Token) (ps : List TokenAt)
       (ts : List Token)
       → part_step kinds.Init threads (draft b) p t x.offset
-      ≡ Some (record { part = q; draft = draft c }) → x.token ∷ tokens_of ps ≡ t ∷ ts
+      ≡ Some (record { part = q; draft = draft c }) → x.token ∷ test_tokens_of ps ≡ t ∷ ts
       → Leads g p b (x ∷ ps) q c (t ∷ []) ts
   first g p q b c x t ps ts step e =
       let same : x.token ≡ t = same_first e in
       record {
-        stage = after g t;
+        stage = next_stage g t;
         prefix = x ∷ [];
         behind = ps;
         split = refl;
@@ -113,17 +113,17 @@ module _ (threads : ℕ) where
         by =
             ap
             (λ (u : Token).
-            run (standing threads g p b) (record { token = u; offset = x.offset } ∷ ps)) same
+            run_parts (standing threads g p b) (record { token = u; offset = x.offset } ∷ ps)) same
             ∙ ap
             (λ (o : Option Next). and_then
-            (with_offset x.offset (stepped (standing threads g p b) t o)) (λ y. run y ps))
+            (with_offset x.offset (stepped (standing threads g p b) t o)) (λ y. run_parts y ps))
             step;
       }
 
   one : (g : Stage) (p q : Part) (b c : Block) (t : Token) (ps : List TokenAt) (ts : List Token)
       → ((n : ℕ)
       → part_step kinds.Init threads (draft b) p t n
-      ≡ Some (record { part = q; draft = draft c })) → tokens_of ps ≡ t ∷ ts
+      ≡ Some (record { part = q; draft = draft c })) → test_tokens_of ps ≡ t ∷ ts
       → Leads g p b ps q c (t ∷ []) ts
   one g p q b c t [] ts step e = absurd (no_first e)
   one g p q b c t (x ∷ ps) ts step e = first g p q b c x t ps ts (step x.offset) e
@@ -162,7 +162,7 @@ module _ (threads : ℕ) where
 
   place_taken : (g : Stage) (b : Block) (p : PlaceTree) (x : TokenAt) (ps : List TokenAt)
       (ts : List Token) → has_key b.named (key_of (written_place p)) ≡ false → IsPlaceTree p
-      → x.token ∷ tokens_of ps ≡ spelled_place p ts
+      → x.token ∷ test_tokens_of ps ≡ spelled_place p ts
       → Leads g (text.Init expectations.WantsEntry) b (x ∷ ps) (equals_of p) (named_at b x.offset p)
       (spelled_place p []) ts
   place_taken g b (Location false w) x ps ts new fine e =
@@ -221,7 +221,7 @@ module _ (threads : ℕ) where
       (if x then Some (signed negative (decimal ds)) else None)))) fine
 
   value_taken : (g : Stage) (q : Place) (b : Block) (v : ValueTree) (ps : List TokenAt)
-      (ts : List Token) → IsValueTree v → tokens_of ps ≡ spelled_value v ts
+      (ts : List Token) → IsValueTree v → test_tokens_of ps ≡ spelled_value v ts
       → Leads g (text.Init (expectations.WantsValue q)) b ps (text.Init expectations.HasEntry)
       (with_entry b q (value_meaning v)) (spelled_value v []) ts
   value_taken g q b (Number negative ds) ps ts fine e =
@@ -240,7 +240,7 @@ module _ (threads : ℕ) where
   entry_taken : (g : Stage) (b : Block) (before : List WrittenPlace) (e : EntryTree) (x : TokenAt)
       (ps : List TokenAt) (ts : List Token) → Keeps b.named before → IsPlaceTree e.place
       → IsValueTree e.value → LacksPlace before (written_place e.place)
-      → x.token ∷ tokens_of ps ≡ spelled_entry e ts
+      → x.token ∷ test_tokens_of ps ≡ spelled_entry e ts
       → Leads g (text.Init expectations.WantsEntry) b (x ∷ ps) (text.Init expectations.HasEntry)
       (entered b x.offset e) (spelled_entry e []) ts
   entry_taken g b before e x ps ts keeps place value once k =
@@ -270,18 +270,18 @@ module _ (threads : ℕ) where
   record IsAccepted (all : List TokenAt) (so_far : List Token) (g : Stage) (p : Part) (b : Block)
       (ps : List TokenAt) (es : List EntryTree) : Type 0 where
     state : TextState
-    by : run (standing threads g p b) ps ≡ Ok state
+    by : run_parts (standing threads g p b) ps ≡ Ok state
     entries : state.draft.init.entries ≡ b.entries ++ map entry_kept es
     starts : List ℕ
     starts_are : state.draft.init.starts ≡ b.starts ++ starts
-    stand : AreStarts all so_far es starts
+    stand : AreEntryStarts all so_far es starts
 
   close_taken : (expected : InitExpectation) (all : List TokenAt) (so_far : List Token) (g : Stage)
       (b : Block) (ps : List TokenAt)
       → ((n : ℕ)
       → part_step kinds.Init threads (draft b) (text.Init expected)
       (tokens.Mark marks.CloseBrace) n ≡ text.at (draft b) text.WantsEnd)
-      → tokens_of ps ≡ closing → IsAccepted all so_far g (text.Init expected) b ps []
+      → test_tokens_of ps ≡ closing → IsAccepted all so_far g (text.Init expected) b ps []
   close_taken expected all so_far g b ps step e =
       let l = one g (text.Init expected) text.WantsEnd b b (tokens.Mark marks.CloseBrace) ps (tokens.End ∷ []) step e in
       let m = one l.stage text.WantsEnd text.Done b b tokens.End l.behind [] (λ n. refl) l.rest in
@@ -294,8 +294,8 @@ module _ (threads : ℕ) where
         stand = tt;
       }
     where
-      done_run : (h : Stage) (c : Block) (qs : List TokenAt) → tokens_of qs ≡ []
-          → run (standing threads h text.Done c) qs ≡ Ok (standing threads h text.Done c)
+      done_run : (h : Stage) (c : Block) (qs : List TokenAt) → test_tokens_of qs ≡ []
+          → run_parts (standing threads h text.Done c) qs ≡ Ok (standing threads h text.Done c)
       done_run h c [] k = refl
       done_run h c (x ∷ qs) k = absurd (no_first (sym k))
 
@@ -303,15 +303,15 @@ module _ (threads : ℕ) where
   OthersTaken os closed =
       (g : Stage) (b : Block) (before : List WrittenPlace) (qs ps : List TokenAt)
       → Keeps b.named before → AreEntryTrees before os
-      → tokens_of ps ≡ spelled_others spelled_entry closed os closing
-      → IsAccepted (qs ++ ps) (tokens_of qs ++ semicolon) g (text.Init expectations.HasEntry) b ps
+      → test_tokens_of ps ≡ spelled_others spelled_entry closed os closing
+      → IsAccepted (qs ++ ps) (test_tokens_of qs ++ semicolon) g (text.Init expectations.HasEntry) b ps
       os
 
   entry_then : (e : EntryTree) (os : List EntryTree) (closed : Bool) → OthersTaken os closed
       → (g : Stage) (b : Block) (before : List WrittenPlace) (qs ps : List TokenAt)
       → Keeps b.named before → AreEntryTrees before (e ∷ os)
-      → tokens_of ps ≡ spelled_entry e (spelled_others spelled_entry closed os closing)
-      → IsAccepted (qs ++ ps) (tokens_of qs) g (text.Init expectations.WantsEntry) b ps (e ∷ os)
+      → test_tokens_of ps ≡ spelled_entry e (spelled_others spelled_entry closed os closing)
+      → IsAccepted (qs ++ ps) (test_tokens_of qs) g (text.Init expectations.WantsEntry) b ps (e ∷ os)
   entry_then e os closed others g b before qs [] keeps fine k = absurd (no_place e.place _ k)
   entry_then e os closed others g b before qs (x ∷ ps) keeps fine k =
       let l = entry_taken g b before e x ps (spelled_others spelled_entry closed os closing) keeps fine.0 fine.1 fine.2 k in
@@ -319,12 +319,12 @@ module _ (threads : ℕ) where
       let c = entered b x.offset e in
       let r = others l.stage c (written_place e.place ∷ before) rs l.behind (keeps_more b.named before (written_place e.place) keeps) fine.3 l.rest in
       let all_is : rs ++ l.behind ≡ qs ++ x ∷ ps = append_assoc qs l.prefix l.behind ∙ ap (λ (y : List TokenAt). qs ++ y) (sym l.split) in
-      let far_is : tokens_of rs ++ semicolon ≡ tokens_of qs ++ spelled_entry e semicolon
+      let far_is : test_tokens_of rs ++ semicolon ≡ test_tokens_of qs ++ spelled_entry e semicolon
       =
       ap (λ (y : List Token). y ++ semicolon) (tokens_of-append qs l.prefix
-      ∙ ap (λ (y : List Token). tokens_of qs ++ y) l.are)
-      ∙ append_assoc (tokens_of qs) (spelled_entry e []) semicolon
-      ∙ ap (λ (y : List Token). tokens_of qs ++ y) (entry_more e semicolon) in
+      ∙ ap (λ (y : List Token). test_tokens_of qs ++ y) l.are)
+      ∙ append_assoc (test_tokens_of qs) (spelled_entry e []) semicolon
+      ∙ ap (λ (y : List Token). test_tokens_of qs ++ y) (entry_more e semicolon) in
       record {
         state = r.state;
         by = l.by ∙ r.by;
@@ -335,24 +335,24 @@ module _ (threads : ℕ) where
           record { before = qs; here = x; behind = ps; split = refl; same = refl; at_place = refl },
           subst
               (λ (y : List TokenAt).
-              AreStarts y (tokens_of qs ++ spelled_entry e semicolon) os r.starts) all_is
-              (subst (λ (y : List Token). AreStarts (rs ++ l.behind) y os r.starts) far_is r.stand),
+              AreEntryStarts y (test_tokens_of qs ++ spelled_entry e semicolon) os r.starts) all_is
+              (subst (λ (y : List Token). AreEntryStarts (rs ++ l.behind) y os r.starts) far_is r.stand),
         );
       }
 
   others_taken : (os : List EntryTree) (closed : Bool) → OthersTaken os closed
   others_taken [] false g b before qs ps keeps fine k =
-      close_taken expectations.HasEntry (qs ++ ps) (tokens_of qs ++ semicolon) g b ps (λ n. refl) k
+      close_taken expectations.HasEntry (qs ++ ps) (test_tokens_of qs ++ semicolon) g b ps (λ n. refl) k
   others_taken [] true g b before qs ps keeps fine k =
       let l = one g (text.Init expectations.HasEntry) (text.Init expectations.WantsEntry) b b (tokens.Mark marks.Semicolon) ps closing (λ n. refl) k in
-      let r = close_taken expectations.WantsEntry (qs ++ ps) (tokens_of qs ++ semicolon) l.stage b l.behind (λ n. refl) l.rest in
+      let r = close_taken expectations.WantsEntry (qs ++ ps) (test_tokens_of qs ++ semicolon) l.stage b l.behind (λ n. refl) l.rest in
       record { state = r.state; by = l.by ∙ r.by; entries = r.entries; starts = r.starts; starts_are = r.starts_are; stand = r.stand }
   others_taken (o ∷ os) closed g b before qs ps keeps fine k =
       let l = one g (text.Init expectations.HasEntry) (text.Init expectations.WantsEntry) b b (tokens.Mark marks.Semicolon) ps (spelled_entry o (spelled_others spelled_entry closed os closing)) (λ n. refl) k in
       let rs = qs ++ l.prefix in
       let r = entry_then o os closed (others_taken os closed) l.stage b before rs l.behind keeps fine l.rest in
       let all_is : rs ++ l.behind ≡ qs ++ ps = append_assoc qs l.prefix l.behind ∙ ap (λ (y : List TokenAt). qs ++ y) (sym l.split) in
-      let far_is : tokens_of rs ≡ tokens_of qs ++ semicolon = tokens_of-append qs l.prefix ∙ ap (λ (y : List Token). tokens_of qs ++ y) l.are in
+      let far_is : test_tokens_of rs ≡ test_tokens_of qs ++ semicolon = tokens_of-append qs l.prefix ∙ ap (λ (y : List Token). test_tokens_of qs ++ y) l.are in
       record {
         state = r.state;
         by = l.by ∙ r.by;
@@ -360,8 +360,8 @@ module _ (threads : ℕ) where
         starts = r.starts;
         starts_are = r.starts_are;
         stand =
-            subst (λ (y : List TokenAt). AreStarts y (tokens_of qs ++ semicolon) (o ∷ os) r.starts)
-            all_is (subst (λ (y : List Token). AreStarts (rs ++ l.behind) y (o ∷ os) r.starts)
+            subst (λ (y : List TokenAt). AreEntryStarts y (test_tokens_of qs ++ semicolon) (o ∷ os) r.starts)
+            all_is (subst (λ (y : List Token). AreEntryStarts (rs ++ l.behind) y (o ∷ os) r.starts)
             far_is r.stand);
       }
 
@@ -371,28 +371,28 @@ module _ (threads : ℕ) where
   -- a whole text
   pub record InitTaken (ps : List TokenAt) (es : List EntryTree) : Type 0 where
     pub state : TextState
-    pub by : run (start kinds.Init threads) ps ≡ Ok state
+    pub by : run_parts (text_start kinds.Init threads) ps ≡ Ok state
     pub entries : state.draft.init.entries ≡ map entry_kept es
-    pub stand : AreStarts ps (tokens.Mark marks.OpenBrace ∷ []) es state.draft.init.starts
+    pub stand : AreEntryStarts ps (tokens.Mark marks.OpenBrace ∷ []) es state.draft.init.starts
 
   pub init_taken : (es : Option (Listed EntryTree)) (ps : List TokenAt) → AreEntryTrees [] (members es)
-      → tokens_of ps ≡ spelled_init es (tokens.End ∷ []) → InitTaken ps (members es)
+      → test_tokens_of ps ≡ spelled_init es (tokens.End ∷ []) → InitTaken ps (members es)
   init_taken None ps fine k =
-      let l = one (text.first_stage kinds.Init) (text.Init expectations.WantsOpen) (text.Init expectations.WantsEntry) init.start init.start (tokens.Mark marks.OpenBrace) ps closing (λ n. refl) k in
-      let r = close_taken expectations.WantsEntry ps brace l.stage init.start l.behind (λ n. refl) l.rest in
-      record { state = r.state; by = l.by ∙ r.by; entries = r.entries; stand = subst (AreStarts ps brace []) (sym r.starts_are) r.stand }
+      let l = one (text.first_stage kinds.Init) (text.Init expectations.WantsOpen) (text.Init expectations.WantsEntry) init.init_start init.init_start (tokens.Mark marks.OpenBrace) ps closing (λ n. refl) k in
+      let r = close_taken expectations.WantsEntry ps brace l.stage init.init_start l.behind (λ n. refl) l.rest in
+      record { state = r.state; by = l.by ∙ r.by; entries = r.entries; stand = subst (AreEntryStarts ps brace []) (sym r.starts_are) r.stand }
   init_taken (Some x) ps fine k =
-      let l = one (text.first_stage kinds.Init) (text.Init expectations.WantsOpen) (text.Init expectations.WantsEntry) init.start init.start (tokens.Mark marks.OpenBrace) ps (spelled_entry x.first (spelled_others spelled_entry x.closed x.others closing)) (λ n. refl) k in
-      let r = entry_then x.first x.others x.closed (others_taken x.others x.closed) l.stage init.start [] l.prefix l.behind keeps_none fine l.rest in
+      let l = one (text.first_stage kinds.Init) (text.Init expectations.WantsOpen) (text.Init expectations.WantsEntry) init.init_start init.init_start (tokens.Mark marks.OpenBrace) ps (spelled_entry x.first (spelled_others spelled_entry x.closed x.others closing)) (λ n. refl) k in
+      let r = entry_then x.first x.others x.closed (others_taken x.others x.closed) l.stage init.init_start [] l.prefix l.behind keeps_none fine l.rest in
       record {
         state = r.state;
         by = l.by ∙ r.by;
         entries = r.entries;
         stand =
-            subst (AreStarts ps brace (x.first ∷ x.others)) (sym r.starts_are) (subst
-            (λ (y : List TokenAt). AreStarts y brace (x.first ∷ x.others) r.starts)
+            subst (AreEntryStarts ps brace (x.first ∷ x.others)) (sym r.starts_are) (subst
+            (λ (y : List TokenAt). AreEntryStarts y brace (x.first ∷ x.others) r.starts)
             (sym l.split) (subst
             (λ (y : List Token).
-            AreStarts (l.prefix ++ l.behind) y (x.first ∷ x.others) r.starts) l.are
+            AreEntryStarts (l.prefix ++ l.behind) y (x.first ∷ x.others) r.starts) l.are
             r.stand));
       }

@@ -13,8 +13,8 @@ use Rattle.litmus_tokens.specs.declared.token.Mark as declared_mark
 use Rattle.litmus_tokens.specs.declared.lexer.NextLexeme.{NextLexeme}
 use Rattle.litmus_tokens.specs.declared.lexer.NextLexeme.TheVariants.{Layout, Lexeme}
 use Rattle.litmus_tokens.specs.Lexer.{first_lexeme, is_not_ascii, begins_comment, is_equals, ends_word, gap_from, raw_from, raw_lexeme, comment_lexeme, quoted_lexeme, line_lexeme, word_lexeme, mark_of, mark_lexeme, sign_lexeme, plain_lexeme, head_lexeme, stage_lexeme}
-use Rattle.litmus_tokens.specs.Stage.{after}
-use Rattle.litmus_tokens.specs.Texts.{TokenAt, tokens_of, ends_line, after_lexeme, tokens_from, lexing}
+use Rattle.litmus_tokens.specs.Stage.{next_stage}
+use Rattle.litmus_tokens.specs.Texts.{TokenAt, test_tokens_of, ends_line, after_lexeme, tokens_from, test_lexing}
 use Rattle.text_values.specs.Letters.{is_letter, is_digit}
 
 abbrev pub IsInner : Token → Type 0
@@ -119,7 +119,7 @@ pub record EndsOnce (ps : List TokenAt) : Type 0 where
   pub inner : List TokenAt
   pub offset : ℕ
   pub split : ps ≡ inner ++ record { token = tokens.End; offset = offset } ∷ []
-  pub are_inner : AreInner (tokens_of inner)
+  pub are_inner : AreInner (test_tokens_of inner)
 
 from_ends : (s : Stage) (fresh : Bool) (skip offset : ℕ) (bytes : List ℕ)
     → EndsOnce (tokens_from s fresh skip offset bytes)
@@ -137,7 +137,7 @@ from_ends s fresh zero offset (b ∷ bs) =
         (λ g f skip. tokens_from g f skip (offset + 1) bs))
     by_lexeme (Layout k) i r = r _ _ _
     by_lexeme (Lexeme t k) i r =
-        let q = r (after s t) (ends_line t) (k - 1) in
+        let q = r (next_stage s t) (ends_line t) (k - 1) in
         record {
           inner = record { token = t; offset = offset } ∷ q.inner;
           offset = q.offset;
@@ -145,7 +145,7 @@ from_ends s fresh zero offset (b ∷ bs) =
           are_inner = (i, q.are_inner);
         }
 
-pub lexed_ends : (s : Stage) (bytes : List ℕ) → EndsOnce (lexing s bytes)
+pub lexed_ends : (s : Stage) (bytes : List ℕ) → EndsOnce (test_lexing s bytes)
 lexed_ends s bytes = from_ends s false 0 0 bytes
 
 nothing_behind : (bs : List TokenAt) (p : TokenAt) (cs : List TokenAt) → bs ++ p ∷ cs ≡ [] → ⊥
@@ -154,8 +154,8 @@ nothing_behind (b ∷ bs) p cs e = absurd cc
 
 -- what stands before a token of a text is no end
 pub before_inner : (qs : List TokenAt) (e : TokenAt) (before : List TokenAt) (p : TokenAt)
-    (behind : List TokenAt) → before ++ p ∷ behind ≡ qs ++ e ∷ [] → AreInner (tokens_of qs)
-    → AreInner (tokens_of before)
+    (behind : List TokenAt) → before ++ p ∷ behind ≡ qs ++ e ∷ [] → AreInner (test_tokens_of qs)
+    → AreInner (test_tokens_of before)
 before_inner qs e [] p behind same i = tt
 before_inner [] e (b ∷ before) p behind same i = absurd (nothing_behind before p behind cc)
 before_inner (q ∷ qs) e (b ∷ before) p behind same i =
@@ -166,7 +166,7 @@ before_inner (q ∷ qs) e (b ∷ before) p behind same i =
     )
 
 pub lexed_inner : (s : Stage) (bytes : List ℕ) (before : List TokenAt) (p : TokenAt)
-    (behind : List TokenAt) → lexing s bytes ≡ before ++ p ∷ behind → AreInner (tokens_of before)
+    (behind : List TokenAt) → test_lexing s bytes ≡ before ++ p ∷ behind → AreInner (test_tokens_of before)
 lexed_inner s bytes before p behind e =
     let l = lexed_ends s bytes in
     before_inner l.inner (record { token = tokens.End; offset = l.offset }) before p behind
@@ -191,7 +191,7 @@ from_length s fresh zero offset (b ∷ bs) =
         let m : length (after_lexeme s fresh offset b (Layout k)
         (λ g f skip. tokens_from g f skip (offset + 1) bs)) ≤ length bs + 1 = h in
         omega (arith, m)
-    by_lexeme (Lexeme t k) r = let h = r (after s t) (ends_line t) (k - 1) in omega (arith, h)
+    by_lexeme (Lexeme t k) r = let h = r (next_stage s t) (ends_line t) (k - 1) in omega (arith, h)
 
-pub lexed_length : (s : Stage) (bytes : List ℕ) → length (lexing s bytes) ≤ length bytes + 1
+pub lexed_length : (s : Stage) (bytes : List ℕ) → length (test_lexing s bytes) ≤ length bytes + 1
 lexed_length s bytes = from_length s false 0 0 bytes

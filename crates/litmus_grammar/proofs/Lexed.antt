@@ -9,7 +9,7 @@ use Rattle.litmus_tokens.specs.declared.token.Token.TheVariants as tokens
 use Rattle.litmus_tokens.specs.declared.lexer.NextLexeme.{NextLexeme}
 use Rattle.litmus_tokens.specs.declared.lexer.NextLexeme.TheVariants.{Layout, Lexeme}
 use Rattle.litmus_tokens.specs.Lexer.{first_lexeme}
-use Rattle.litmus_tokens.specs.Stage.{after}
+use Rattle.litmus_tokens.specs.Stage.{next_stage}
 use Rattle.litmus_tokens.specs.Texts.{TokenAt, ends_line, fresh_after, after_lexeme, tokens_from}
 
 -- passing over bytes
@@ -83,11 +83,11 @@ module _ (bytes : List ℕ) (p n q : ℕ) (lt : p < length bytes)
       → f ≡ first_lexeme s fresh (drop p bytes) → f ≡ Lexeme t n
       → tokens_from s fresh 0 p (drop p bytes)
       ≡ record { token = t; offset = p }
-      ∷ tokens_from (after s t) (ends_line t) 0 q (drop q bytes)
+      ∷ tokens_from (next_stage s t) (ends_line t) 0 q (drop q bytes)
   lexeme_turn s fresh f t e k =
       opens_with s fresh f e ∙ ap (then_on s fresh) k
       ∙ ap (λ (ps : List TokenAt). record { token = t; offset = p } ∷ ps)
-      (next (after s t) (ends_line t))
+      (next (next_stage s t) (ends_line t))
 
 pub at_end : (s : Stage) (fresh : Bool) (bytes : List ℕ) (p : ℕ) → length bytes ≤ p
     → tokens_from s fresh 0 p (drop p bytes) ≡ record { token = tokens.End; offset = p } ∷ []

@@ -9,8 +9,8 @@ use Rattle.litmus_tokens.specs.declared.token.Token.{Token}
 use Rattle.litmus_tokens.specs.declared.token.Token.TheVariants as tokens
 use Rattle.litmus_tokens.specs.declared.token.Mark.TheVariants as marks
 use Rattle.litmus_tokens.specs.Faults.{Begins, CanFollow, ruling, RulingSays}
-use Rattle.litmus_tokens.specs.Stage.{after}
-use Rattle.litmus_tokens.specs.Texts.{TokenAt, tokens_of}
+use Rattle.litmus_tokens.specs.Stage.{next_stage}
+use Rattle.litmus_tokens.specs.Texts.{TokenAt, test_tokens_of}
 use Rattle.litmus_tokens.specs.Words.{decimal, register_of, is_known, or_zero}
 use Rattle.text_values.specs.declared.test.Place.{Place}
 use Rattle.litmus_tokens.specs.declared.place.PlaceExpectation.{PlaceExpectation}
@@ -26,7 +26,7 @@ use Rattle.litmus_grammar.specs.declared.parts.ItemExpectation.TheVariants as it
 use Rattle.litmus_grammar.specs.declared.parts.TextKind.TheVariants as kinds
 use Rattle.litmus_grammar.specs.Grammar.{Listed, spelled_others, members, spelled_observed, ArePlaceTrees, IsLocationsText}
 use Rattle.litmus_grammar.specs.TextMachine as text
-use Rattle.litmus_grammar.specs.TextMachine.{Part, Draft, Next, TextState, with_offset, and_then, stepped, part_step, with_place, nothing, start, run, rule_at, item_result}
+use Rattle.litmus_grammar.specs.TextMachine.{Part, Draft, Next, TextState, with_offset, and_then, stepped, part_step, with_place, nothing, text_start, run_parts, text_rule_at, item_result}
 use Rattle.litmus_grammar.proofs.Conditions.{tail_stays, tail_says}
 use Rattle.litmus_grammar.proofs.Lists.{closing, list_whole}
 use Rattle.litmus_grammar.proofs.Outcomes.{Reading}
@@ -36,9 +36,9 @@ record Uncons (ps : List TokenAt) (t : Token) (ts : List Token) : Type 0 where
   offset : ℕ
   behind : List TokenAt
   split : ps ≡ record { token = t; offset = offset } ∷ behind
-  rest : tokens_of behind ≡ ts
+  rest : test_tokens_of behind ≡ ts
 
-uncons : (ps : List TokenAt) (t : Token) (ts : List Token) → tokens_of ps ≡ t ∷ ts → Uncons ps t ts
+uncons : (ps : List TokenAt) (t : Token) (ts : List Token) → test_tokens_of ps ≡ t ∷ ts → Uncons ps t ts
 uncons [] t ts e = absurd cc
 uncons (p ∷ ps) t ts e =
     let same : p.token ≡ t = cc in
@@ -54,11 +54,11 @@ module _ (threads : ℕ) (few : threads < 18446744073709551616) where
   -- the reader goes on from there, with this left
   record Leads (from : TextState) (ps : List TokenAt) (to : TextState) (ts : List Token) : Type 0 where
     behind : List TokenAt
-    rest : tokens_of behind ≡ ts
-    by : run from ps ≡ run to behind
+    rest : test_tokens_of behind ≡ ts
+    by : run_parts from ps ≡ run_parts to behind
 
   leads_on : (a b c : TextState) (ps : List TokenAt) (ts us : List Token) → Leads a ps b ts
-      → ((qs : List TokenAt) → tokens_of qs ≡ ts → Leads b qs c us) → Leads a ps c us
+      → ((qs : List TokenAt) → test_tokens_of qs ≡ ts → Leads b qs c us) → Leads a ps c us
   leads_on a b c ps ts us l f =
       let m = f l.behind l.rest in record { behind = m.behind; rest = m.rest; by = l.by ∙ m.by }
 
@@ -66,17 +66,17 @@ module _ (threads : ℕ) (few : threads < 18446744073709551616) where
   one : (p q : Part) (h k : Draft) (t : Token) (ps : List TokenAt) (ts : List Token)
       → ((n : ℕ)
       → part_step kinds.Locations threads h p t n ≡ Some (record { part = q; draft = k }))
-      → tokens_of ps ≡ t ∷ ts → Leads (standing Tail p h) ps (standing Tail q k) ts
+      → test_tokens_of ps ≡ t ∷ ts → Leads (standing Tail p h) ps (standing Tail q k) ts
   one p q h k t ps ts takes e =
       let u = uncons ps t ts e in
       record {
         behind = u.behind;
         rest = u.rest;
         by =
-            ap (run (standing Tail p h)) u.split
+            ap (run_parts (standing Tail p h)) u.split
             ∙ ap
             (λ (o : Option Next). and_then
-            (with_offset u.offset (stepped (standing Tail p h) t o)) (λ x. run x u.behind))
+            (with_offset u.offset (stepped (standing Tail p h) t o)) (λ x. run_parts x u.behind))
             (takes u.offset);
       }
 
@@ -131,7 +131,7 @@ module _ (threads : ℕ) (few : threads < 18446744073709551616) where
   register_last d w h offset None e k = absurd cc
 
   place_taken : (next : Bool) (p : PlaceTree) (h : Draft) (ps : List TokenAt) (ts : List Token)
-      → IsPlaceTree p → HasThread threads p → tokens_of ps ≡ spelled_place p ts
+      → IsPlaceTree p → HasThread threads p → test_tokens_of ps ≡ spelled_place p ts
       → Leads (standing Tail (text.Item (wants next)) h) ps (has (place_meaning p) h) ts
   place_taken next (Location false n) h ps ts i t e =
       one (text.Item (wants next)) (text.Item items.HasItem) h
@@ -171,22 +171,22 @@ module _ (threads : ℕ) (few : threads < 18446744073709551616) where
   -- a list was read to its end
   record IsAccepted (from : TextState) (ps : List TokenAt) (found : List Place) : Type 0 where
     state : TextState
-    by : run from ps ≡ Ok state
+    by : run_parts from ps ≡ Ok state
     observed : state.draft.observed ≡ found
 
   taken_by : (a b : TextState) (ps : List TokenAt) (ts : List Token) (found : List Place)
-      → Leads a ps b ts → ((qs : List TokenAt) → tokens_of qs ≡ ts → IsAccepted b qs found)
+      → Leads a ps b ts → ((qs : List TokenAt) → test_tokens_of qs ≡ ts → IsAccepted b qs found)
       → IsAccepted a ps found
   taken_by a b ps ts found l f =
       let r = f l.behind l.rest in
       record { state = r.state; by = l.by ∙ r.by; observed = r.observed }
 
-  done_taken : (h : Draft) (ps : List TokenAt) → tokens_of ps ≡ []
+  done_taken : (h : Draft) (ps : List TokenAt) → test_tokens_of ps ≡ []
       → IsAccepted (standing Tail text.Done h) ps h.observed
   done_taken h [] e = record { state = standing Tail text.Done h; by = refl; observed = refl }
   done_taken h (p ∷ ps) e = absurd cc
 
-  end_taken : (h : Draft) (ps : List TokenAt) → tokens_of ps ≡ tokens.End ∷ []
+  end_taken : (h : Draft) (ps : List TokenAt) → test_tokens_of ps ≡ tokens.End ∷ []
       → IsAccepted (standing Tail text.WantsEnd h) ps h.observed
   end_taken h ps e =
       taken_by _ (standing Tail text.Done h) ps [] h.observed
@@ -196,7 +196,7 @@ module _ (threads : ℕ) (few : threads < 18446744073709551616) where
       → ((m : ℕ)
       → part_step kinds.Locations threads h (text.Item expected)
       (tokens.Mark marks.CloseBracket) m ≡ text.at h text.WantsEnd)
-      → tokens_of ps ≡ closing → IsAccepted (standing Tail (text.Item expected) h) ps h.observed
+      → test_tokens_of ps ≡ closing → IsAccepted (standing Tail (text.Item expected) h) ps h.observed
   close_taken expected h ps takes e =
       taken_by _ (standing Tail text.WantsEnd h) ps (tokens.End ∷ []) h.observed
       (one (text.Item expected) text.WantsEnd h h (tokens.Mark marks.CloseBracket) ps
@@ -204,7 +204,7 @@ module _ (threads : ℕ) (few : threads < 18446744073709551616) where
       (end_taken h)
 
   others_taken : (os : List PlaceTree) (closed : Bool) (h : Draft) (ps : List TokenAt)
-      → ArePlaceTrees threads os → tokens_of ps ≡ spelled_others spelled_place closed os closing
+      → ArePlaceTrees threads os → test_tokens_of ps ≡ spelled_others spelled_place closed os closing
       → IsAccepted (standing Tail (text.Item items.HasItem) h) ps
       (h.observed ++ map place_meaning os)
   others_taken [] false h ps fine e =
@@ -232,8 +232,8 @@ module _ (threads : ℕ) (few : threads < 18446744073709551616) where
   nothing_yet = nothing kinds.Locations
 
   text_taken : (l : Option (Listed PlaceTree)) (ps : List TokenAt) → ArePlaceTrees threads (members l)
-      → tokens_of ps ≡ spelled_observed l (tokens.End ∷ [])
-      → IsAccepted (start kinds.Locations threads) ps (map place_meaning (members l))
+      → test_tokens_of ps ≡ spelled_observed l (tokens.End ∷ [])
+      → IsAccepted (text_start kinds.Locations threads) ps (map place_meaning (members l))
   text_taken None ps fine e =
       taken_by _ (standing Tail text.Done nothing_yet) ps [] []
       (one text.ListOrEnd text.Done nothing_yet nothing_yet tokens.End ps [] (λ m. refl) e)
@@ -252,8 +252,8 @@ module _ (threads : ℕ) (few : threads < 18446744073709551616) where
       (place_taken false l.first nothing_yet rs left fine.0 fine.1 j) (λ us i. others_taken
       l.others l.closed (with_place nothing_yet (place_meaning l.first)) us fine.2 i)))
 
-  pub list_taken : (ps : List TokenAt) (x : IsLocationsText threads (tokens_of ps))
-      → (s : TextState) × (run (start kinds.Locations threads) ps ≡ Ok s)
+  pub list_taken : (ps : List TokenAt) (x : IsLocationsText threads (test_tokens_of ps))
+      → (s : TextState) × (run_parts (text_start kinds.Locations threads) ps ≡ Ok s)
       × (s.draft.observed ≡ map place_meaning (members x.items))
   list_taken ps x = let r = text_taken x.items ps x.fine x.whole in (r.state, r.by, r.observed)
 
@@ -325,7 +325,7 @@ module _ (threads : ℕ) (few : threads < 18446744073709551616) where
   record Finished (from : TextState) (ps : List TokenAt) : Type 0 where
     rest : List Token
     state : TextState
-    by : run from (ps ++ anywhere rest) ≡ Ok state
+    by : run_parts from (ps ++ anywhere rest) ≡ Ok state
     done : state.part ≡ text.Done
 
   abbrev known_register : List ℕ
@@ -384,40 +384,40 @@ module _ (threads : ℕ) (few : threads < 18446744073709551616) where
   finished g p h o = absurd o
 
   goes_on : (ps : List TokenAt) (g : Stage) (p : Part) (h : Draft) (s : TextState) → IsOfList p
-      → run (standing g p h) ps ≡ Ok s → Finished (standing g p h) ps
+      → run_parts (standing g p h) ps ≡ Ok s → Finished (standing g p h) ps
   goes_on [] g p h s o e = finished g p h o
   goes_on (q ∷ ps) g p h s o e =
-      let r = by_next (part_step kinds.Locations threads h p q.token q.offset) (stays h p q.token q.offset o) e (λ n i k. goes_on ps (after g q.token) n.part n.draft s i k) in
+      let r = by_next (part_step kinds.Locations threads h p q.token q.offset) (stays h p q.token q.offset o) e (λ n i k. goes_on ps (next_stage g q.token) n.part n.draft s i k) in
       record { rest = r.0; state = r.1; by = r.2; done = r.3 }
     where
       by_next : (m : Option Next) → LeadsToList m
-          → and_then (with_offset q.offset (stepped (standing g p h) q.token m)) (λ x. run x ps)
+          → and_then (with_offset q.offset (stepped (standing g p h) q.token m)) (λ x. run_parts x ps)
           ≡ Ok s
           → ((n : Next) → IsOfList n.part
-          → run (standing (after g q.token) n.part n.draft) ps ≡ Ok s
-          → Finished (standing (after g q.token) n.part n.draft) ps)
+          → run_parts (standing (next_stage g q.token) n.part n.draft) ps ≡ Ok s
+          → Finished (standing (next_stage g q.token) n.part n.draft) ps)
           → (rest : List Token) × (x : TextState)
           × (and_then (with_offset q.offset (stepped (standing g p h) q.token m))
-          (λ y. run y (ps ++ anywhere rest)) ≡ Ok x) × (x.part ≡ text.Done)
+          (λ y. run_parts y (ps ++ anywhere rest)) ≡ Ok x) × (x.part ≡ text.Done)
       by_next (Some n) i k later = let f = later n i k in (f.rest, f.state, f.by, f.done)
       by_next None i k later = absurd cc
 
-  begins_by : (ps : List TokenAt) (s : TextState) → run (start kinds.Locations threads) ps ≡ Ok s
-      → Begins (IsLocationsText threads) (tokens_of ps)
+  begins_by : (ps : List TokenAt) (s : TextState) → run_parts (text_start kinds.Locations threads) ps ≡ Ok s
+      → Begins (IsLocationsText threads) (test_tokens_of ps)
   begins_by ps s e =
       let f = goes_on ps Tail text.ListOrEnd nothing_yet s tt e in
-      record { rest = f.rest; text = subst (IsLocationsText threads) (tokens_of-append ps (anywhere f.rest) ∙ ap (λ (ts : List Token). tokens_of ps ++ ts) (tokens_of-anywhere f.rest)) (list_whole threads (ps ++ anywhere f.rest) Tail nothing_yet f.state f.by f.done) }
+      record { rest = f.rest; text = subst (IsLocationsText threads) (tokens_of-append ps (anywhere f.rest) ∙ ap (λ (ts : List Token). test_tokens_of ps ++ ts) (tokens_of-anywhere f.rest)) (list_whole threads (ps ++ anywhere f.rest) Tail nothing_yet f.state f.by f.done) }
 
   pub list_reading : Reading (IsLocationsText threads) kinds.Locations threads
   list_reading = record {
     begins = begins_by;
     takes = λ ps x. let r = list_taken ps x in (r.0, r.1);
     says = λ ps s t offset e none.
-        let f = follows (start kinds.Locations threads) s ps e in
-        let stage : s.stage ≡ Tail = f.stage ∙ tail_stays (tokens_of ps) in
-        let C = CanFollow (IsLocationsText threads) (tokens_of ps) in
-        subst (λ (g : Stage). RulingSays C g (ruling g t) (rule_at s.kind s.draft.table s.stage t))
-        (sym (tail_stays (tokens_of ps))) (subst
-        (λ (g : Stage). RulingSays C Tail (ruling Tail t) (rule_at s.kind s.draft.table g t))
+        let f = follows (text_start kinds.Locations threads) s ps e in
+        let stage : s.stage ≡ Tail = f.stage ∙ tail_stays (test_tokens_of ps) in
+        let C = CanFollow (IsLocationsText threads) (test_tokens_of ps) in
+        subst (λ (g : Stage). RulingSays C g (ruling g t) (text_rule_at s.kind s.draft.table s.stage t))
+        (sym (tail_stays (test_tokens_of ps))) (subst
+        (λ (g : Stage). RulingSays C Tail (ruling Tail t) (text_rule_at s.kind s.draft.table g t))
         (sym stage) (tail_says C s.kind s.draft.table t));
   }

@@ -9,8 +9,8 @@ use Rattle.litmus_tokens.specs.declared.stage.Stage.{Stage}
 use Rattle.litmus_tokens.specs.declared.token.Token.{Token}
 use Rattle.litmus_tokens.specs.declared.token.Token.TheVariants as tokens
 use Rattle.litmus_tokens.specs.declared.token.Mark.TheVariants as marks
-use Rattle.litmus_tokens.specs.Stage.{after}
-use Rattle.litmus_tokens.specs.Texts.{TokenAt, tokens_of}
+use Rattle.litmus_tokens.specs.Stage.{next_stage}
+use Rattle.litmus_tokens.specs.Texts.{TokenAt, test_tokens_of}
 use Rattle.litmus_tokens.specs.Words.{decimal, register_of, is_register, is_known}
 use Rattle.litmus_tokens.specs.declared.place.PlaceExpectation.{PlaceExpectation}
 use Rattle.litmus_tokens.specs.declared.place.PlaceExpectation.TheVariants as places
@@ -23,7 +23,7 @@ use Rattle.litmus_grammar.specs.declared.parts.ItemExpectation.TheVariants as it
 use Rattle.litmus_grammar.specs.declared.parts.TextKind.TheVariants as kinds
 use Rattle.litmus_grammar.specs.Grammar.{spelled_others, ArePlaceTrees, IsLocationsText}
 use Rattle.litmus_grammar.specs.TextMachine as text
-use Rattle.litmus_grammar.specs.TextMachine.{Part, Draft, TextState, TextResult, with_offset, and_then, stepped, with_place, run, item_result}
+use Rattle.litmus_grammar.specs.TextMachine.{Part, Draft, TextState, TextResult, with_offset, and_then, stepped, with_place, run_parts, item_result}
 use Rattle.litmus_grammar.proofs.InitLeft.{is_done}
 use Rattle.litmus_grammar.proofs.Outcomes.{not_both}
 
@@ -178,39 +178,39 @@ module _ (threads : ℕ) where
   -- ---- what is taken to its end
 
   only_end : (ps : List TokenAt) (g : Stage) (h : Draft) (s : TextState)
-      → run (standing g text.Done h) ps ≡ Ok s → tokens_of ps ≡ []
+      → run_parts (standing g text.Done h) ps ≡ Ok s → test_tokens_of ps ≡ []
   only_end [] g h s e = refl
   only_end (p ∷ ps) g h s e = absurd (not_both _ _ e)
 
   end_left : (ps : List TokenAt) (g : Stage) (h : Draft) (s : TextState)
-      → run (standing g text.WantsEnd h) ps ≡ Ok s → s.part ≡ text.Done
-      → tokens_of ps ≡ tokens.End ∷ []
+      → run_parts (standing g text.WantsEnd h) ps ≡ Ok s → s.part ≡ text.Done
+      → test_tokens_of ps ≡ tokens.End ∷ []
   end_left [] g h s e d = absurd (false≢true (ap done_in e ∙ ap is_done d))
   end_left (p ∷ ps) g h s e d = by_token p.token p.offset e
     where
       by_token : (t : Token) (n : ℕ)
-          → run (standing g text.WantsEnd h) (record { token = t; offset = n } ∷ ps) ≡ Ok s
-          → t ∷ tokens_of ps ≡ tokens.End ∷ []
+          → run_parts (standing g text.WantsEnd h) (record { token = t; offset = n } ∷ ps) ≡ Ok s
+          → t ∷ test_tokens_of ps ≡ tokens.End ∷ []
       by_token tokens.End n k =
-          more tokens.End (tokens_of ps) [] (only_end ps (after g tokens.End) h s k)
+          more tokens.End (test_tokens_of ps) [] (only_end ps (next_stage g tokens.End) h s k)
       by_token t n k = absurd (not_both _ _ k)
 
   -- with what is left behind the token
   module _ (ps : List TokenAt) (s : TextState) (d : s.part ≡ text.Done)
       (again : (expected : ItemExpectation) (g : Stage) (h : Draft)
-      → run (standing g (text.Item expected) h) ps ≡ Ok s → Left expected (tokens_of ps)) where
+      → run_parts (standing g (text.Item expected) h) ps ≡ Ok s → Left expected (test_tokens_of ps)) where
     went : (g : Stage) (h : Draft) (part : Part) (t : Token) (n : ℕ) (o : Option PlaceStep)
-        → and_then (with_offset n (stepped (standing g part h) t (item_result h o))) (λ x. run x ps)
-        ≡ Ok s → StepLeft o (tokens_of ps)
+        → and_then (with_offset n (stepped (standing g part h) t (item_result h o))) (λ x. run_parts x ps)
+        ≡ Ok s → StepLeft o (test_tokens_of ps)
     went g h part t n (Some (place_steps.Goes within)) k =
-        again (items.InItem within) (after g t) h k
+        again (items.InItem within) (next_stage g t) h k
     went g h part t n (Some (place_steps.Ends w)) k =
-        again items.HasItem (after g t) (with_place h (place_of w)) k
+        again items.HasItem (next_stage g t) (with_place h (place_of w)) k
     went g h part t n None k = absurd (not_both _ _ k)
 
     start_left : (g : Stage) (h : Draft) (part : Part) (t : Token) (n : ℕ)
         → and_then (with_offset n (stepped (standing g part h) t (text.item_start threads h t)))
-        (λ x. run x ps) ≡ Ok s → Following (t ∷ tokens_of ps)
+        (λ x. run_parts x ps) ≡ Ok s → Following (t ∷ test_tokens_of ps)
     start_left g h part t n k = choose (has_thread threads t) refl k
       where
         choose : (b : Bool) → has_thread threads t ≡ b
@@ -218,67 +218,67 @@ module _ (threads : ℕ) where
             (with_offset n (stepped (standing g part h) t (if b then item_result h
             (place_step places.Begins t)
             else None)))
-            (λ x. run x ps) ≡ Ok s → Following (t ∷ tokens_of ps)
+            (λ x. run_parts x ps) ≡ Ok s → Following (t ∷ test_tokens_of ps)
         choose true e k =
-            first_draft t (tokens_of ps) e (went g h part t n (place_step places.Begins t) k)
+            first_draft t (test_tokens_of ps) e (went g h part t n (place_step places.Begins t) k)
         choose false e k = absurd (not_both _ _ k)
 
     next_left : (g : Stage) (h : Draft) (t : Token) (n : ℕ)
-        → run (standing g (text.Item items.WantsNext) h) (record { token = t; offset = n } ∷ ps)
-        ≡ Ok s → AfterSemicolon (t ∷ tokens_of ps)
+        → run_parts (standing g (text.Item items.WantsNext) h) (record { token = t; offset = n } ∷ ps)
+        ≡ Ok s → AfterSemicolon (t ∷ test_tokens_of ps)
     next_left g h (tokens.Mark marks.CloseBracket) n k =
-        Closes (more (tokens.Mark marks.CloseBracket) (tokens_of ps) _
-        (end_left ps (after g (tokens.Mark marks.CloseBracket)) h s k d))
+        Closes (more (tokens.Mark marks.CloseBracket) (test_tokens_of ps) _
+        (end_left ps (next_stage g (tokens.Mark marks.CloseBracket)) h s k d))
     next_left g h t n k = Another (start_left g h (text.Item items.WantsNext) t n k)
 
     ended_left : (g : Stage) (h : Draft) (t : Token) (n : ℕ)
-        → run (standing g (text.Item items.HasItem) h) (record { token = t; offset = n } ∷ ps)
-        ≡ Ok s → Behind (t ∷ tokens_of ps)
+        → run_parts (standing g (text.Item items.HasItem) h) (record { token = t; offset = n } ∷ ps)
+        ≡ Ok s → Behind (t ∷ test_tokens_of ps)
     ended_left g h (tokens.Mark marks.Semicolon) n k =
-        after_semicolon (tokens_of ps) (again items.WantsNext
-        (after g (tokens.Mark marks.Semicolon)) h k)
+        after_semicolon (test_tokens_of ps) (again items.WantsNext
+        (next_stage g (tokens.Mark marks.Semicolon)) h k)
     ended_left g h (tokens.Mark marks.CloseBracket) n k =
         record {
           others = [];
           closed = false;
           fine = tt;
           whole =
-              more (tokens.Mark marks.CloseBracket) (tokens_of ps) _
-              (end_left ps (after g (tokens.Mark marks.CloseBracket)) h s k d);
+              more (tokens.Mark marks.CloseBracket) (test_tokens_of ps) _
+              (end_left ps (next_stage g (tokens.Mark marks.CloseBracket)) h s k d);
         }
     ended_left g h t n k = absurd (not_both _ _ k)
 
     by_expectation : (expected : ItemExpectation) (g : Stage) (h : Draft) (t : Token) (n : ℕ)
-        → run (standing g (text.Item expected) h) (record { token = t; offset = n } ∷ ps) ≡ Ok s
-        → Left expected (t ∷ tokens_of ps)
+        → run_parts (standing g (text.Item expected) h) (record { token = t; offset = n } ∷ ps) ≡ Ok s
+        → Left expected (t ∷ test_tokens_of ps)
     by_expectation items.WantsFirst g h t n k = start_left g h (text.Item items.WantsFirst) t n k
     by_expectation items.WantsNext g h t n k = next_left g h t n k
     by_expectation (items.InItem within) g h t n k =
-        back within t (tokens_of ps) (went g h (text.Item (items.InItem within)) t n
+        back within t (test_tokens_of ps) (went g h (text.Item (items.InItem within)) t n
         (place_step within t) k)
     by_expectation items.HasItem g h t n k = ended_left g h t n k
 
   left : (ps : List TokenAt) (expected : ItemExpectation) (g : Stage) (h : Draft) (s : TextState)
-      → run (standing g (text.Item expected) h) ps ≡ Ok s → s.part ≡ text.Done
-      → Left expected (tokens_of ps)
+      → run_parts (standing g (text.Item expected) h) ps ≡ Ok s → s.part ≡ text.Done
+      → Left expected (test_tokens_of ps)
   left [] expected g h s e d = absurd (false≢true (ap done_in e ∙ ap is_done d))
   left (p ∷ ps) expected g h s e d =
       by_expectation ps s d (λ o f i k. left ps o f i s k d) expected g h p.token p.offset e
 
   list_left : (ps : List TokenAt) (g : Stage) (h : Draft) (s : TextState)
-      → run (standing g text.WantsList h) ps ≡ Ok s → s.part ≡ text.Done
-      → (rest : List Token) × (tokens_of ps ≡ tokens.Mark marks.OpenBracket ∷ rest) × Following rest
+      → run_parts (standing g text.WantsList h) ps ≡ Ok s → s.part ≡ text.Done
+      → (rest : List Token) × (test_tokens_of ps ≡ tokens.Mark marks.OpenBracket ∷ rest) × Following rest
   list_left [] g h s e d = absurd (false≢true (ap done_in e ∙ ap is_done d))
   list_left (p ∷ ps) g h s e d = by_token p.token p.offset e
     where
       by_token : (t : Token) (n : ℕ)
-          → run (standing g text.WantsList h) (record { token = t; offset = n } ∷ ps) ≡ Ok s
-          → (rest : List Token) × (t ∷ tokens_of ps ≡ tokens.Mark marks.OpenBracket ∷ rest)
+          → run_parts (standing g text.WantsList h) (record { token = t; offset = n } ∷ ps) ≡ Ok s
+          → (rest : List Token) × (t ∷ test_tokens_of ps ≡ tokens.Mark marks.OpenBracket ∷ rest)
           × Following rest
       by_token (tokens.Mark marks.OpenBracket) n k = (
-        tokens_of ps,
+        test_tokens_of ps,
         refl,
-        left ps items.WantsFirst (after g (tokens.Mark marks.OpenBracket)) h s k d,
+        left ps items.WantsFirst (next_stage g (tokens.Mark marks.OpenBracket)) h s k d,
       )
       by_token t n k = absurd (not_both _ _ k)
 
@@ -297,8 +297,8 @@ module _ (threads : ℕ) where
       }
 
   pub list_whole : (ps : List TokenAt) (g : Stage) (h : Draft) (s : TextState)
-      → run (standing g text.ListOrEnd h) ps ≡ Ok s → s.part ≡ text.Done
-      → IsLocationsText threads (tokens_of ps)
+      → run_parts (standing g text.ListOrEnd h) ps ≡ Ok s → s.part ≡ text.Done
+      → IsLocationsText threads (test_tokens_of ps)
   list_whole [] g h s e d = absurd (false≢true (ap done_in e ∙ ap is_done d))
   list_whole (p ∷ ps) g h s e d = by_token p.token p.offset e
     where
@@ -306,20 +306,20 @@ module _ (threads : ℕ) where
           → and_then
           (with_offset n (stepped (standing g text.ListOrEnd h) (tokens.Word w)
           (text.next_at h (if b then Some text.WantsList else None))))
-          (λ x. run x ps) ≡ Ok s → IsLocationsText threads (tokens.Word w ∷ tokens_of ps)
+          (λ x. run_parts x ps) ≡ Ok s → IsLocationsText threads (tokens.Word w ∷ test_tokens_of ps)
       by_word w n true q k =
-          of_list w (tokens_of ps) ((bytes_eq-Decides w (codes "locations")).0 q)
-          (list_left ps (after g (tokens.Word w)) h s k d)
+          of_list w (test_tokens_of ps) ((bytes_eq-Decides w (codes "locations")).0 q)
+          (list_left ps (next_stage g (tokens.Word w)) h s k d)
       by_word w n false q k = absurd (not_both _ _ k)
 
       by_token : (t : Token) (n : ℕ)
-          → run (standing g text.ListOrEnd h) (record { token = t; offset = n } ∷ ps) ≡ Ok s
-          → IsLocationsText threads (t ∷ tokens_of ps)
+          → run_parts (standing g text.ListOrEnd h) (record { token = t; offset = n } ∷ ps) ≡ Ok s
+          → IsLocationsText threads (t ∷ test_tokens_of ps)
       by_token (tokens.Word w) n k = by_word w n (bytes_eq w (codes "locations")) refl k
       by_token tokens.End n k =
           record {
             items = None;
             fine = tt;
-            whole = more tokens.End (tokens_of ps) [] (only_end ps (after g tokens.End) h s k);
+            whole = more tokens.End (test_tokens_of ps) [] (only_end ps (next_stage g tokens.End) h s k);
           }
       by_token t n k = absurd (not_both _ _ k)

@@ -3,11 +3,11 @@
 use Rattle.std.proofs.Common.{◌≡◌, ℕ, ◌⊎◌, inl, inr, Bool, true, false, true≢false, List, [], ◌∷◌, ◌++◌, Option, Some, None, Ok, refl, sym, ap, ◌∙◌}
 use Rattle.litmus_tokens.specs.declared.stage.Stage.{Stage}
 use Rattle.litmus_tokens.specs.declared.token.Token.{Token}
-use Rattle.litmus_tokens.specs.Stage.{after}
-use Rattle.litmus_tokens.specs.Texts.{TokenAt, tokens_of, stage_after}
+use Rattle.litmus_tokens.specs.Stage.{next_stage}
+use Rattle.litmus_tokens.specs.Texts.{TokenAt, test_tokens_of, stage_after}
 use Rattle.litmus_grammar.specs.declared.parts.TextKind.{TextKind}
 use Rattle.litmus_grammar.specs.declared.parts.TextKind.TheVariants as kinds
-use Rattle.litmus_grammar.specs.TextMachine.{Part, Draft, Next, TextState, TextResult, with_offset, and_then, stepped, part_step, run}
+use Rattle.litmus_grammar.specs.TextMachine.{Part, Draft, Next, TextState, TextResult, with_offset, and_then, stepped, part_step, run_parts}
 use Rattle.litmus_grammar.proofs.Outcomes.{not_both}
 use Rattle.litmus_grammar.proofs.Runs.{same_state}
 
@@ -42,8 +42,8 @@ module _ (kind : TextKind) (threads : ℕ) (lift : Draft → Draft) (exit next :
     pub part : Part
     pub draft : Draft
     pub inside : is_inside part ≡ true
-    pub by : run (alone f p h) ps ≡ Ok (alone (stage_after f (tokens_of ps)) part draft)
-    pub same : s ≡ test_at (stage_after g (tokens_of ps)) part (lift draft)
+    pub by : run_parts (alone f p h) ps ≡ Ok (alone (stage_after f (test_tokens_of ps)) part draft)
+    pub same : s ≡ test_at (stage_after g (test_tokens_of ps)) part (lift draft)
 
   -- the part has ended behind some tokens
   pub record Leaves (f g : Stage) (p : Part) (h : Draft) (ps : List TokenAt) (s : TextState)
@@ -52,20 +52,20 @@ module _ (kind : TextKind) (threads : ℕ) (lift : Draft → Draft) (exit next :
     pub behind : List TokenAt
     pub draft : Draft
     pub whole : ps ≡ before ++ behind
-    pub by : run (alone f p h) before ≡ Ok (alone (stage_after f (tokens_of before)) exit draft)
-    pub on : run (test_at (stage_after g (tokens_of before)) next (lift draft)) behind ≡ Ok s
+    pub by : run_parts (alone f p h) before ≡ Ok (alone (stage_after f (test_tokens_of before)) exit draft)
+    pub on : run_parts (test_at (stage_after g (test_tokens_of before)) next (lift draft)) behind ≡ Ok s
 
   abbrev one_step : Stage → Part → Draft → TokenAt → List TokenAt → Option Next → TextResult
   one_step g p h q ps o =
-      and_then (with_offset q.offset (stepped (alone g p h) q.token o)) (λ x. run x ps)
+      and_then (with_offset q.offset (stepped (alone g p h) q.token o)) (λ x. run_parts x ps)
 
   abbrev test_step : Stage → Part → Draft → TokenAt → List TokenAt → Option Next → TextResult
   test_step g p h q ps o =
-      and_then (with_offset q.offset (stepped (test_at g p h) q.token o)) (λ x. run x ps)
+      and_then (with_offset q.offset (stepped (test_at g p h) q.token o)) (λ x. run_parts x ps)
 
   stays_on : (f g : Stage) (p : Part) (h : Draft) (q : TokenAt) (ps : List TokenAt) (s : TextState)
       (n : Next) → part_step kind threads h p q.token q.offset ≡ Some n
-      → Stays (after f q.token) (after g q.token) n.part n.draft ps s → Stays f g p h (q ∷ ps) s
+      → Stays (next_stage f q.token) (next_stage g q.token) n.part n.draft ps s → Stays f g p h (q ∷ ps) s
   stays_on f g p h q ps s n e r =
       record {
         part = r.part;
@@ -77,7 +77,7 @@ module _ (kind : TextKind) (threads : ℕ) (lift : Draft → Draft) (exit next :
 
   leaves_on : (f g : Stage) (p : Part) (h : Draft) (q : TokenAt) (ps : List TokenAt) (s : TextState)
       (n : Next) → part_step kind threads h p q.token q.offset ≡ Some n
-      → Leaves (after f q.token) (after g q.token) n.part n.draft ps s → Leaves f g p h (q ∷ ps) s
+      → Leaves (next_stage f q.token) (next_stage g q.token) n.part n.draft ps s → Leaves f g p h (q ∷ ps) s
   leaves_on f g p h q ps s n e r =
       record {
         before = q ∷ r.before;
@@ -91,7 +91,7 @@ module _ (kind : TextKind) (threads : ℕ) (lift : Draft → Draft) (exit next :
   leaves_here : (f g : Stage) (p : Part) (h : Draft) (q : TokenAt) (ps : List TokenAt) (s : TextState)
       (n m : Next) → part_step kind threads h p q.token q.offset ≡ Some n → n.part ≡ exit
       → m.draft ≡ lift n.draft → m.part ≡ next
-      → run (test_at (after g q.token) m.part m.draft) ps ≡ Ok s → Leaves f g p h (q ∷ ps) s
+      → run_parts (test_at (next_stage g q.token) m.part m.draft) ps ≡ Ok s → Leaves f g p h (q ∷ ps) s
   leaves_here f g p h q ps s n m e out draft part k =
       record {
         before = q ∷ [];
@@ -100,14 +100,14 @@ module _ (kind : TextKind) (threads : ℕ) (lift : Draft → Draft) (exit next :
         whole = refl;
         by =
             ap (one_step f p h q []) e
-            ∙ ap (λ (x : Part). Ok (alone (after f q.token) x n.draft)) out;
+            ∙ ap (λ (x : Part). Ok (alone (next_stage f q.token) x n.draft)) out;
         on =
-            ap (λ (x : Part). run (test_at (after g q.token) x (lift n.draft)) ps) (sym part)
-            ∙ ap (λ (x : Draft). run (test_at (after g q.token) m.part x) ps) (sym draft) ∙ k;
+            ap (λ (x : Part). run_parts (test_at (next_stage g q.token) x (lift n.draft)) ps) (sym part)
+            ∙ ap (λ (x : Draft). run_parts (test_at (next_stage g q.token) m.part x) ps) (sym draft) ∙ k;
       }
 
   pub passes : (ps : List TokenAt) (f g : Stage) (p : Part) (h : Draft) (s : TextState)
-      → is_inside p ≡ true → run (test_at g p (lift h)) ps ≡ Ok s
+      → is_inside p ≡ true → run_parts (test_at g p (lift h)) ps ≡ Ok s
       → Stays f g p h ps s ⊎ Leaves f g p h ps s
   passes [] f g p h s i e =
       let same : test_at g p (lift h) ≡ s = same_state _ _ e in
@@ -115,11 +115,11 @@ module _ (kind : TextKind) (threads : ℕ) (lift : Draft → Draft) (exit next :
   passes (q ∷ ps) f g p h s i e =
       by_step (part_step kind threads h p q.token q.offset)
       (part_step kinds.Test 0 (lift h) p q.token q.offset) refl (alike p h q.token q.offset i) e
-      (λ n j k. passes ps (after f q.token) (after g q.token) n.part n.draft s j k)
+      (λ n j k. passes ps (next_stage f q.token) (next_stage g q.token) n.part n.draft s j k)
     where
       onward : (n : Next) → part_step kind threads h p q.token q.offset ≡ Some n
-          → Stays (after f q.token) (after g q.token) n.part n.draft ps s
-          ⊎ Leaves (after f q.token) (after g q.token) n.part n.draft ps s
+          → Stays (next_stage f q.token) (next_stage g q.token) n.part n.draft ps s
+          ⊎ Leaves (next_stage f q.token) (next_stage g q.token) n.part n.draft ps s
           → Stays f g p h (q ∷ ps) s ⊎ Leaves f g p h (q ∷ ps) s
       onward n c (inl r) = inl (stays_on f g p h q ps s n c r)
       onward n c (inr r) = inr (leaves_on f g p h q ps s n c r)
@@ -127,18 +127,18 @@ module _ (kind : TextKind) (threads : ℕ) (lift : Draft → Draft) (exit next :
       by_step : (a b : Option Next) → part_step kind threads h p q.token q.offset ≡ a
           → Alike lift exit next is_inside a b → test_step g p (lift h) q ps b ≡ Ok s
           → ((n : Next) → is_inside n.part ≡ true
-          → run (test_at (after g q.token) n.part (lift n.draft)) ps ≡ Ok s
-          → Stays (after f q.token) (after g q.token) n.part n.draft ps s
-          ⊎ Leaves (after f q.token) (after g q.token) n.part n.draft ps s)
+          → run_parts (test_at (next_stage g q.token) n.part (lift n.draft)) ps ≡ Ok s
+          → Stays (next_stage f q.token) (next_stage g q.token) n.part n.draft ps s
+          ⊎ Leaves (next_stage f q.token) (next_stage g q.token) n.part n.draft ps s)
           → Stays f g p h (q ∷ ps) s ⊎ Leaves f g p h (q ∷ ps) s
       by_step None None c l k later = absurd (not_both _ _ k)
       by_step (Some n) None c l k later = absurd l
       by_step None (Some m) c l k later = absurd l
       by_step (Some n) (Some m) c (draft, inl in_part) k later =
           onward n c (later n in_part.0 (ap
-          (λ (x : Part). run (test_at (after g q.token) x (lift n.draft)) ps)
+          (λ (x : Part). run_parts (test_at (next_stage g q.token) x (lift n.draft)) ps)
           (sym in_part.1)
-          ∙ ap (λ (x : Draft). run (test_at (after g q.token) m.part x) ps) (sym draft)
+          ∙ ap (λ (x : Draft). run_parts (test_at (next_stage g q.token) m.part x) ps) (sym draft)
           ∙ k))
       by_step (Some n) (Some m) c (draft, inr out) k later =
           inr (leaves_here f g p h q ps s n m c out.0 draft out.1 k)
@@ -151,26 +151,26 @@ module _ (kind : TextKind) (threads : ℕ) (lift : Draft → Draft) (exit next :
     pub behind : List TokenAt
     pub draft : Draft
     pub whole : ps ≡ before ++ behind
-    pub by : run (alone (stage_after f (tokens_of before)) exit draft) behind ≡ Ok s
+    pub by : run_parts (alone (stage_after f (test_tokens_of before)) exit draft) behind ≡ Ok s
     pub led : (g : Stage)
-        → run (test_at g p (lift h)) before
-        ≡ Ok (test_at (stage_after g (tokens_of before)) next (lift draft))
+        → run_parts (test_at g p (lift h)) before
+        ≡ Ok (test_at (stage_after g (test_tokens_of before)) next (lift draft))
 
   pub ends : (ps : List TokenAt) (f : Stage) (p : Part) (h : Draft) (s : TextState) → is_inside p ≡ true
-      → run (alone f p h) ps ≡ Ok s → is_inside s.part ≡ false → Ends f p h ps s
+      → run_parts (alone f p h) ps ≡ Ok s → is_inside s.part ≡ false → Ends f p h ps s
   ends [] f p h s i e o =
       let same : alone f p h ≡ s = same_state _ _ e in
       absurd (true≢false (sym i ∙ ap (λ (x : TextState). is_inside x.part) same ∙ o))
   ends (q ∷ ps) f p h s i e o =
       by_step (part_step kind threads h p q.token q.offset)
       (part_step kinds.Test 0 (lift h) p q.token q.offset) refl (alike p h q.token q.offset i) e
-      (λ n j k. ends ps (after f q.token) n.part n.draft s j k o)
+      (λ n j k. ends ps (next_stage f q.token) n.part n.draft s j k o)
     where
       by_step : (a b : Option Next) → part_step kinds.Test 0 (lift h) p q.token q.offset ≡ b
           → Alike lift exit next is_inside a b → one_step f p h q ps a ≡ Ok s
           → ((n : Next) → is_inside n.part ≡ true
-          → run (alone (after f q.token) n.part n.draft) ps ≡ Ok s
-          → Ends (after f q.token) n.part n.draft ps s)
+          → run_parts (alone (next_stage f q.token) n.part n.draft) ps ≡ Ok s
+          → Ends (next_stage f q.token) n.part n.draft ps s)
           → Ends f p h (q ∷ ps) s
       by_step None None c l k later = absurd (not_both _ _ k)
       by_step (Some n) None c l k later = absurd l
@@ -185,9 +185,9 @@ module _ (kind : TextKind) (threads : ℕ) (lift : Draft → Draft) (exit next :
             by = r.by;
             led = λ g.
                 ap (test_step g p (lift h) q r.before) c
-                ∙ ap (λ (x : Part). run (test_at (after g q.token) x m.draft) r.before) in_part.1
-                ∙ ap (λ (x : Draft). run (test_at (after g q.token) n.part x) r.before) draft
-                ∙ r.led (after g q.token);
+                ∙ ap (λ (x : Part). run_parts (test_at (next_stage g q.token) x m.draft) r.before) in_part.1
+                ∙ ap (λ (x : Draft). run_parts (test_at (next_stage g q.token) n.part x) r.before) draft
+                ∙ r.led (next_stage g q.token);
           }
       by_step (Some n) (Some m) c (draft, inr out) k later =
           record {
@@ -195,9 +195,9 @@ module _ (kind : TextKind) (threads : ℕ) (lift : Draft → Draft) (exit next :
             behind = ps;
             draft = n.draft;
             whole = refl;
-            by = ap (λ (x : Part). run (alone (after f q.token) x n.draft) ps) (sym out.0) ∙ k;
+            by = ap (λ (x : Part). run_parts (alone (next_stage f q.token) x n.draft) ps) (sym out.0) ∙ k;
             led = λ g.
                 ap (test_step g p (lift h) q []) c
-                ∙ ap (λ (x : Part). Ok (test_at (after g q.token) x m.draft)) out.1
-                ∙ ap (λ (x : Draft). Ok (test_at (after g q.token) next x)) draft;
+                ∙ ap (λ (x : Part). Ok (test_at (next_stage g q.token) x m.draft)) out.1
+                ∙ ap (λ (x : Draft). Ok (test_at (next_stage g q.token) next x)) draft;
           }

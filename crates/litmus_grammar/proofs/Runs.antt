@@ -6,9 +6,9 @@ use Rattle.litmus_tokens.specs.declared.token.Token.TheVariants as tokens
 use Rattle.litmus_tokens.specs.declared.lexer.NextLexeme.{NextLexeme}
 use Rattle.litmus_tokens.specs.declared.lexer.NextLexeme.TheVariants.{Layout, Lexeme}
 use Rattle.litmus_tokens.specs.Lexer.{first_lexeme}
-use Rattle.litmus_tokens.specs.Stage.{after}
-use Rattle.litmus_tokens.specs.Texts.{TokenAt, tokens_of, stage_after, ends_line, after_lexeme, tokens_from}
-use Rattle.litmus_grammar.specs.TextMachine.{Next, TextState, TextResult, stepped, with_offset, and_then, part_step, run}
+use Rattle.litmus_tokens.specs.Stage.{next_stage}
+use Rattle.litmus_tokens.specs.Texts.{TokenAt, test_tokens_of, stage_after, ends_line, after_lexeme, tokens_from}
+use Rattle.litmus_grammar.specs.TextMachine.{Next, TextState, TextResult, stepped, with_offset, and_then, part_step, run_parts}
 
 abbrev ran : TextState → TextResult
 ran s = Ok s
@@ -16,7 +16,7 @@ ran s = Ok s
 pub same_state : (a b : TextState) → ran a ≡ ran b → a ≡ b
 same_state a b e = cc
 
-pub tokens_of-append : (ps qs : List TokenAt) → tokens_of (ps ++ qs) ≡ tokens_of ps ++ tokens_of qs
+pub tokens_of-append : (ps qs : List TokenAt) → test_tokens_of (ps ++ qs) ≡ test_tokens_of ps ++ test_tokens_of qs
 tokens_of-append [] qs = refl
 tokens_of-append (p ∷ ps) qs = ap (λ (ts : List Token). p.token ∷ ts) (tokens_of-append ps qs)
 
@@ -25,7 +25,7 @@ abbrev pub anywhere : List Token → List TokenAt
 anywhere [] = []
 anywhere (t ∷ ts) = record { token = t; offset = 0 } ∷ anywhere ts
 
-pub tokens_of-anywhere : (ts : List Token) → tokens_of (anywhere ts) ≡ ts
+pub tokens_of-anywhere : (ts : List Token) → test_tokens_of (anywhere ts) ≡ ts
 tokens_of-anywhere [] = refl
 tokens_of-anywhere (t ∷ ts) = ap (λ (us : List Token). t ∷ us) (tokens_of-anywhere ts)
 
@@ -34,33 +34,33 @@ went s t n =
     record {
       kind = s.kind;
       threads = s.threads;
-      stage = after s.stage t;
+      stage = next_stage s.stage t;
       part = n.part;
       draft = n.draft;
     }
 
 pub run-split : (s : TextState) (ps qs : List TokenAt)
-    → run s (ps ++ qs) ≡ and_then (run s ps) (λ x. run x qs)
+    → run_parts s (ps ++ qs) ≡ and_then (run_parts s ps) (λ x. run_parts x qs)
 run-split s [] qs = refl
 run-split s (p ∷ ps) qs =
     by_next (part_step s.kind s.threads s.draft s.part p.token p.offset) (λ x. run-split x ps qs)
   where
     by_next : (o : Option Next)
-        → ((x : TextState) → run x (ps ++ qs) ≡ and_then (run x ps) (λ y. run y qs))
-        → and_then (with_offset p.offset (stepped s p.token o)) (λ x. run x (ps ++ qs))
-        ≡ and_then (and_then (with_offset p.offset (stepped s p.token o)) (λ x. run x ps))
-        (λ y. run y qs)
+        → ((x : TextState) → run_parts x (ps ++ qs) ≡ and_then (run_parts x ps) (λ y. run_parts y qs))
+        → and_then (with_offset p.offset (stepped s p.token o)) (λ x. run_parts x (ps ++ qs))
+        ≡ and_then (and_then (with_offset p.offset (stepped s p.token o)) (λ x. run_parts x ps))
+        (λ y. run_parts y qs)
     by_next (Some n) f = f (went s p.token n)
     by_next None f = refl
 
-pub run-append : (s s' : TextState) (ps qs : List TokenAt) → run s ps ≡ Ok s'
-    → run s (ps ++ qs) ≡ run s' qs
-run-append s s' ps qs e = run-split s ps qs ∙ ap (λ (r : TextResult). and_then r (λ x. run x qs)) e
+pub run-append : (s s' : TextState) (ps qs : List TokenAt) → run_parts s ps ≡ Ok s'
+    → run_parts s (ps ++ qs) ≡ run_parts s' qs
+run-append s s' ps qs e = run-split s ps qs ∙ ap (λ (r : TextResult). and_then r (λ x. run_parts x qs)) e
 
 -- one token more
-pub run_one : (s s' : TextState) (ps : List TokenAt) (p : TokenAt) (n : Next) → run s ps ≡ Ok s'
+pub run_one : (s s' : TextState) (ps : List TokenAt) (p : TokenAt) (n : Next) → run_parts s ps ≡ Ok s'
     → part_step s'.kind s'.threads s'.draft s'.part p.token p.offset ≡ Some n
-    → run s (ps ++ p ∷ []) ≡ Ok (went s' p.token n)
+    → run_parts s (ps ++ p ∷ []) ≡ Ok (went s' p.token n)
 run_one s s' ps p n e step =
     run-append s s' ps (p ∷ []) e
     ∙ ap (λ (o : Option Next). and_then (with_offset p.offset (stepped s' p.token o)) (λ x. Ok x))
@@ -72,7 +72,7 @@ pub record Follows (s s' : TextState) (ts : List Token) : Type 0 where
   pub threads : s'.threads ≡ s.threads
   pub stage : s'.stage ≡ stage_after s.stage ts
 
-pub follows : (s s' : TextState) (ps : List TokenAt) → run s ps ≡ Ok s' → Follows s s' (tokens_of ps)
+pub follows : (s s' : TextState) (ps : List TokenAt) → run_parts s ps ≡ Ok s' → Follows s s' (test_tokens_of ps)
 follows s s' [] e =
     let same : s' ≡ s = cc in
     record {
@@ -85,9 +85,9 @@ follows s s' (p ∷ ps) e =
     (λ x h. follows x s' ps h)
   where
     by_next : (o : Option Next)
-        → and_then (with_offset p.offset (stepped s p.token o)) (λ x. run x ps) ≡ Ok s'
-        → ((x : TextState) → run x ps ≡ Ok s' → Follows x s' (tokens_of ps))
-        → Follows s s' (p.token ∷ tokens_of ps)
+        → and_then (with_offset p.offset (stepped s p.token o)) (λ x. run_parts x ps) ≡ Ok s'
+        → ((x : TextState) → run_parts x ps ≡ Ok s' → Follows x s' (test_tokens_of ps))
+        → Follows s s' (p.token ∷ test_tokens_of ps)
     by_next (Some n) h f =
         let r = f (went s p.token n) h in
         record { kind = r.kind; threads = r.threads; stage = r.stage }
@@ -114,7 +114,7 @@ ends_last s fresh zero offset (b ∷ bs) =
         ≡ ps ++ record { token = tokens.End; offset = n } ∷ [])
     by_lexeme (Layout k) r = r _ _ _
     by_lexeme (Lexeme t k) r =
-        let q = r (after s t) (ends_line t) (k - 1) in (
+        let q = r (next_stage s t) (ends_line t) (k - 1) in (
           record { token = t; offset = offset } ∷ q.0,
           q.1,
           ap (λ (ps : List TokenAt). record { token = t; offset = offset } ∷ ps) q.2,

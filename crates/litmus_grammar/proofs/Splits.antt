@@ -1,35 +1,35 @@
 -- Lists of tokens with their offsets, cut where their tokens are.
 use Rattle.std.proofs.Common.{◌≡◌, ℕ, List, [], ◌∷◌, ◌++◌, refl, ap, ◌∙◌}
 use Rattle.litmus_tokens.specs.declared.token.Token.{Token}
-use Rattle.litmus_tokens.specs.Texts.{TokenAt, tokens_of}
+use Rattle.litmus_tokens.specs.Texts.{TokenAt, test_tokens_of}
 
 pub record Split (ps : List TokenAt) (us vs : List Token) : Type 0 where
   pub before : List TokenAt
   pub behind : List TokenAt
   pub whole : ps ≡ before ++ behind
-  pub are_before : tokens_of before ≡ us
-  pub are_behind : tokens_of behind ≡ vs
+  pub are_before : test_tokens_of before ≡ us
+  pub are_behind : test_tokens_of behind ≡ vs
 
-pub split : (ps : List TokenAt) (us vs : List Token) → tokens_of ps ≡ us ++ vs → Split ps us vs
+pub split : (ps : List TokenAt) (us vs : List Token) → test_tokens_of ps ≡ us ++ vs → Split ps us vs
 split ps [] vs e =
     record { before = []; behind = ps; whole = refl; are_before = refl; are_behind = e }
 split [] (u ∷ us) vs e = absurd cc
 split (p ∷ ps) (u ∷ us) vs e =
     let first : p.token ≡ u = cc in
-    let others : tokens_of ps ≡ us ++ vs = cc in
+    let others : test_tokens_of ps ≡ us ++ vs = cc in
     let r = split ps us vs others in
     record {
       before = p ∷ r.before;
       behind = r.behind;
       whole = ap (λ (qs : List TokenAt). p ∷ qs) r.whole;
       are_before =
-          ap (λ (t : Token). t ∷ tokens_of r.before) first
+          ap (λ (t : Token). t ∷ test_tokens_of r.before) first
           ∙ ap (λ (ts : List Token). u ∷ ts) r.are_before;
       are_behind = r.are_behind;
     }
 
 -- one token
-pub single : (ps : List TokenAt) (t : Token) → tokens_of ps ≡ t ∷ []
+pub single : (ps : List TokenAt) (t : Token) → test_tokens_of ps ≡ t ∷ []
     → (n : ℕ) × (ps ≡ record { token = t; offset = n } ∷ [])
 single [] t e = absurd cc
 single (p ∷ []) t e =

@@ -12,8 +12,8 @@ use Rattle.litmus_tokens.specs.declared.token.Token.{Token}
 use Rattle.litmus_tokens.specs.declared.token.Token.TheVariants as tokens
 use Rattle.litmus_tokens.specs.declared.token.Mark.TheVariants as marks
 use Rattle.litmus_tokens.specs.Faults.{Begins, CanFollow, cell_ruling, ruling, RulingSays, IsFault}
-use Rattle.litmus_tokens.specs.Stage.{after}
-use Rattle.litmus_tokens.specs.Texts.{TokenAt, tokens_of, stage_after, begins_tail}
+use Rattle.litmus_tokens.specs.Stage.{next_stage}
+use Rattle.litmus_tokens.specs.Texts.{TokenAt, test_tokens_of, stage_after, begins_tail}
 use Rattle.litmus_tokens.specs.Words.{is_test_name}
 use Rattle.text_values.specs.declared.test.Quantifier.TheVariants.{Exists, Forall}
 use Rattle.litmus_tokens.specs.Conditions.{PlaceTree, Location, Register, ValueTree, Number, Address, spelled_place, spelled_value}
@@ -24,7 +24,7 @@ use Rattle.litmus_grammar.specs.declared.parts.TextKind.TheVariants as kinds
 use Rattle.litmus_grammar.specs.Grammar.{Listed, EntryTree, spelled_entry, spelled_others, spelled_listed, spelled_init, members, AreEntryTrees, IsInitText, spelled_text, spelled_keylines}
 use Rattle.litmus_grammar.specs.InitMachine as init
 use Rattle.litmus_grammar.specs.TextMachine as text
-use Rattle.litmus_grammar.specs.TextMachine.{Part, Draft, Next, TextState, with_offset, and_then, stepped, part_step, start, run, rule_at}
+use Rattle.litmus_grammar.specs.TextMachine.{Part, Draft, Next, TextState, with_offset, and_then, stepped, part_step, text_start, run_parts, text_rule_at}
 use Rattle.litmus_grammar.specs.Texts.{is_init, spelled_colon, IsBrokenOff, IsWhole, BreaksOff}
 use Rattle.litmus_grammar.proofs.Blocks.{IsBody, Opened, IsOne, IsBroken, brace_at, block_at, block_begins, body_of}
 use Rattle.litmus_grammar.proofs.Bodies.{any_header}
@@ -46,7 +46,7 @@ use Rattle.litmus_grammar.proofs.InitStarts.{bracket}
 -- before each of these tokens the part is the init block
 abbrev Holds : Stage → List Token → Type 0
 Holds g [] = Unit {0}
-Holds g (t ∷ ts) = (is_init g ≡ true) × Holds (after g t) ts
+Holds g (t ∷ ts) = (is_init g ≡ true) × Holds (next_stage g t) ts
 
 abbrev within : Bool → Stage
 within x = stages.Init false x
@@ -59,8 +59,8 @@ before_one (c ∷ b) g [] t r h e = absurd (no_first (sym e))
 before_one (c ∷ b) g (u ∷ ts) t r h e =
     let first : c ≡ u = same_first e in
     let others : b ++ t ∷ r ≡ ts = same_others e in
-    subst (λ (x : Token). is_init (stage_after (after g x) b) ≡ true) (sym first)
-    (before_one b (after g u) ts t r h.1 others)
+    subst (λ (x : Token). is_init (stage_after (next_stage g x) b) ≡ true) (sym first)
+    (before_one b (next_stage g u) ts t r h.1 others)
 
 value_holds : (v : ValueTree) (rest : List Token) → ((y : Bool) → Holds (within y) rest)
     → (x : Bool) → Holds (within x) (spelled_value v rest)
@@ -130,11 +130,11 @@ any_start : Begins IsBodyStart []
 any_start = record { rest = any_body.rest; text = inl any_body.text }
 
 start_from : (name : List ℕ) (ps : List TokenAt) (n : ℕ) (g : Stage) (s : TextState)
-    → length ps + 1 < 18446744073709551616 → run (block_at name g) ps ≡ Ok s → AnyState s
-    → Begins IsBodyStart (tokens_of (brace_at n ∷ ps))
+    → length ps + 1 < 18446744073709551616 → run_parts (block_at name g) ps ≡ Ok s → AnyState s
+    → Begins IsBodyStart (test_tokens_of (brace_at n ∷ ps))
 start_from name ps n g s few e q = by_opened (block_begins name ps n g s few e)
   where
-    by_opened : Opened name ps n s → Begins IsBodyStart (tokens_of (brace_at n ∷ ps))
+    by_opened : Opened name ps n s → Begins IsBodyStart (test_tokens_of (brace_at n ∷ ps))
     by_opened (IsOne b) = record { rest = b.rest; text = inl b.text }
     by_opened (IsBroken i rest x) = record { rest = rest; text = inr x }
 
@@ -179,7 +179,7 @@ module _ (name : List ℕ) (i : is_test_name name ≡ true) (t : Bool) (k : ℕ)
   in_init_by (b ∷ before) us es e =
       let first : b ≡ tokens.Mark marks.OpenBrace = same_first e in
       let others : (before ++ bracket ∷ []) ++ us ≡ spelled_listed spelled_entry es (tokens.Mark marks.CloseBrace ∷ []) = same_others e in
-      subst (λ (y : Token). is_init (stage_after (after stages.Head y) before) ≡ true) (sym first)
+      subst (λ (y : Token). is_init (stage_after (next_stage stages.Head y) before) ≡ true) (sym first)
       (before_one before (within false)
       (spelled_listed spelled_entry es (tokens.Mark marks.CloseBrace ∷ [])) bracket us
       (listed_hold es false) (sym (append_assoc before (bracket ∷ []) us) ∙ others))
@@ -189,7 +189,7 @@ module _ (name : List ℕ) (i : is_test_name name ≡ true) (t : Bool) (k : ℕ)
       → IsBrokenOff IsText stages.Magic (head_of name t k behind)
   broken_by es fine (Nothing e) = absurd (not_last x.before (spelled_init es []) e)
   broken_by es fine (More more e m) =
-      let any = any_header [] init.start false 0 (omega arith) in
+      let any = any_header [] init.init_start false 0 (omega arith) in
       let ts = x.before ++ bracket ∷ [] in
       let body = body_of [] (ts ++ more) any.rest es fine m any.text in
       let whole = whole_of name i t k ((ts ++ more) ++ any.rest) body in
@@ -236,10 +236,10 @@ start_of ts x = by_body x.head.3
 
 -- what is taken begins a test, or a text that is broken off
 pub test_begins : (ps : List TokenAt) (s : TextState) → length ps < 18446744073709551616
-    → run first_draft ps ≡ Ok s → Begins IsBegun (tokens_of ps)
+    → run_parts first_draft ps ≡ Ok s → Begins IsBegun (test_tokens_of ps)
 test_begins ps s few e =
     let b = magic IsBodyStart AnyState any_start start_from ps stages.Magic s few e tt in
-    record { rest = b.rest; text = start_of (tokens_of ps ++ b.rest) b.text }
+    record { rest = b.rest; text = start_of (test_tokens_of ps ++ b.rest) b.text }
 
 -- ---- the rule that a refused token breaks
 
@@ -251,8 +251,8 @@ begins_goes (tokens.Word w) e n =
   where
     choose : (a b c : Bool) → (a || b || c) ≡ true
         → (if a then Some text.WantsList
-        else (if b then Some (text.proposition Exists)
-        else (if c then Some (text.proposition Forall) else None))) ≡ None → ⊥
+        else (if b then Some (text.proposition_part Exists)
+        else (if c then Some (text.proposition_part Forall) else None))) ≡ None → ⊥
     choose true b c e n = absurd (none-some _ (sym n))
     choose false true c e n = absurd (none-some _ (sym n))
     choose false false true e n = absurd (none-some _ (sym n))
@@ -282,27 +282,27 @@ module _ (h : Draft) (t : Token) where
     where
       choose : (b : Bool) → ends_row ≡ b
           → (if b then text.next_at h (text.tail_start t)
-          else text.table_result h text.Rows (table.step h.table t 0)) ≡ None
+          else text.table_result h text.Rows (table.table_step h.table t 0)) ≡ None
           → stands false h.table t ≡ false
       choose true e k =
           absurd (begins_goes t (and_parts (table.is_row_start h.table) (begins_tail t) e).1
           (none_led h (text.tail_start t) k))
       choose false e k =
-          or_from (is_taken (table.step h.table t 0)) (table.is_row_start h.table && begins_tail t)
-          (none_result h (table.step h.table t 0) k) e
+          or_from (is_taken (table.table_step h.table t 0)) (table.is_row_start h.table && begins_tail t)
+          (none_result h (table.table_step h.table t 0) k) e
 
   stuck : stands false h.table t ≡ false → text.row_read h t 0 ≡ None
   stuck e =
-      let x = or_parts (is_taken (table.step h.table t 0)) (table.is_row_start h.table && begins_tail t) e in
+      let x = or_parts (is_taken (table.table_step h.table t 0)) (table.is_row_start h.table && begins_tail t) e in
       ap
       (λ (b : Bool). if b then text.next_at h (text.tail_start t)
-      else text.table_result h text.Rows (table.step h.table t 0)) x.1
-      ∙ ap (text.table_result h text.Rows) (not_taken (table.step h.table t 0) x.0)
+      else text.table_result h text.Rows (table.table_step h.table t 0)) x.1
+      ∙ ap (text.table_result h text.Rows) (not_taken (table.table_step h.table t 0) x.0)
 
 module _ (ps : List TokenAt) (few : length ps + 1 < 18446744073709551616) (g : Stage) (h : Draft)
-    (reached : run first_draft ps ≡ Ok (test_at g text.Rows h)) where
+    (reached : run_parts first_draft ps ≡ Ok (test_at g text.Rows h)) where
   abbrev Can : Token → Type 0
-  Can t = CanFollow IsBegun (tokens_of ps) t
+  Can t = CanFollow IsBegun (test_tokens_of ps) t
 
   abbrev there : TextState
   there = test_at g text.Rows h
@@ -342,15 +342,15 @@ module _ (ps : List TokenAt) (few : length ps + 1 < 18446744073709551616) (g : S
       choose false e = e
 
   cell_says : (f : Stage) (t : Token) (offset : ℕ) → IsInCell f → text.row_read h t offset ≡ None
-      → RulingSays Can f (cell_ruling f t) (table.rule_at false h.table t)
+      → RulingSays Can f (cell_ruling f t) (table.table_rule_at false h.table t)
   cell_says f t offset i none =
       says_so (λ x. stands false h.table x ≡ true) Can f (cell_ruling f t)
-      (table.rule_at false h.table t) can_by by_can
+      (table.table_rule_at false h.table t) can_by by_can
       (rules_given false h.table f t i (out t offset none))
 
 by_stage : (C : Token → Type 0) (u : table.TableState) (g : Stage) (t : Token) → IsInCell g
-    → RulingSays C g (cell_ruling g t) (table.rule_at false u t)
-    → RulingSays C g (ruling g t) (rule_at kinds.Test u g t)
+    → RulingSays C g (cell_ruling g t) (table.table_rule_at false u t)
+    → RulingSays C g (ruling g t) (text_rule_at kinds.Test u g t)
 by_stage C u stages.CellBegins (tokens.Broken rule) i x = refl
 by_stage C u stages.CellBegins t i x = x
 by_stage C u stages.InCell (tokens.Broken rule) i x = refl
@@ -359,32 +359,32 @@ by_stage C u g t i x = absurd i
 
 module _ (C : Token → Type 0) (u : table.TableState) where
   magic_says : (t : Token)
-      → RulingSays C stages.Magic (ruling stages.Magic t) (rule_at kinds.Test u stages.Magic t)
+      → RulingSays C stages.Magic (ruling stages.Magic t) (text_rule_at kinds.Test u stages.Magic t)
   magic_says (tokens.Broken rule) = refl
   magic_says (tokens.Word w) = refl
   magic_says t = refl
 
   title_says : (t : Token)
-      → RulingSays C stages.Title (ruling stages.Title t) (rule_at kinds.Test u stages.Title t)
+      → RulingSays C stages.Title (ruling stages.Title t) (text_rule_at kinds.Test u stages.Title t)
   title_says (tokens.Broken rule) = refl
   title_says (tokens.Word w) = refl
   title_says t = refl
 
   title_end_says : (t : Token)
-      → RulingSays C stages.TitleEnd (ruling stages.TitleEnd t) (rule_at kinds.Test u stages.TitleEnd t)
+      → RulingSays C stages.TitleEnd (ruling stages.TitleEnd t) (text_rule_at kinds.Test u stages.TitleEnd t)
   title_end_says (tokens.Broken rule) = refl
   title_end_says (tokens.Word w) = refl
   title_end_says t = refl
 
   head_says : (t : Token)
-      → RulingSays C stages.Head (ruling stages.Head t) (rule_at kinds.Test u stages.Head t)
+      → RulingSays C stages.Head (ruling stages.Head t) (text_rule_at kinds.Test u stages.Head t)
   head_says (tokens.Broken rule) = refl
   head_says (tokens.Word w) = refl
   head_says t = refl
 
   init_says : (a x : Bool) (t : Token)
       → RulingSays C (stages.Init a x) (ruling (stages.Init a x) t)
-      (rule_at kinds.Test u (stages.Init a x) t)
+      (text_rule_at kinds.Test u (stages.Init a x) t)
   init_says a x (tokens.Broken rule) = refl
   init_says a true (tokens.Word w) = refl
   init_says a false (tokens.Word w) = refl
@@ -393,30 +393,30 @@ module _ (C : Token → Type 0) (u : table.TableState) where
 
   header_says : (k : ℕ) (t : Token)
       → RulingSays C (stages.Header k) (ruling (stages.Header k) t)
-      (rule_at kinds.Test u (stages.Header k) t)
+      (text_rule_at kinds.Test u (stages.Header k) t)
   header_says k (tokens.Broken rule) = refl
   header_says k (tokens.Word w) = refl
   header_says k t = refl
 
 module _ (ps : List TokenAt) (few : length ps + 1 < 18446744073709551616) (g : Stage) (p : Part)
-    (h : Draft) (reached : run first_draft ps ≡ Ok (test_at g p h)) (t : Token) (offset : ℕ) where
+    (h : Draft) (reached : run_parts first_draft ps ≡ Ok (test_at g p h)) (t : Token) (offset : ℕ) where
   abbrev Follows : Token → Type 0
-  Follows x = CanFollow IsBegun (tokens_of ps) x
+  Follows x = CanFollow IsBegun (test_tokens_of ps) x
 
   rows_say : (f : Stage) → IsInCell f → AgreesRows f p h.table.expected
       → part_step kinds.Test 0 h p t offset ≡ None
-      → RulingSays Follows f (ruling f t) (rule_at kinds.Test h.table f t)
+      → RulingSays Follows f (ruling f t) (text_rule_at kinds.Test h.table f t)
   rows_say f i a none = by_part p reached a none
     where
-      by_part : (q : Part) → run first_draft ps ≡ Ok (test_at g q h)
+      by_part : (q : Part) → run_parts first_draft ps ≡ Ok (test_at g q h)
           → AgreesRows f q h.table.expected → part_step kinds.Test 0 h q t offset ≡ None
-          → RulingSays Follows f (ruling f t) (rule_at kinds.Test h.table f t)
+          → RulingSays Follows f (ruling f t) (text_rule_at kinds.Test h.table f t)
       by_part text.Rows r b n =
           by_stage Follows h.table f t i (cell_says ps few g h r f t offset i n)
       by_part q r b n = absurd b
 
   all_say : (f : Stage) → Agrees f p h.table.expected → part_step kinds.Test 0 h p t offset ≡ None
-      → RulingSays Follows f (ruling f t) (rule_at kinds.Test h.table f t)
+      → RulingSays Follows f (ruling f t) (text_rule_at kinds.Test h.table f t)
   all_say stages.Magic a none = magic_says Follows h.table t
   all_say stages.Title a none = title_says Follows h.table t
   all_say stages.TitleEnd a none = title_end_says Follows h.table t
@@ -428,18 +428,18 @@ module _ (ps : List TokenAt) (few : length ps + 1 < 18446744073709551616) (g : S
   all_say stages.Tail a none = tail_says Follows kinds.Test h.table t
 
 pub test_says : (ps : List TokenAt) (s : TextState) (t : Token) (offset : ℕ)
-    → length ps + 1 < 18446744073709551616 → run first_draft ps ≡ Ok s
+    → length ps + 1 < 18446744073709551616 → run_parts first_draft ps ≡ Ok s
     → part_step s.kind s.threads s.draft s.part t offset ≡ None
-    → RulingSays (CanFollow IsBegun (tokens_of ps)) (stage_after stages.Magic (tokens_of ps))
-    (ruling (stage_after stages.Magic (tokens_of ps)) t)
-    (rule_at s.kind s.draft.table s.stage t)
+    → RulingSays (CanFollow IsBegun (test_tokens_of ps)) (stage_after stages.Magic (test_tokens_of ps))
+    (ruling (stage_after stages.Magic (test_tokens_of ps)) t)
+    (text_rule_at s.kind s.draft.table s.stage t)
 test_says ps s t offset few e none =
     let y = stood ps s e in
-    let g = stage_after stages.Magic (tokens_of ps) in
+    let g = stage_after stages.Magic (test_tokens_of ps) in
     let still : part_step kinds.Test 0 y.draft y.part t offset ≡ None = ap (λ (x : TextState). part_step x.kind x.threads x.draft x.part t offset) (sym y.same) ∙ none in
     subst
-    (λ (x : TextState). RulingSays (CanFollow IsBegun (tokens_of ps)) g (ruling g t)
-    (rule_at x.kind x.draft.table x.stage t))
+    (λ (x : TextState). RulingSays (CanFollow IsBegun (test_tokens_of ps)) g (ruling g t)
+    (text_rule_at x.kind x.draft.table x.stage t))
     (sym y.same)
     (all_say ps few g y.part y.draft (e ∙ ap (λ (x : TextState). Ok x) y.same) t offset g y.agrees
     still)
@@ -447,8 +447,8 @@ test_says ps s t offset few e none =
 -- ---- the fault
 
 go : (before : List TokenAt) (s : TextState) (rest : List TokenAt) (r : LitmusRule) (n : ℕ)
-    → length (before ++ rest) < 18446744073709551616 → run first_draft before ≡ Ok s
-    → run s rest ≡ Err (r, n) → IsFault IsBegun stages.Magic (before ++ rest) r n
+    → length (before ++ rest) < 18446744073709551616 → run_parts first_draft before ≡ Ok s
+    → run_parts s rest ≡ Err (r, n) → IsFault IsBegun stages.Magic (before ++ rest) r n
 go before s [] r n few reached e = absurd (not_both (r, n) s (sym e))
 go before s (p ∷ rest) r n few reached e =
     by_next (part_step s.kind s.threads s.draft s.part p.token p.offset) refl e
@@ -469,14 +469,14 @@ go before s (p ∷ rest) r n few reached e =
     fits = omega (arith, short)
 
     by_next : (o : Option Next) → part_step s.kind s.threads s.draft s.part p.token p.offset ≡ o
-        → and_then (with_offset p.offset (stepped s p.token o)) (λ x. run x rest) ≡ Err (r, n)
-        → ((x : TextState) → run first_draft (before ++ p ∷ []) ≡ Ok x → run x rest ≡ Err (r, n)
+        → and_then (with_offset p.offset (stepped s p.token o)) (λ x. run_parts x rest) ≡ Err (r, n)
+        → ((x : TextState) → run_parts first_draft (before ++ p ∷ []) ≡ Ok x → run_parts x rest ≡ Err (r, n)
         → IsFault IsBegun stages.Magic (before ++ p ∷ rest) r n)
         → IsFault IsBegun stages.Magic (before ++ p ∷ rest) r n
     by_next (Some x) q h f = f (went s p.token x) (run_one first_draft s before p x reached q) h
     by_next None q h f =
-        let same : (rule_at s.kind s.draft.table s.stage p.token, p.offset) ≡ (r, n) = stopped_is (rule_at s.kind s.draft.table s.stage p.token, p.offset) (r, n) h in
-        let stage = stage_after stages.Magic (tokens_of before) in
+        let same : (text_rule_at s.kind s.draft.table s.stage p.token, p.offset) ≡ (r, n) = stopped_is (text_rule_at s.kind s.draft.table s.stage p.token, p.offset) (r, n) h in
+        let stage = stage_after stages.Magic (test_tokens_of before) in
         record {
           before = before;
           here = p;
@@ -486,12 +486,12 @@ go before s (p ∷ rest) r n few reached e =
           ends = test_refused before s p short reached q;
           at_place = ap (λ (x : LitmusRule × ℕ). x.1) same;
           number =
-              subst (RulingSays (CanFollow IsBegun (tokens_of before)) stage (ruling stage p.token))
+              subst (RulingSays (CanFollow IsBegun (test_tokens_of before)) stage (ruling stage p.token))
               (ap (λ (x : LitmusRule × ℕ). x.0) same)
               (test_says before s p.token p.offset short reached q);
         }
 
 pub test_fault_where : (ps : List TokenAt) (r : LitmusRule) (n : ℕ)
-    → length ps < 18446744073709551616 → run first_draft ps ≡ Err (r, n)
+    → length ps < 18446744073709551616 → run_parts first_draft ps ≡ Err (r, n)
     → IsFault IsBegun stages.Magic ps r n
 test_fault_where ps r n few e = go [] first_draft ps r n few refl e

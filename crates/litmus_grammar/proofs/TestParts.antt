@@ -8,8 +8,8 @@ use Rattle.litmus_tokens.specs.declared.stage.Stage.TheVariants as stages
 use Rattle.litmus_tokens.specs.declared.token.Token.{Token}
 use Rattle.litmus_tokens.specs.declared.token.Token.TheVariants as tokens
 use Rattle.litmus_tokens.specs.declared.token.Mark.TheVariants as marks
-use Rattle.litmus_tokens.specs.Stage.{after}
-use Rattle.litmus_tokens.specs.Texts.{TokenAt, tokens_of, stage_after, begins_tail}
+use Rattle.litmus_tokens.specs.Stage.{next_stage}
+use Rattle.litmus_tokens.specs.Texts.{TokenAt, test_tokens_of, stage_after, begins_tail}
 use Rattle.litmus_tokens.specs.Words.{is_test_name, names_column}
 use Rattle.text_values.specs.declared.test.Place.{Place}
 use Rattle.text_values.specs.declared.test.Quantifier.{Quantifier}
@@ -20,7 +20,7 @@ use Rattle.litmus_tokens.specs.declared.place.PlaceStep.{PlaceStep}
 use Rattle.litmus_tokens.specs.declared.place.PlaceStep.TheVariants as place_steps
 use Rattle.litmus_tokens.specs.PlaceMachine.{place_step, has_thread, value_read}
 use Rattle.litmus_tokens.specs.ConditionMachine as condition
-use Rattle.litmus_tokens.specs.Conditions.{limits}
+use Rattle.litmus_tokens.specs.Conditions.{condition_limits}
 use Rattle.text_values.specs.declared.test.Value as declared_value
 use Rattle.litmus_table.specs.Machine as table
 use Rattle.litmus_grammar.specs.declared.parts.InitExpectation.{InitExpectation}
@@ -31,7 +31,7 @@ use Rattle.litmus_grammar.specs.declared.parts.TextKind.TheVariants as kinds
 use Rattle.litmus_grammar.specs.InitMachine as init
 use Rattle.litmus_grammar.specs.InitMachine.{Block}
 use Rattle.litmus_grammar.specs.TextMachine as text
-use Rattle.litmus_grammar.specs.TextMachine.{Part, Draft, Next, TextState, with_offset, and_then, stepped, part_step, run}
+use Rattle.litmus_grammar.specs.TextMachine.{Part, Draft, Next, TextState, with_offset, and_then, stepped, part_step, run_parts}
 use Rattle.litmus_grammar.proofs.Outcomes.{not_both}
 use Rattle.litmus_grammar.proofs.Passing.{test_at}
 use Rattle.litmus_grammar.proofs.Runs.{same_state}
@@ -96,7 +96,7 @@ module _ (h : Draft) (m : h.table.expected ≡ table.Begins) where
   title_end_agrees t = tt
 
   head_agrees : (b : Bool) (t : Token)
-      → NextAgrees (after stages.Head t) (text.next_at h (text.head_read b t))
+      → NextAgrees (next_stage stages.Head t) (text.next_at h (text.head_read b t))
   head_agrees true tokens.Text = m
   head_agrees false tokens.Text = tt
   head_agrees b tokens.Keyline = m
@@ -126,7 +126,7 @@ module _ (h : Draft) (m : h.table.expected ≡ table.Begins) where
   no_close (places.WantsRegister n) = refl
 
   within_agrees : (b : Block) (x : Bool) (expected : PlaceExpectation) (t : Token)
-      → NextAgrees (after (stages.Init false x) t) (text.init_result kinds.Test h
+      → NextAgrees (next_stage (stages.Init false x) t) (text.init_result kinds.Test h
       (init.place_read b expected t))
   within_agrees b x expected (tokens.Mark marks.CloseBrace) =
       let c = init.added_if b (init.token_key expected (tokens.Mark marks.CloseBrace)) in
@@ -142,19 +142,19 @@ module _ (h : Draft) (m : h.table.expected ≡ table.Begins) where
       goes_agrees false (init.added_if b (init.token_key expected t)) (place_step expected t)
 
   entry_agrees : (b : Block) (x : Bool) (t : Token) (offset : ℕ)
-      → NextAgrees (after (stages.Init false x) t)
+      → NextAgrees (next_stage (stages.Init false x) t)
       (text.init_result kinds.Test h (init.entry_read b t offset))
   entry_agrees b x (tokens.Mark marks.CloseBrace) offset = m
   entry_agrees b x t offset = within_agrees (init.with_start b offset) x places.Begins t
 
   open_agrees : (b : Block) (x : Bool) (t : Token)
-      → NextAgrees (after (stages.Init false x) t)
+      → NextAgrees (next_stage (stages.Init false x) t)
       (text.init_result kinds.Test h (init.open_read b t))
   open_agrees b x (tokens.Mark marks.OpenBrace) = m
   open_agrees b x t = tt
 
   equals_agrees : (b : Block) (x : Bool) (p : Place) (t : Token)
-      → NextAgrees (after (stages.Init false x) t)
+      → NextAgrees (next_stage (stages.Init false x) t)
       (text.init_result kinds.Test h (init.equals_read b p t))
   equals_agrees b x p (tokens.Mark marks.Equals) = m
   equals_agrees b x p t = tt
@@ -165,7 +165,7 @@ module _ (h : Draft) (m : h.table.expected ≡ table.Begins) where
   valued_agrees b x p None = tt
 
   value_agrees : (b : Block) (x : Bool) (p : Place) (t : Token)
-      → NextAgrees (after (stages.Init false x) t) (text.init_result kinds.Test h
+      → NextAgrees (next_stage (stages.Init false x) t) (text.init_result kinds.Test h
       (init.valued b p (value_read t)))
   value_agrees b x p (tokens.Word w) = m
   value_agrees b x p (tokens.Number negative ds) =
@@ -173,14 +173,14 @@ module _ (h : Draft) (m : h.table.expected ≡ table.Begins) where
   value_agrees b x p t = tt
 
   behind_agrees : (b : Block) (x : Bool) (t : Token)
-      → NextAgrees (after (stages.Init false x) t) (text.init_result kinds.Test h (init.behind b t))
+      → NextAgrees (next_stage (stages.Init false x) t) (text.init_result kinds.Test h (init.entry_behind b t))
   behind_agrees b x (tokens.Mark marks.Semicolon) = m
   behind_agrees b x (tokens.Mark marks.CloseBrace) = m
   behind_agrees b x t = tt
 
   init_agrees : (x : Bool) (expected : InitExpectation) (t : Token) (offset : ℕ)
-      → NextAgrees (after (stages.Init false x) t) (text.init_result kinds.Test h
-      (init.step h.init expected t offset))
+      → NextAgrees (next_stage (stages.Init false x) t) (text.init_result kinds.Test h
+      (init.init_step h.init expected t offset))
   init_agrees x expectations.WantsOpen t offset = open_agrees h.init x t
   init_agrees x expectations.WantsEntry t offset = entry_agrees h.init x t offset
   init_agrees x (expectations.InPlace expected) t offset = within_agrees h.init x expected t
@@ -191,8 +191,8 @@ module _ (h : Draft) (m : h.table.expected ≡ table.Begins) where
   -- ---- the header
 
   column_agrees : (k : ℕ) (t : Token)
-      → NextAgrees (after (stages.Header k) t)
-      (text.table_result h text.HasColumn (table.named h.table t))
+      → NextAgrees (next_stage (stages.Header k) t)
+      (text.table_result h text.HasColumn (table.name_thread h.table t))
   column_agrees k (tokens.Word w) = choose (names_column (length h.table.threads) w)
     where
       choose : (b : Bool)
@@ -206,7 +206,7 @@ module _ (h : Draft) (m : h.table.expected ≡ table.Begins) where
   rows_begin_so = subst (Matches stages.CellBegins) (sym m) tt
 
   ended_agrees : (k : ℕ) (t : Token)
-      → NextAgrees (after (stages.Header k) t) (text.next_at h (text.column_ended t))
+      → NextAgrees (next_stage (stages.Header k) t) (text.next_at h (text.column_ended t))
   ended_agrees k (tokens.Mark marks.Bar) = m
   ended_agrees k (tokens.Mark marks.Semicolon) = rows_begin_so
   ended_agrees k t = tt
@@ -226,8 +226,8 @@ module _ (h : Draft) where
   word_tail w = choose (bytes_eq w (codes "exists")) (bytes_eq w (codes "forall"))
     where
       choose : (a b : Bool)
-          → AllTail (if a then Some (text.proposition Exists)
-          else (if b then Some (text.proposition Forall) else None))
+          → AllTail (if a then Some (text.proposition_part Exists)
+          else (if b then Some (text.proposition_part Forall) else None))
       choose true b = refl
       choose false true = refl
       choose false false = tt
@@ -240,7 +240,7 @@ module _ (h : Draft) where
   exists_tail : (t : Token) → AllTail (text.exists_read t)
   exists_tail (tokens.Word w) = choose (bytes_eq w (codes "exists"))
     where
-      choose : (a : Bool) → AllTail (if a then Some (text.proposition NotExists) else None)
+      choose : (a : Bool) → AllTail (if a then Some (text.proposition_part NotExists) else None)
       choose true = refl
       choose false = tt
   exists_tail t = tt
@@ -301,7 +301,7 @@ module _ (h : Draft) where
       leads_tail (text.quantifier_read t) (quantifier_tail t)
   tail_agrees text.AfterTilde t offset i = leads_tail (text.exists_read t) (exists_tail t)
   tail_agrees (text.Proposition q fs used expected) t offset i =
-      proposition_tail q (condition.proposition_step limits (text.threads_in kinds.Test 0 h) fs used
+      proposition_tail q (condition.proposition_step condition_limits (text.threads_in kinds.Test 0 h) fs used
       expected t)
   tail_agrees text.Done t offset i = tt
   tail_agrees p t offset i = absurd (false≢true i)
@@ -328,38 +328,38 @@ module _ (h : Draft) where
   only_begins stages.InCell table.Whole m e = absurd (false≢true (ap table.is_begin e))
   only_begins g x m e = absurd m
 
-  to_tail : (t : Token) → begins_tail t ≡ true → after stages.CellBegins t ≡ stages.Tail
+  to_tail : (t : Token) → begins_tail t ≡ true → next_stage stages.CellBegins t ≡ stages.Tail
   to_tail (tokens.Word w) e = ap (λ (b : Bool). if b then stages.Tail else stages.InCell) e
   to_tail (tokens.Mark marks.Tilde) e = refl
   to_tail t e = absurd (false≢true e)
 
   row_agrees : (g : Stage) (t : Token) (offset : ℕ) → Matches g h.table.expected
-      → NextAgrees (after g t) (text.row_read h t offset)
+      → NextAgrees (next_stage g t) (text.row_read h t offset)
   row_agrees g t offset m = choose (table.is_row_start h.table && begins_tail t) refl
     where
       choose : (b : Bool) → (table.is_row_start h.table && begins_tail t) ≡ b
-          → NextAgrees (after g t) (if b then text.next_at h (text.tail_start t)
-          else text.table_result h text.Rows (table.step h.table t offset))
+          → NextAgrees (next_stage g t) (if b then text.next_at h (text.tail_start t)
+          else text.table_result h text.Rows (table.table_step h.table t offset))
       choose true e =
           let x = and_parts (table.is_row_start h.table) (begins_tail t) e in
           let y = and_parts (h.table.column == 0) (table.is_begin h.table.expected) x.0 in
           let first : g ≡ stages.CellBegins = only_begins g h.table.expected m (begins_at h.table.expected y.1) in
           subst (λ (f : Stage). NextAgrees f (text.next_at h (text.tail_start t)))
-          (sym (ap (λ (f : Stage). after f t) first ∙ to_tail t x.1))
+          (sym (ap (λ (f : Stage). next_stage f t) first ∙ to_tail t x.1))
           (leads_tail (text.tail_start t) (start_tail t))
       choose false e =
-          taken_agrees (after g t) (table.step h.table t offset) (step_matches h.table.threads
+          taken_agrees (next_stage g t) (table.table_step h.table t offset) (step_matches h.table.threads
           h.table.column offset g h.table.expected t m)
 
 -- ---- each token keeps it so
 
 rows_agree : (g : Stage) (h : Draft) (p : Part) (t : Token) (offset : ℕ)
-    → AgreesRows g p h.table.expected → NextAgrees (after g t) (part_step kinds.Test 0 h p t offset)
+    → AgreesRows g p h.table.expected → NextAgrees (next_stage g t) (part_step kinds.Test 0 h p t offset)
 rows_agree g h text.Rows t offset a = row_agrees h g t offset a
 rows_agree g h p t offset a = absurd a
 
 pub step_agrees : (g : Stage) (p : Part) (h : Draft) (t : Token) (offset : ℕ)
-    → Agrees g p h.table.expected → NextAgrees (after g t) (part_step kinds.Test 0 h p t offset)
+    → Agrees g p h.table.expected → NextAgrees (next_stage g t) (part_step kinds.Test 0 h p t offset)
 step_agrees stages.Magic text.Magic h t offset a = magic_agrees h a t
 step_agrees stages.Title text.Title h t offset a = title_agrees h a t
 step_agrees stages.TitleEnd text.TitleEnd h t offset a = title_end_agrees h a t
@@ -381,24 +381,24 @@ pub record Stood (g : Stage) (s : TextState) : Type 0 where
   pub agrees : Agrees g part draft.table.expected
 
 stood_on : (ps : List TokenAt) (g : Stage) (p : Part) (h : Draft) (s : TextState)
-    → Agrees g p h.table.expected → run (test_at g p h) ps ≡ Ok s
-    → Stood (stage_after g (tokens_of ps)) s
+    → Agrees g p h.table.expected → run_parts (test_at g p h) ps ≡ Ok s
+    → Stood (stage_after g (test_tokens_of ps)) s
 stood_on [] g p h s a e =
     let same : test_at g p h ≡ s = same_state _ _ e in
     record { part = p; draft = h; same = sym same; agrees = a }
 stood_on (q ∷ ps) g p h s a e =
     by_next (part_step kinds.Test 0 h p q.token q.offset) (step_agrees g p h q.token q.offset a) e
-    (λ n x k. stood_on ps (after g q.token) n.part n.draft s x k)
+    (λ n x k. stood_on ps (next_stage g q.token) n.part n.draft s x k)
   where
-    by_next : (o : Option Next) → NextAgrees (after g q.token) o
-        → and_then (with_offset q.offset (stepped (test_at g p h) q.token o)) (λ x. run x ps) ≡ Ok s
-        → ((n : Next) → Agrees (after g q.token) n.part n.draft.table.expected
-        → run (test_at (after g q.token) n.part n.draft) ps ≡ Ok s
-        → Stood (stage_after (after g q.token) (tokens_of ps)) s)
-        → Stood (stage_after g (tokens_of (q ∷ ps))) s
+    by_next : (o : Option Next) → NextAgrees (next_stage g q.token) o
+        → and_then (with_offset q.offset (stepped (test_at g p h) q.token o)) (λ x. run_parts x ps) ≡ Ok s
+        → ((n : Next) → Agrees (next_stage g q.token) n.part n.draft.table.expected
+        → run_parts (test_at (next_stage g q.token) n.part n.draft) ps ≡ Ok s
+        → Stood (stage_after (next_stage g q.token) (test_tokens_of ps)) s)
+        → Stood (stage_after g (test_tokens_of (q ∷ ps))) s
     by_next None x k later = absurd (not_both _ _ k)
     by_next (Some n) x k later = later n x k
 
-pub stood : (ps : List TokenAt) (s : TextState) → run (text.start kinds.Test 0) ps ≡ Ok s
-    → Stood (stage_after stages.Magic (tokens_of ps)) s
+pub stood : (ps : List TokenAt) (s : TextState) → run_parts (text.text_start kinds.Test 0) ps ≡ Ok s
+    → Stood (stage_after stages.Magic (test_tokens_of ps)) s
 stood ps s e = stood_on ps stages.Magic text.Magic (text.nothing kinds.Test) s refl e

@@ -9,7 +9,7 @@ use Rattle.text_values.specs.declared.test.InitEntry.{InitEntry}
 use Rattle.text_values.specs.declared.test.Quantifier.{Quantifier}
 use Rattle.text_values.specs.TestValue.{Content}
 use Rattle.litmus_tokens.specs.declared.place.WrittenPlace.{WrittenPlace}
-use Rattle.litmus_tokens.specs.Conditions.{PlaceTree, ValueTree, spelled_place, spelled_value, place_meaning, value_meaning, IsPlaceTree, HasThread, IsValueTree, FormulaTree, spelled, formula_meaning, Limits, IsFormulaTree, spelled_quantifier, written_place}
+use Rattle.litmus_tokens.specs.Conditions.{PlaceTree, ValueTree, spelled_place, spelled_value, place_meaning, value_meaning, IsPlaceTree, HasThread, IsValueTree, FormulaTree, spelled, tree_formula, Limits, IsFormulaTree, spelled_quantifier, written_place}
 use Rattle.litmus_table.specs.Grammar.{RowTree, ThreadTree, AreCells, AreRowTrees, spelled_header, spelled_rows, spelled_thread, columns_meaning}
 
 -- ---- lists with semicolons between, and one behind the last or none
@@ -132,7 +132,7 @@ test_meaning t = record {
   threads = columns_meaning 0 (t.others + 1) t.rows;
   observed = map place_meaning (members t.observed);
   quantifier = t.quantifier;
-  condition = formula_meaning t.condition;
+  condition = tree_formula t.condition;
 }
 
 -- ---- what is a text

@@ -30,8 +30,8 @@ pub record Block : Type 0 where
   pub starts : List ℕ
   pub named : List (List ℕ)
 
-abbrev pub start : Block
-start = record { entries = []; starts = []; named = [] }
+abbrev pub init_start : Block
+init_start = record { entries = []; starts = []; named = [] }
 
 -- ---- the places that were named
 
@@ -133,19 +133,19 @@ valued b p (Some v) = goes (with_entry b p v) expectations.HasEntry
 valued b p None = None
 
 -- behind an entry
-abbrev pub behind : Block → Token → Option Did
-behind b (tokens.Mark marks.Semicolon) = goes b expectations.WantsEntry
-behind b (tokens.Mark marks.CloseBrace) = ends b
-behind b t = None
+abbrev pub entry_behind : Block → Token → Option Did
+entry_behind b (tokens.Mark marks.Semicolon) = goes b expectations.WantsEntry
+entry_behind b (tokens.Mark marks.CloseBrace) = ends b
+entry_behind b t = None
 
 -- a token that stands at this byte
-abbrev pub step : Block → InitExpectation → Token → ℕ → Option Did
-step b expectations.WantsOpen t offset = open_read b t
-step b expectations.WantsEntry t offset = entry_read b t offset
-step b (expectations.InPlace h) t offset = place_read b h t
-step b (expectations.WantsEquals p) t offset = equals_read b p t
-step b (expectations.WantsValue p) t offset = valued b p (value_read t)
-step b expectations.HasEntry t offset = behind b t
+abbrev pub init_step : Block → InitExpectation → Token → ℕ → Option Did
+init_step b expectations.WantsOpen t offset = open_read b t
+init_step b expectations.WantsEntry t offset = entry_read b t offset
+init_step b (expectations.InPlace h) t offset = place_read b h t
+init_step b (expectations.WantsEquals p) t offset = equals_read b p t
+init_step b (expectations.WantsValue p) t offset = valued b p (value_read t)
+init_step b expectations.HasEntry t offset = entry_behind b t
 
 -- ---- the check that is made once the whole text is read
 

@@ -8,21 +8,21 @@ use Rattle.text_values.specs.declared.test.InitEntry.{InitEntry}
 use Rattle.text_values.specs.declared.test.Place.{Place}
 use Rattle.text_values.specs.declared.test.Quantifier.{Quantifier}
 use Rattle.text_values.specs.TestValue.{Formula}
-use Rattle.litmus_tokens.specs.Conditions.{place_meaning, value_meaning, formula_meaning, written_place}
+use Rattle.litmus_tokens.specs.Conditions.{place_meaning, value_meaning, tree_formula, written_place}
 use Rattle.litmus_tokens.specs.PlaceMachine.{place_of}
 use Rattle.litmus_table.specs.Grammar.{ThreadTree, columns_meaning, thread_meaning}
 use Rattle.litmus_table.specs.Late.{thread_notes, columns_notes}
 use Rattle.litmus_table.specs.Laws.{steps_of, AreNoted}
 use Rattle.litmus_grammar.specs.declared.parts.TextKind.{TextKind}
 use Rattle.litmus_grammar.specs.Grammar.{EntryTree, spelled_entry, members, TestTree}
-use Rattle.litmus_grammar.specs.TextMachine.{Draft, TextState, start, run}
+use Rattle.litmus_grammar.specs.TextMachine.{Draft, TextState, text_start, run_parts}
 use Rattle.litmus_grammar.specs.Texts.{before_entries, before_rows}
 
 -- The machine takes these tokens, and what it holds then is this.
-pub record Takes (kind : TextKind) (threads : ℕ) (ps : List TokenAt) (Holds : Draft → Type 0)
+pub record TakesTokens (kind : TextKind) (threads : ℕ) (ps : List TokenAt) (Holds : Draft → Type 0)
     : Type 0 where
   pub after : TextState
-  pub by : run (start kind threads) ps ≡ Ok after
+  pub by : run_parts (text_start kind threads) ps ≡ Ok after
   pub holds : Holds after.draft
 
 -- ---- what the draft says
@@ -32,12 +32,12 @@ abbrev pub entry_kept : EntryTree → InitEntry
 entry_kept e = record { place = place_of (written_place e.place); value = value_meaning e.value }
 
 -- where the entries begin that stand behind these tokens
-abbrev pub AreStarts : List TokenAt → List Token → List EntryTree → List ℕ → Type 0
-AreStarts all before [] [] = Unit {0}
-AreStarts all before (e ∷ es) (s ∷ ss) =
+abbrev pub AreEntryStarts : List TokenAt → List Token → List EntryTree → List ℕ → Type 0
+AreEntryStarts all before [] [] = Unit {0}
+AreEntryStarts all before (e ∷ es) (s ∷ ss) =
     StandsAt all before s
-    × AreStarts all (before ++ spelled_entry e (tokens.Mark Semicolon ∷ [])) es ss
-AreStarts all before es ss = ⊥
+    × AreEntryStarts all (before ++ spelled_entry e (tokens.Mark Semicolon ∷ [])) es ss
+AreEntryStarts all before es ss = ⊥
 
 -- a condition,
 pub record HoldsCondition (quantifier : Quantifier) (formula : Formula) (h : Draft) : Type 0 where
@@ -52,7 +52,7 @@ HoldsPlaces ps h = h.observed ≡ ps
 pub record HoldsEntries (ps : List TokenAt) (before : List Token) (es : List EntryTree) (h : Draft)
     : Type 0 where
   pub entries : h.init.entries ≡ map entry_kept es
-  pub stand : AreStarts ps before es h.init.starts
+  pub stand : AreEntryStarts ps before es h.init.starts
 
 -- a thread, with the bytes of its labels,
 pub record HoldsThread (ps : List TokenAt) (t : ThreadTree) (h : Draft) : Type 0 where
@@ -66,4 +66,4 @@ pub record HoldsTest (ps : List TokenAt) (t : TestTree) (h : Draft) : Type 0 whe
   pub meant : steps_of h.table.threads ≡ columns_meaning 0 (t.others + 1) t.rows
   pub noted : AreNoted ps (columns_notes 0 (t.others + 1) (before_rows t) t.rows) h.table.threads
   pub observed : HoldsPlaces (map place_meaning (members t.observed)) h
-  pub condition : HoldsCondition t.quantifier (formula_meaning t.condition) h
+  pub condition : HoldsCondition t.quantifier (tree_formula t.condition) h

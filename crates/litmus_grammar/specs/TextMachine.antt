@@ -8,7 +8,7 @@ use Rattle.litmus_tokens.specs.declared.stage.Stage.TheVariants as stages
 use Rattle.litmus_tokens.specs.declared.token.Token.{Token}
 use Rattle.litmus_tokens.specs.declared.token.Token.TheVariants as tokens
 use Rattle.litmus_tokens.specs.declared.token.Mark.TheVariants as marks
-use Rattle.litmus_tokens.specs.Stage.{after, part_rule}
+use Rattle.litmus_tokens.specs.Stage.{next_stage, part_rule}
 use Rattle.litmus_tokens.specs.Texts.{TokenAt, is_end, begins_tail}
 use Rattle.litmus_tokens.specs.Words.{is_test_name, is_filter}
 use Rattle.text_values.specs.declared.test.Place.{Place}
@@ -18,7 +18,7 @@ use Rattle.text_values.specs.TestValue.{Formula, Constant}
 use Rattle.litmus_tokens.specs.declared.place.PlaceExpectation.TheVariants as place_expectations
 use Rattle.litmus_tokens.specs.declared.place.PlaceStep.{PlaceStep}
 use Rattle.litmus_tokens.specs.declared.place.PlaceStep.TheVariants as place_steps
-use Rattle.litmus_tokens.specs.Conditions.{limits}
+use Rattle.litmus_tokens.specs.Conditions.{condition_limits}
 use Rattle.litmus_tokens.specs.PlaceMachine.{place_step, place_of, has_thread}
 use Rattle.litmus_tokens.specs.ConditionMachine as condition
 use Rattle.litmus_table.specs.Machine as table
@@ -131,9 +131,9 @@ next_at h None = None
 
 -- ---- tokens that are looked at alone
 
-abbrev pub is_word : Token → Bool
-is_word (tokens.Word w) = true
-is_word t = false
+abbrev pub is_word_token : Token → Bool
+is_word_token (tokens.Word w) = true
+is_word_token t = false
 
 abbrev pub is_filter_word : Token → Bool
 is_filter_word (tokens.Word w) = is_filter w
@@ -190,13 +190,13 @@ column_ended t = None
 
 -- ---- the condition
 
-abbrev pub proposition : Quantifier → Part
-proposition q = Proposition q [] 0 condition.Wants
+abbrev pub proposition_part : Quantifier → Part
+proposition_part q = Proposition q [] 0 condition.Wants
 
 abbrev pub word_quantifier : List ℕ → Option Part
 word_quantifier w =
-    if bytes_eq w (codes "exists") then Some (proposition Exists) else (
-    if bytes_eq w (codes "forall") then Some (proposition Forall) else None)
+    if bytes_eq w (codes "exists") then Some (proposition_part Exists) else (
+    if bytes_eq w (codes "forall") then Some (proposition_part Forall) else None)
 
 abbrev pub quantifier_read : Token → Option Part
 quantifier_read (tokens.Mark marks.Tilde) = Some AfterTilde
@@ -206,7 +206,7 @@ quantifier_read t = None
 -- behind the tilde of `~exists`
 abbrev pub exists_read : Token → Option Part
 exists_read (tokens.Word w) =
-    if bytes_eq w (codes "exists") then Some (proposition NotExists) else None
+    if bytes_eq w (codes "exists") then Some (proposition_part NotExists) else None
 exists_read t = None
 
 abbrev pub proposition_result : Draft → Quantifier → condition.ConditionStepResult → Option Next
@@ -267,13 +267,13 @@ list_start t = if is_list_word t then Some WantsList else end_read t
 abbrev pub row_read : Draft → Token → ℕ → Option Next
 row_read h t offset =
     if table.is_row_start h.table && begins_tail t then next_at h (tail_start t)
-    else table_result h Rows (table.step h.table t offset)
+    else table_result h Rows (table.table_step h.table t offset)
 
 -- a token in the text of a thread, which ends where a cell may
 abbrev pub cell_read : Draft → Token → ℕ → Option Next
 cell_read h t offset =
     if table.can_end h.table.expected && is_end t then at h Done
-    else table_result h Cells (table.step h.table t offset)
+    else table_result h Cells (table.table_step h.table t offset)
 
 -- how many threads there are: behind the table of a test those of the table
 abbrev pub threads_in : TextKind → ℕ → Draft → ℕ
@@ -287,8 +287,8 @@ part_step kind given h Title t offset = title_read h t
 part_step kind given h TitleEnd t offset = next_at h (title_ended t)
 part_step kind given h (Head may_have_text) t offset = next_at h (head_read may_have_text t)
 part_step kind given h (Init expected) t offset =
-    init_result kind h (init.step h.init expected t offset)
-part_step kind given h WantsColumn t offset = table_result h HasColumn (table.named h.table t)
+    init_result kind h (init.init_step h.init expected t offset)
+part_step kind given h WantsColumn t offset = table_result h HasColumn (table.name_thread h.table t)
 part_step kind given h HasColumn t offset = next_at h (column_ended t)
 part_step kind given h Rows t offset = row_read h t offset
 part_step kind given h Cells t offset = cell_read h t offset
@@ -298,7 +298,7 @@ part_step kind given h (Item expected) t offset =
 part_step kind given h WantsQuantifier t offset = next_at h (quantifier_read t)
 part_step kind given h AfterTilde t offset = next_at h (exists_read t)
 part_step kind given h (Proposition q fs used expected) t offset =
-    proposition_result h q (condition.proposition_step limits (threads_in kind given h) fs used
+    proposition_result h q (condition.proposition_step condition_limits (threads_in kind given h) fs used
     expected t)
 part_step kind given h ListOrEnd t offset = next_at h (list_start t)
 part_step kind given h WantsEnd t offset = next_at h (end_read t)
@@ -311,16 +311,16 @@ is_thread kinds.Thread = true
 is_thread kind = false
 
 abbrev pub stage_rule : TextKind → table.TableState → Stage → Token → LitmusRule
-stage_rule kind rows stages.CellBegins t = table.rule_at (is_thread kind) rows t
-stage_rule kind rows stages.InCell t = table.rule_at (is_thread kind) rows t
+stage_rule kind rows stages.CellBegins t = table.table_rule_at (is_thread kind) rows t
+stage_rule kind rows stages.InCell t = table.table_rule_at (is_thread kind) rows t
 stage_rule kind rows (stages.Init alone true) t =
-    if is_word t then rules.TypedDeclaration else rules.Init
+    if is_word_token t then rules.TypedDeclaration else rules.Init
 stage_rule kind rows stages.Tail t = if is_filter_word t then rules.Filter else rules.Condition
 stage_rule kind rows s t = part_rule s
 
-abbrev pub rule_at : TextKind → table.TableState → Stage → Token → LitmusRule
-rule_at kind rows s (tokens.Broken rule) = rule
-rule_at kind rows s t = stage_rule kind rows s t
+abbrev pub text_rule_at : TextKind → table.TableState → Stage → Token → LitmusRule
+text_rule_at kind rows s (tokens.Broken rule) = rule
+text_rule_at kind rows s t = stage_rule kind rows s t
 
 -- ---- a whole text
 
@@ -336,14 +336,14 @@ stepped s t (Some n) =
     Ok (record {
       kind = s.kind;
       threads = s.threads;
-      stage = after s.stage t;
+      stage = next_stage s.stage t;
       part = n.part;
       draft = n.draft;
     })
-stepped s t None = Err (rule_at s.kind s.draft.table s.stage t)
+stepped s t None = Err (text_rule_at s.kind s.draft.table s.stage t)
 
-abbrev pub step : TextState → Token → ℕ → Result TextState LitmusRule
-step s t offset = stepped s t (part_step s.kind s.threads s.draft s.part t offset)
+abbrev pub text_step : TextState → Token → ℕ → Result TextState LitmusRule
+text_step s t offset = stepped s t (part_step s.kind s.threads s.draft s.part t offset)
 
 abbrev pub first_stage : TextKind → Stage
 first_stage kinds.Test = stages.Magic
@@ -361,21 +361,21 @@ first_part kinds.Locations = ListOrEnd
 
 -- the text of a thread alone is a table of one column without a header
 abbrev pub first_table : TextKind → table.TableState
-first_table kinds.Thread = table.widened table.start
-first_table kind = table.start
+first_table kinds.Thread = table.widened table.table_start
+first_table kind = table.table_start
 
 abbrev pub nothing : TextKind → Draft
 nothing kind = record {
   name = [];
-  init = init.start;
+  init = init.init_start;
   table = first_table kind;
   observed = [];
   quantifier = Exists;
   formula = Constant true;
 }
 
-abbrev pub start : TextKind → ℕ → TextState
-start kind threads =
+abbrev pub text_start : TextKind → ℕ → TextState
+text_start kind threads =
     record {
       kind = kind;
       threads = threads;
@@ -396,6 +396,6 @@ and_then (Ok s) f = f s
 and_then (Err e) f = Err e
 
 -- the tokens one after another, with the offset of the first that is refused
-abbrev pub run : TextState → List TokenAt → TextResult
-run s [] = Ok s
-run s (p ∷ ps) = and_then (with_offset p.offset (step s p.token p.offset)) (λ s'. run s' ps)
+abbrev pub run_parts : TextState → List TokenAt → TextResult
+run_parts s [] = Ok s
+run_parts s (p ∷ ps) = and_then (with_offset p.offset (text_step s p.token p.offset)) (λ s'. run_parts s' ps)

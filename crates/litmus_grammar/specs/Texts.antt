@@ -8,14 +8,14 @@ use Rattle.litmus_tokens.specs.declared.token.Token.{Token}
 use Rattle.litmus_tokens.specs.declared.token.Token.TheVariants as tokens
 use Rattle.litmus_tokens.specs.declared.token.Mark.TheVariants.{OpenBrace, OpenBracket, Colon, Semicolon}
 use Rattle.litmus_tokens.specs.Words.{decimal}
-use Rattle.litmus_tokens.specs.Texts.{tokens_of, stage_after, lexing, StandsAt}
+use Rattle.litmus_tokens.specs.Texts.{test_tokens_of, stage_after, test_lexing, StandsAt}
 use Rattle.litmus_tokens.specs.Faults.{CanFollow, IsFault}
 use Rattle.text_values.specs.declared.test.Place.{Place}
 use Rattle.text_values.specs.declared.test.InitEntry.{InitEntry}
 use Rattle.text_values.specs.declared.test.Step.{Step}
 use Rattle.text_values.specs.declared.test.Quantifier.{Quantifier}
 use Rattle.text_values.specs.TestValue.{Content, Formula}
-use Rattle.litmus_tokens.specs.Conditions.{PlaceTree, Location, Register, limits, place_meaning, formula_meaning, IsConditionText}
+use Rattle.litmus_tokens.specs.Conditions.{PlaceTree, Location, Register, condition_limits, place_meaning, tree_formula, IsConditionText}
 use Rattle.litmus_table.specs.Grammar.{spelled_header, thread_meaning}
 use Rattle.litmus_table.specs.Late.{Late, or_else, late_notes, late_columns, thread_notes}
 use Rattle.litmus_grammar.specs.Grammar.{EntryTree, spelled_entry, spelled_init, spelled_head, members, entry_meaning, TestTree, test_meaning, IsTestText, IsInitText, IsThreadText, IsLocationsText}
@@ -47,7 +47,7 @@ late_test t =
     or_else (late_entries (t.others + 1) (before_entries t) (members t.init))
     (late_columns 0 (t.others + 1) (before_rows t) t.rows)
 
-abbrev pub late_of_test : (ts : List Token) → IsTestText limits ts → Option Late
+abbrev pub late_of_test : (ts : List Token) → IsTestText condition_limits ts → Option Late
 late_of_test ts t = late_test t.tree
 
 abbrev pub late_of_init : ℕ → (ts : List Token) → IsInitText ts → Option Late
@@ -90,22 +90,22 @@ late_of_thread ts t = late_notes [] (thread_notes [] (t.tree.first ∷ t.tree.ot
 
 -- these bytes are a text, read from this part on, that the later checks pass and that has this
 -- value
-pub record Reads {V : Type 0} (IsText : List Token → Type 0) (start : Stage)
+pub record ReadsText {V : Type 0} (IsText : List Token → Type 0) (start : Stage)
     (late : (ts : List Token) → IsText ts → Option Late) (value : (ts : List Token) → IsText ts → V)
     (bytes : List ℕ) (v : V) : Type 0 where
   pub short : length bytes ≤ most_bytes
-  pub text : IsText (tokens_of (lexing start bytes))
-  pub in_time : late (tokens_of (lexing start bytes)) text ≡ None
-  pub meant : value (tokens_of (lexing start bytes)) text ≡ v
+  pub text : IsText (test_tokens_of (test_lexing start bytes))
+  pub in_time : late (test_tokens_of (test_lexing start bytes)) text ≡ None
+  pub meant : value (test_tokens_of (test_lexing start bytes)) text ≡ v
 
 pub record IsLateFault (IsText : List Token → Type 0) (start : Stage)
     (late : (ts : List Token) → IsText ts → Option Late) (bytes : List ℕ) (rule : LitmusRule)
     (offset : ℕ) : Type 0 where
-  pub text : IsText (tokens_of (lexing start bytes))
+  pub text : IsText (test_tokens_of (test_lexing start bytes))
   pub found : Late
-  pub is_found : late (tokens_of (lexing start bytes)) text ≡ Some found
+  pub is_found : late (test_tokens_of (test_lexing start bytes)) text ≡ Some found
   pub rule_is : found.rule ≡ rule
-  pub stands : StandsAt (lexing start bytes) found.before offset
+  pub stands : StandsAt (test_lexing start bytes) found.before offset
 
 -- the fault of bytes: too long, else at the first token that no text could have there, else the
 -- first of the later checks
@@ -114,7 +114,7 @@ pub data IsFaultAt (IsText : List Token → Type 0) (start : Stage)
     (bytes : List ℕ) (rule : LitmusRule) (offset : ℕ) : Type 0 where
   IsTooLong : most_bytes < length bytes → rule ≡ rules.TooLong → offset ≡ most_bytes
       → IsFaultAt IsText start late bytes rule offset
-  IsGrammar : length bytes ≤ most_bytes → IsFault IsText start (lexing start bytes) rule offset
+  IsGrammar : length bytes ≤ most_bytes → IsFault IsText start (test_lexing start bytes) rule offset
       → IsFaultAt IsText start late bytes rule offset
   IsLater : length bytes ≤ most_bytes → IsLateFault IsText start late bytes rule offset
       → IsFaultAt IsText start late bytes rule offset
@@ -123,16 +123,16 @@ pub data IsFaultAt (IsText : List Token → Type 0) (start : Stage)
 
 abbrev pub ReadsTest : List ℕ → Content → Type 0
 ReadsTest bytes v =
-    Reads (IsTestText limits) Magic late_of_test (λ ts t. test_meaning t.tree) bytes v
+    ReadsText (IsTestText condition_limits) Magic late_of_test (λ ts t. test_meaning t.tree) bytes v
 
 abbrev pub IsTestFault : List ℕ → LitmusRule → ℕ → Type 0
 IsTestFault bytes rule offset =
-    IsFaultAt (IsStart (IsTestText limits) Magic) Magic (late_of_start late_of_test) bytes rule
+    IsFaultAt (IsStart (IsTestText condition_limits) Magic) Magic (late_of_start late_of_test) bytes rule
     offset
 
 abbrev pub ReadsInit : ℕ → List ℕ → List InitEntry → Type 0
 ReadsInit threads bytes v =
-    Reads IsInitText (Init true false) (late_of_init threads)
+    ReadsText IsInitText (Init true false) (late_of_init threads)
     (λ ts t. map entry_meaning (members t.entries)) bytes v
 
 abbrev pub IsInitFault : ℕ → List ℕ → LitmusRule → ℕ → Type 0
@@ -142,23 +142,23 @@ IsInitFault threads bytes rule offset =
 
 abbrev pub ReadsThread : List ℕ → List Step → Type 0
 ReadsThread bytes v =
-    Reads IsThreadText CellBegins late_of_thread (λ ts t. thread_meaning t.tree) bytes v
+    ReadsText IsThreadText CellBegins late_of_thread (λ ts t. thread_meaning t.tree) bytes v
 
 abbrev pub IsThreadFault : List ℕ → LitmusRule → ℕ → Type 0
 IsThreadFault bytes rule offset = IsFaultAt IsThreadText CellBegins late_of_thread bytes rule offset
 
 abbrev pub ReadsCondition : ℕ → List ℕ → Quantifier × Formula → Type 0
 ReadsCondition threads bytes v =
-    Reads (IsConditionText limits threads) Tail (λ ts t. None)
-    (λ ts t. (t.quantifier, formula_meaning t.condition)) bytes v
+    ReadsText (IsConditionText condition_limits threads) Tail (λ ts t. None)
+    (λ ts t. (t.quantifier, tree_formula t.condition)) bytes v
 
 abbrev pub IsConditionFault : ℕ → List ℕ → LitmusRule → ℕ → Type 0
 IsConditionFault threads bytes rule offset =
-    IsFaultAt (IsConditionText limits threads) Tail (λ ts t. None) bytes rule offset
+    IsFaultAt (IsConditionText condition_limits threads) Tail (λ ts t. None) bytes rule offset
 
 abbrev pub ReadsLocations : ℕ → List ℕ → List Place → Type 0
 ReadsLocations threads bytes v =
-    Reads (IsLocationsText threads) Tail (λ ts t. None)
+    ReadsText (IsLocationsText threads) Tail (λ ts t. None)
     (λ ts t. map place_meaning (members t.items)) bytes v
 
 abbrev pub IsLocationsFault : ℕ → List ℕ → LitmusRule → ℕ → Type 0

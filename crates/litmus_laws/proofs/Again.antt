@@ -2,7 +2,7 @@
 use Rattle.std.proofs.Common.{◌≡◌, ℕ, ◌+◌, ◌<◌, ◌≤◌, List, refl, ap, arith}
 use Rattle.text_values.specs.declared.test.Quantifier.{Quantifier}
 use Rattle.text_values.specs.TestValue.{Formula, Content}
-use Rattle.litmus_tokens.specs.Conditions.{FormulaTree, Word, Atom, Prefix, Pair, Group, formula_meaning, operators, limits, IsFormulaTree}
+use Rattle.litmus_tokens.specs.Conditions.{FormulaTree, Word, Atom, Prefix, Pair, Group, tree_formula, operators, condition_limits, IsFormulaTree}
 use Rattle.litmus_grammar.specs.Texts.{ReadsCondition, ReadsTest}
 use Rattle.litmus_printing.specs.Printing.{condition_text, printed}
 use Rattle.litmus_laws.specs.Written.{joins, IsFormulaWithinLimits, StaysWithin}
@@ -11,7 +11,7 @@ use Rattle.litmus_laws.proofs.Meant.{condition_reads_written}
 use Rattle.litmus_laws.proofs.MeantTests.{test_reads_written}
 use Rattle.litmus_laws.proofs.Whole.{test_reads}
 
-joins_meant : (t : FormulaTree) → joins (formula_meaning t) ≡ operators t
+joins_meant : (t : FormulaTree) → joins (tree_formula t) ≡ operators t
 joins_meant (Word b) = refl
 joins_meant (Atom p v) = refl
 joins_meant (Prefix tilde a) = joins_meant a
@@ -21,14 +21,14 @@ joins_meant (Pair op a b) =
     omega arith
 joins_meant (Group a) = joins_meant a
 
-few_joins : (threads : ℕ) (t : FormulaTree) → IsFormulaTree limits threads t
-    → joins (formula_meaning t) ≤ limits.operators
+few_joins : (threads : ℕ) (t : FormulaTree) → IsFormulaTree condition_limits threads t
+    → joins (tree_formula t) ≤ condition_limits.operators
 few_joins threads t h =
     let x = joins_meant t in
     let y = h.short in
     omega arith
 
-within : (bytes : List ℕ) (f : Formula) → StaysWithin bytes f → joins f ≤ limits.operators
+within : (bytes : List ℕ) (f : Formula) → StaysWithin bytes f → joins f ≤ condition_limits.operators
     → IsFormulaWithinLimits bytes f
 within bytes f s few = record { short = s.short; shallow = s.shallow; few = few }
 

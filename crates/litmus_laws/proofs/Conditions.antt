@@ -12,7 +12,7 @@ use Rattle.litmus_tokens.specs.declared.token.Token.TheVariants as tokens
 use Rattle.litmus_tokens.specs.declared.token.Mark.TheVariants as marks
 use Rattle.litmus_tokens.specs.declared.lexer.NextLexeme.TheVariants.{Lexeme}
 use Rattle.litmus_tokens.specs.Lexer.{is_word_byte, comment_lexeme, first_lexeme}
-use Rattle.litmus_tokens.specs.Stage.{after}
+use Rattle.litmus_tokens.specs.Stage.{next_stage}
 use Rattle.litmus_tokens.specs.Texts.{tokens_from}
 use Rattle.text_values.specs.declared.test.Place.{Place}
 use Rattle.text_values.specs.declared.test.Place.TheVariants as places
@@ -22,7 +22,7 @@ use Rattle.text_values.specs.declared.test.Connective.{Connective}
 use Rattle.text_values.specs.declared.test.Connective.TheVariants as connectives
 use Rattle.text_values.specs.TestValue.{Formula, Constant, Holds, Not, Join, level}
 use Rattle.litmus_tokens.specs.Conditions as grammar
-use Rattle.litmus_tokens.specs.Conditions.{FormulaTree, Word, Atom, Prefix, Pair, Group, connective_token, spelled, spelled_quantifier, formula_meaning, tightness, IsGrouped, HasAtoms, depth, operators, Limits, limits}
+use Rattle.litmus_tokens.specs.Conditions.{FormulaTree, Word, Atom, Prefix, Pair, Group, connective_token, spelled, spelled_quantifier, tree_formula, tightness, IsGrouped, HasAtoms, depth, operators, Limits, condition_limits}
 use Rattle.litmus_printing.specs.Printing.{place_text, value_text, connective_text, is_loose, formula_text, condition_text}
 use Rattle.text_values.specs.Joined.{bracketed}
 use Rattle.litmus_grammar.specs.Texts.{ReadsCondition}
@@ -71,7 +71,7 @@ open_here bs h =
     else Lexeme (tokens.Mark marks.Open) 1)
     (other (slice_index bs 0) 42 h)
 
-open_stays : (w : InnerPart) → core (after (part w) (tokens.Mark marks.Open)) ≡ part w
+open_stays : (w : InnerPart) → core (next_stage (part w) (tokens.Mark marks.Open)) ≡ part w
 open_stays Entries = refl
 open_stays Operands = refl
 open_stays Condition = refl
@@ -130,7 +130,7 @@ tree_of (Join op a b) =
     Pair op (grouped (is_loose (level op + 1) a) (tree_of a))
     (grouped (is_loose (level op) b) (tree_of b))
 
-meaning-grouped : (b : Bool) (t : FormulaTree) → formula_meaning (grouped b t) ≡ formula_meaning t
+meaning-grouped : (b : Bool) (t : FormulaTree) → tree_formula (grouped b t) ≡ tree_formula t
 meaning-grouped true t = refl
 meaning-grouped false t = refl
 
@@ -280,14 +280,14 @@ module _ (threads : ℕ) (few : threads < 18446744073709551616) where
     HasAtoms-grouped threads (is_loose (level op) b) (tree_of b) (atoms b h.1),
   )
 
-  pub meaning_back : (f : Formula) → IsFormula threads f → formula_meaning (tree_of f) ≡ f
+  pub meaning_back : (f : Formula) → IsFormula threads f → tree_formula (tree_of f) ≡ f
   meaning_back (Constant b) h = refl
   meaning_back (Holds p v) h =
       ap (λ (x : Place). Holds x (grammar.value_meaning (value_tree v)))
       (place_back threads few true p h.0) ∙ ap (Holds p) (value_back v h.1)
   meaning_back (Not a) h = ap Not (meaning_back a h)
   meaning_back (Join op a b) h =
-      ap (λ (x : Formula). Join op x (formula_meaning (grouped (is_loose (level op) b) (tree_of b))))
+      ap (λ (x : Formula). Join op x (tree_formula (grouped (is_loose (level op) b) (tree_of b))))
       (meaning-grouped (is_loose (level op + 1) a) (tree_of a) ∙ meaning_back a h.0)
       ∙ ap (Join op a) (meaning-grouped (is_loose (level op) b) (tree_of b) ∙ meaning_back b h.1)
 
@@ -362,7 +362,7 @@ module _ (threads : ℕ) (few : threads < 18446744073709551616) where
         record {
           quantifier = q;
           condition = Group (tree_of f);
-          fine = fine limits f h w.shallow w.few;
+          fine = fine condition_limits f h w.shallow w.few;
           whole = condition_tokens q f h;
         };
     in_time = refl;

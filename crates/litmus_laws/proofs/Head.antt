@@ -14,8 +14,8 @@ use Rattle.litmus_tokens.specs.declared.lexer.NextLexeme.{NextLexeme}
 use Rattle.litmus_tokens.specs.declared.lexer.NextLexeme.TheVariants.{Layout, Lexeme}
 use Rattle.litmus_tokens.specs.Words.{is_printable, are_printable, is_test_name, is_empty}
 use Rattle.litmus_tokens.specs.Lexer.{is_space, is_not_ascii, begins_comment, comment_lexeme, ends_raw, raw_from, raw_lexeme, first_lexeme}
-use Rattle.litmus_tokens.specs.Stage.{after}
-use Rattle.litmus_tokens.specs.Texts.{TokenAt, tokens_of, ends_line, after_lexeme, tokens_from}
+use Rattle.litmus_tokens.specs.Stage.{next_stage}
+use Rattle.litmus_tokens.specs.Texts.{TokenAt, test_tokens_of, ends_line, after_lexeme, tokens_from}
 use Rattle.litmus_laws.specs.Written.{holds_comment}
 use Rattle.litmus_grammar.proofs.Lexed.{tokens_skip}
 use Rattle.litmus_laws.proofs.Read.{three_tests, Entries, free, inner}
@@ -76,31 +76,31 @@ name_here c cs rest p h =
 -- a token, wherever it stands
 turn : (s : Stage) (f : Bool) (p b : ℕ) (word rest : List ℕ) (t : Token)
     → first_lexeme s f (b ∷ (word ++ rest)) ≡ Lexeme t (length (b ∷ word))
-    → tokens_of (tokens_from s f 0 p (b ∷ (word ++ rest)))
-    ≡ t ∷ tokens_of (tokens_from (after s t) (ends_line t) 0 (p + 1 + length word) rest)
+    → test_tokens_of (tokens_from s f 0 p (b ∷ (word ++ rest)))
+    ≡ t ∷ test_tokens_of (tokens_from (next_stage s t) (ends_line t) 0 (p + 1 + length word) rest)
 unfolding tokens_from
 turn s f p b word rest t e =
     let l = length-append word rest in
     ap
     (λ (x : NextLexeme).
-    tokens_of (after_lexeme s f p b x (λ u g k. tokens_from u g k (p + 1) (word ++ rest)))) e
-    ∙ ap (λ (k : ℕ). t ∷ tokens_of (tokens_from (after s t) (ends_line t) k (p + 1) (word ++ rest)))
+    test_tokens_of (after_lexeme s f p b x (λ u g k. tokens_from u g k (p + 1) (word ++ rest)))) e
+    ∙ ap (λ (k : ℕ). t ∷ test_tokens_of (tokens_from (next_stage s t) (ends_line t) k (p + 1) (word ++ rest)))
     (omega arith)
-    ∙ ap (λ (ps : List TokenAt). t ∷ tokens_of ps) (tokens_skip (after s t) (ends_line t)
+    ∙ ap (λ (ps : List TokenAt). t ∷ test_tokens_of ps) (tokens_skip (next_stage s t) (ends_line t)
     (length word) (p + 1) (word ++ rest) (omega arith))
     ∙ ap
     (λ (x : List ℕ). t
-    ∷ tokens_of (tokens_from (after s t) (ends_line t) 0 (p + 1 + length word) x))
+    ∷ test_tokens_of (tokens_from (next_stage s t) (ends_line t) 0 (p + 1 + length word) x))
     (drop_at word rest (length word) refl)
 
 magic : (bs : List ℕ)
-    → tokens_of (tokens_from Magic false 0 0 (codes "PPC " ++ bs))
-    ≡ tokens.Word (codes "PPC") ∷ tokens_of (tokens_from Title false 0 4 bs)
+    → test_tokens_of (tokens_from Magic false 0 0 (codes "PPC " ++ bs))
+    ≡ tokens.Word (codes "PPC") ∷ test_tokens_of (tokens_from Title false 0 4 bs)
 unfolding tokens_from first_lexeme raw_from
 magic bs = refl
 
 block_begins : (p : ℕ) (bs : List ℕ)
-    → tokens_of (tokens_from TitleEnd false 0 p (10 ∷ 123 ∷ 10 ∷ bs))
+    → test_tokens_of (tokens_from TitleEnd false 0 p (10 ∷ 123 ∷ 10 ∷ bs))
     ≡ tokens.LineEnd ∷ tokens.Mark marks.OpenBrace ∷ inner Entries bs
 unfolding tokens_from first_lexeme
 block_begins p bs =
@@ -109,7 +109,7 @@ block_begins p bs =
 
 name_back : (p : ℕ) (n rest : List ℕ) → is_empty n ≡ false → are_printable n ≡ true
     → holds_comment n ≡ false
-    → tokens_of (tokens_from Title false 0 p (n ++ 10 ∷ 123 ∷ 10 ∷ rest))
+    → test_tokens_of (tokens_from Title false 0 p (n ++ 10 ∷ 123 ∷ 10 ∷ rest))
     ≡ tokens.Word n ∷ tokens.LineEnd ∷ tokens.Mark marks.OpenBrace ∷ inner Entries rest
 name_back p [] rest e h c = absurd cc
 name_back p (b ∷ bs) rest e h c =
@@ -118,7 +118,7 @@ name_back p (b ∷ bs) rest e h c =
     ∙ ap (λ (ts : List Token). tokens.Word (b ∷ bs) ∷ ts) (block_begins (p + 1 + length bs) rest)
 
 pub head_back : (n rest : List ℕ) → is_test_name n ≡ true → holds_comment n ≡ false
-    → tokens_of (tokens_from Magic false 0 0 (codes "PPC " ++ (n ++ 10 ∷ 123 ∷ 10 ∷ rest)))
+    → test_tokens_of (tokens_from Magic false 0 0 (codes "PPC " ++ (n ++ 10 ∷ 123 ∷ 10 ∷ rest)))
     ≡ tokens.Word (codes "PPC") ∷ tokens.Word n ∷ tokens.LineEnd ∷ tokens.Mark marks.OpenBrace
     ∷ inner Entries rest
 head_back n rest h c =

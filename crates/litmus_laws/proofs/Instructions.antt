@@ -18,7 +18,7 @@ use Rattle.litmus_tokens.specs.declared.lexer.NextLexeme.TheVariants.{Layout, Le
 use Rattle.litmus_tokens.specs.Words.{ends_table, is_register, is_known, register_of, or_zero}
 use Rattle.text_values.specs.Letters.{is_letter}
 use Rattle.litmus_tokens.specs.Lexer.{is_space, ends_word, significant, begins_comment, gap_from, label_lexeme, first_lexeme}
-use Rattle.litmus_tokens.specs.Stage.{after}
+use Rattle.litmus_tokens.specs.Stage.{next_stage}
 use Rattle.litmus_tokens.specs.Texts.{tokens_from}
 use Rattle.text_values.specs.declared.instruction.Instruction.{Instruction}
 use Rattle.text_values.specs.declared.instruction.Instruction.TheVariants as instructions
@@ -119,7 +119,7 @@ word_here c cs bs h e =
 
 pub cell_word : (w bs : List ℕ) → IsWord w → NoColon bs
     → read CellBegins (w ++ 32 ∷ bs)
-    ≡ tokens.Word w ∷ read (core (after CellBegins (tokens.Word w))) (32 ∷ bs)
+    ≡ tokens.Word w ∷ read (core (next_stage CellBegins (tokens.Word w))) (32 ∷ bs)
 cell_word [] bs h e = let bad : false ≡ true = h.first in absurd cc
 cell_word (c ∷ cs) bs h e =
     turn CellBegins c cs (32 ∷ bs) (tokens.Word (c ∷ cs)) refl (word_here c cs bs h e)

@@ -14,7 +14,7 @@ use Rattle.litmus_table.specs.declared.opcode.Opcode.{Opcode}
 use Rattle.litmus_table.specs.Grammar.{spelled_cell, spelled_rows}
 use Rattle.litmus_table.specs.Late.{Late, or_else, Note, Defines, Branches, branch_notes, cell_notes, nth_notes, column_notes, columns_notes, is_in, defined, late_notes, first_late, late_columns}
 use Rattle.litmus_printing.specs.Printing.{longest}
-use Rattle.litmus_laws.specs.Written.{IsTestStep, AreTestSteps, step_target, labels, IsBelow, AreLabelled}
+use Rattle.litmus_laws.specs.Written.{IsTestStep, AreTestSteps, step_target, labels, IsBelow, HaveLabelsOnce}
 use Rattle.litmus_laws.proofs.Instructions.{tree_of, opcode, instruction_read}
 use Rattle.litmus_laws.proofs.Rows.{step_tree, cell_tree, AreAllSteps, row_tree, rows_of, AreShort, all_short}
 
@@ -165,7 +165,7 @@ fine_gone : (above : List (List ℕ)) (o : Option (List ℕ)) (ss : List Step)
 fine_gone above None ss b h = h
 fine_gone above (Some l) ss b h = (b.0, ap (is_in l) (sym (labels_put ss)) ∙ b.1, h)
 
-fine_marks : (above : List (List ℕ)) (ss : List Step) → AreLabelled above ss
+fine_marks : (above : List (List ℕ)) (ss : List Step) → HaveLabelsOnce above ss
     → AreFine above (all_marks ss)
 fine_marks above [] h = tt
 fine_marks above (steps.Label l ∷ ss) h = (h.0, fine_marks (l ∷ above) ss h.1)
@@ -176,7 +176,7 @@ fine_marks above (steps.Instruction i ∷ ss) h =
 
 abbrev pub AreAllLabelled : List (List Step) → Type 0
 AreAllLabelled [] = Unit {0}
-AreAllLabelled (t ∷ ts) = AreLabelled [] t × AreAllLabelled ts
+AreAllLabelled (t ∷ ts) = HaveLabelsOnce [] t × AreAllLabelled ts
 
 module _ (t : List Step) (ts : List (List Step)) (h : AreAllSteps (t ∷ ts)) where
   column_noted : (left : List (List Step)) (s : List Step) (right : List (List Step))
@@ -196,7 +196,7 @@ module _ (t : List Step) (ts : List (List Step)) (h : AreAllSteps (t ∷ ts)) wh
       (column_noted left s right e a (k + 1) n behind)
 
   column_in_time : (left : List (List Step)) (s : List Step) (right : List (List Step))
-      → left ++ s ∷ right ≡ t ∷ ts → AreTestSteps s → AreLabelled [] s → (n : ℕ) → length s ≤ n
+      → left ++ s ∷ right ≡ t ∷ ts → AreTestSteps s → HaveLabelsOnce [] s → (n : ℕ) → length s ≤ n
       → (before : List Token)
       → late_notes [] (column_notes (length left) before (rows_of t ts h 0 n)) ≡ None
   column_in_time left s right e a l n le before =

@@ -6,12 +6,12 @@ use Rattle.litmus_tokens.specs.declared.stage.Stage.TheVariants.{Tail}
 use Rattle.litmus_tokens.specs.declared.token.Token.{Token}
 use Rattle.litmus_tokens.specs.Words as words
 use Rattle.litmus_tokens.specs.Words.{signed, is_int, is_plain, register_of, is_register, is_known, or_zero}
-use Rattle.litmus_tokens.specs.Texts.{tokens_of, lexing}
+use Rattle.litmus_tokens.specs.Texts.{test_tokens_of, test_lexing}
 use Rattle.text_values.specs.declared.test.Quantifier.{Quantifier}
 use Rattle.text_values.specs.declared.test.Quantifier.TheVariants.{Exists, NotExists, Forall}
 use Rattle.text_values.specs.TestValue.{Formula}
 use Rattle.litmus_tokens.specs.Conditions as grammar
-use Rattle.litmus_tokens.specs.Conditions.{limits, PlaceTree, Location, Register, ValueTree, Number, Address, spelled_place, spelled_value, place_meaning, value_meaning, HasThread, FormulaTree, Word, Atom, Prefix, Pair, Group, prefix_token, spelled, spelled_quantifier, formula_meaning, HasAtoms}
+use Rattle.litmus_tokens.specs.Conditions.{condition_limits, PlaceTree, Location, Register, ValueTree, Number, Address, spelled_place, spelled_value, place_meaning, value_meaning, HasThread, FormulaTree, Word, Atom, Prefix, Pair, Group, prefix_token, spelled, spelled_quantifier, tree_formula, HasAtoms}
 use Rattle.litmus_grammar.specs.Texts.{ReadsCondition}
 use Rattle.litmus_laws.specs.Written.{IsNumber, IsValue, IsPlace, IsFormula, IsTextOfCondition}
 use Rattle.litmus_laws.proofs.Tokens.{AllFine, tokens_fine, all_fine}
@@ -54,7 +54,7 @@ module _ (threads : ℕ) where
   behind_prefix tilde rest a = a.1
 
   pub formula_meant : (f : FormulaTree) (rest : List Token) → HasAtoms threads f
-      → AllFine (spelled f rest) → IsFormula threads (formula_meaning f) × AllFine rest
+      → AllFine (spelled f rest) → IsFormula threads (tree_formula f) × AllFine rest
   formula_meant (Word b) rest h a = (tt, a.1)
   formula_meant (Atom p v) rest h a =
       let one = place_meant p _ h.0 h.1 a in
@@ -78,7 +78,7 @@ module _ (threads : ℕ) where
 pub condition_is_written : (threads : ℕ) (bytes : List ℕ) (q : Quantifier) (f : Formula)
     → IsTextOfCondition threads bytes q f → IsFormula threads f
 condition_is_written threads bytes q f h =
-    let all = subst AllFine h.text.whole (all_fine Tail (tokens_of (lexing Tail bytes)) refl (tokens_fine Tail false 0 0 bytes)) in
+    let all = subst AllFine h.text.whole (all_fine Tail (test_tokens_of (test_lexing Tail bytes)) refl (tokens_fine Tail false 0 0 bytes)) in
     let inside = behind_quantifier threads h.text.quantifier _ all in
     subst (IsFormula threads) h.meant (formula_meant threads h.text.condition _ h.text.fine.atoms
     inside).0
@@ -87,7 +87,7 @@ pub condition_reads_written : (threads : ℕ) (bytes : List ℕ) (q : Quantifier
     → ReadsCondition threads bytes (q, f) → IsFormula threads f
 condition_reads_written threads bytes q f h =
     condition_is_written threads bytes q f (record {
-      most = limits;
+      most = condition_limits;
       text = h.text;
       asked = ap (λ (p : Quantifier × Formula). p.0) h.meant;
       meant = ap (λ (p : Quantifier × Formula). p.1) h.meant;

@@ -23,12 +23,12 @@ use Rattle.litmus_table.specs.declared.opcode.Opcode.TheVariants as opcodes
 use Rattle.litmus_table.specs.declared.opcode.Want.{Want}
 use Rattle.litmus_table.specs.declared.opcode.Want.TheVariants as wants
 use Rattle.litmus_table.specs.Words as words
-use Rattle.litmus_table.specs.Words.{data_form, fits, all_fit, is_label, takes, registers, immediate, data_meaning, branch_meaning, instruction_meaning}
+use Rattle.litmus_table.specs.Words.{data_form, token_fits, all_fit, is_label, takes_operands, registers, immediate, data_meaning, branch_meaning, instruction_meaning}
 use Rattle.litmus_table.specs.Grammar as grammar
 use Rattle.litmus_table.specs.Grammar.{InstructionTree, CellTree, RowTree, AreCells, AreRowTrees, spelled_label, spelled_instruction, spelled_cell, spelled_cells, spelled_rows, label_steps, operation_steps, instruction_steps, cell_steps, cells_steps, nth_cell, column, columns_meaning}
 use Rattle.litmus_table.specs.Late.{Late, or_else, Note, Defines, Branches, branch_notes, instruction_notes, label_notes, nth_notes, column_notes, columns_notes, is_in, defined, late_notes, first_late}
 use Rattle.litmus_printing.specs.Printing.{register_text}
-use Rattle.litmus_laws.specs.Written.{IsWord, IsNumber, IsBase, IsTestInstruction, AreTestSteps, step_target, labels, IsBelow, AreLabelled, AreThreads}
+use Rattle.litmus_laws.specs.Written.{IsWord, IsNumber, IsBase, IsTestInstruction, AreTestSteps, step_target, labels, IsBelow, HaveLabelsOnce, AreThreads}
 use Rattle.litmus_laws.proofs.Numbers.{own}
 use Rattle.litmus_laws.proofs.Tokens.{AllFine}
 use Rattle.litmus_laws.proofs.Meant.{number_is, register_small}
@@ -113,7 +113,7 @@ nought_is true [] e = omega arith
 nought_is false [] e = omega arith
 nought_is negative (d ∷ ds) e = absurd cc
 
-register_step : (want : Want) (t : Token) (ws : List Want) (ts : List Token) → fits want t ≡ true
+register_step : (want : Want) (t : Token) (ws : List Want) (ts : List Token) → token_fits want t ≡ true
     → AreRegisters (wanted ws) (registers ts)
     → AreRegisters (wanted (want ∷ ws)) (registers (t ∷ ts))
 register_step wants.Register (tokens.Word w) ws ts e h = (register_small w e, h)
@@ -187,7 +187,7 @@ register_step wants.Close tokens.End ws ts e h = h
 register_step wants.Close tokens.Bad ws ts e h = h
 register_step wants.Close (tokens.Broken r) ws ts e h = h
 
-number_step : (want : Want) (t : Token) (ts : List Token) → fits want t ≡ true
+number_step : (want : Want) (t : Token) (ts : List Token) → token_fits want t ≡ true
     → IsNumber (immediate ts) → IsNumber (immediate (t ∷ ts))
 number_step want (tokens.Word w) ts e h = h
 number_step wants.Register (tokens.Number negative ds) ts e h = absurd cc
@@ -206,7 +206,7 @@ number_step want tokens.End ts e h = h
 number_step want tokens.Bad ts e h = h
 number_step want (tokens.Broken r) ts e h = h
 
-label_is : (ts : List Token) → is_label ts ≡ true → AllFine ts → IsWord (words.target ts)
+label_is : (ts : List Token) → is_label ts ≡ true → AllFine ts → IsWord (words.target_label ts)
 label_is [] e a = absurd cc
 label_is (tokens.Word w ∷ []) e a = a.0
 label_is (tokens.Word w ∷ t ∷ ts) e a = absurd cc
@@ -226,7 +226,7 @@ registers_fit [] [] e = tt
 registers_fit [] (t ∷ ts) e = absurd cc
 registers_fit (w ∷ ws) [] e = absurd cc
 registers_fit (w ∷ ws) (t ∷ ts) e =
-    let both = and_parts (fits w t) (all_fit ws ts) e in
+    let both = and_parts (token_fits w t) (all_fit ws ts) e in
     register_step w t ws ts both.0 (registers_fit ws ts both.1)
 
 number_fits : (ws : List Want) (ts : List Token) → all_fit ws ts ≡ true → IsNumber (immediate ts)
@@ -234,7 +234,7 @@ number_fits [] [] e = omega arith
 number_fits [] (t ∷ ts) e = absurd cc
 number_fits (w ∷ ws) [] e = absurd cc
 number_fits (w ∷ ws) (t ∷ ts) e =
-    let both = and_parts (fits w t) (all_fit ws ts) e in
+    let both = and_parts (token_fits w t) (all_fit ws ts) e in
     number_step w t ts both.0 (number_fits ws ts both.1)
 
 register_at : (bs : List Bool) (rs : List ℕ) (k : ℕ) → AreRegisters bs rs
@@ -295,10 +295,10 @@ branch_meant : (c : Option BranchCondition) (l : List ℕ) → IsWord l
 branch_meant (Some c) l h = h
 branch_meant None l h = h
 
-operation_meant : (op : Opcode) (ts : List Token) → takes op ts ≡ true → AllFine ts
+operation_meant : (op : Opcode) (ts : List Token) → takes_operands op ts ≡ true → AllFine ts
     → IsTestInstruction (instruction_meaning op ts)
 operation_meant (opcodes.Data op) ts e a = data_meant op ts e
-operation_meant (opcodes.Branch c) ts e a = branch_meant c (words.target ts) (label_is ts e a)
+operation_meant (opcodes.Branch c) ts e a = branch_meant c (words.target_label ts) (label_is ts e a)
 operation_meant (opcodes.Fence f) ts e a = tt
 
 fine_parts : (us ts : List Token) → AllFine (us ++ ts) → AllFine us × AllFine ts
@@ -403,7 +403,7 @@ branch_marks None l = refl
 opcode_noted : (op : Opcode) (ts before : List Token)
     → marks_of (branch_notes (Some op) ts before) ≡ gone (step_target (instruction_meaning op ts))
 opcode_noted (opcodes.Data op) ts before = sym (data_marks op ts)
-opcode_noted (opcodes.Branch c) ts before = sym (branch_marks c (words.target ts))
+opcode_noted (opcodes.Branch c) ts before = sym (branch_marks c (words.target_label ts))
 opcode_noted (opcodes.Fence f) ts before = refl
 
 instruction_noted : (i : Option InstructionTree) (before : List Token) → grammar.IsInstruction i
@@ -482,7 +482,7 @@ gone_below above None ss h = (tt, h)
 gone_below above (Some l) ss h = ((h.0, ap (is_in l) (labels_put ss) ∙ h.1), h.2)
 
 labelled_back : (above : List (List ℕ)) (ss : List Step) → AreFine above (all_marks ss)
-    → AreLabelled above ss
+    → HaveLabelsOnce above ss
 labelled_back above [] h = tt
 labelled_back above (steps.Label l ∷ ss) h = (h.0, labelled_back (l ∷ above) ss h.1)
 labelled_back above (steps.Instruction i ∷ ss) h =

@@ -18,7 +18,7 @@ use Rattle.text_values.specs.declared.test.Place.TheVariants as places
 use Rattle.text_values.specs.TestValue.{Content}
 use Rattle.litmus_tokens.specs.declared.place.WrittenPlace.{WrittenPlace}
 use Rattle.litmus_tokens.specs.declared.place.WrittenPlace.TheVariants as written
-use Rattle.litmus_tokens.specs.Conditions.{Limits, limits, PlaceTree, Location, Register, ValueTree, Number, Address, spelled_place, spelled_value, place_meaning, HasThread, written_place}
+use Rattle.litmus_tokens.specs.Conditions.{Limits, condition_limits, PlaceTree, Location, Register, ValueTree, Number, Address, spelled_place, spelled_value, place_meaning, HasThread, written_place}
 use Rattle.litmus_table.specs.Grammar.{spelled_names, spelled_header, spelled_rows, columns_meaning}
 use Rattle.litmus_table.specs.Late.{late_columns}
 use Rattle.litmus_grammar.specs.Grammar as grammar
@@ -228,7 +228,7 @@ test_is_written bytes v h =
 pub test_reads_written : (bytes : List ℕ) (v : Content) → ReadsTest bytes v → IsTest v
 test_reads_written bytes v h =
     test_is_written bytes v (record {
-      most = limits;
+      most = condition_limits;
       text = h.text;
       in_time = h.in_time;
       meant = h.meant;

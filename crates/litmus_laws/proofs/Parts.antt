@@ -13,22 +13,22 @@ use Rattle.litmus_tokens.specs.declared.token.Token.{Token}
 use Rattle.litmus_tokens.specs.declared.token.Token.TheVariants as tokens
 use Rattle.litmus_tokens.specs.declared.token.Mark.TheVariants as marks
 use Rattle.litmus_tokens.specs.Faults.{IsFault, Ruling, Always, Where, RulingSays, ruling, part_ruling, cell_ruling, word_ruling}
-use Rattle.litmus_tokens.specs.Stage.{part_rule, after}
-use Rattle.litmus_tokens.specs.Texts.{TokenAt, tokens_of, stage_after, are_none}
+use Rattle.litmus_tokens.specs.Stage.{part_rule, next_stage}
+use Rattle.litmus_tokens.specs.Texts.{TokenAt, test_tokens_of, stage_after, are_none}
 use Rattle.litmus_tokens.specs.Words.{ends_table, is_filter, is_int, column_name}
 use Rattle.text_values.specs.declared.test.Quantifier.{Quantifier}
 use Rattle.text_values.specs.declared.test.Quantifier.TheVariants.{Exists, NotExists, Forall}
-use Rattle.litmus_tokens.specs.Conditions.{PlaceTree, Location, Register, ValueTree, Number, Address, spelled_place, spelled_value, spelled_quantifier, Limits, limits, IsConditionText}
+use Rattle.litmus_tokens.specs.Conditions.{PlaceTree, Location, Register, ValueTree, Number, Address, spelled_place, spelled_value, spelled_quantifier, Limits, condition_limits, IsConditionText}
 use Rattle.litmus_table.specs.declared.opcode.Opcode.{Opcode}
 use Rattle.litmus_table.specs.declared.opcode.Opcode.TheVariants as opcodes
 use Rattle.litmus_table.specs.declared.opcode.Want.{Want}
 use Rattle.litmus_table.specs.declared.opcode.Want.TheVariants as wants
-use Rattle.litmus_table.specs.Words.{opcode_of, fits, all_fit, data_form, is_label, takes}
+use Rattle.litmus_table.specs.Words.{opcode_of, token_fits, all_fit, data_form, is_label, takes_operands}
 use Rattle.litmus_table.specs.Grammar.{InstructionTree, CellTree, RowTree, ThreadTree, spelled_steps, spelled_thread, spelled_label, spelled_instruction, spelled_cells, spelled_rows, spelled_names, spelled_header, IsInstruction, AreCells, AreRowTrees}
 use Rattle.litmus_grammar.specs.Grammar.{Listed, EntryTree, TestTree, spelled_entry, spelled_end, spelled_others, spelled_listed, spelled_init, spelled_observed, spelled_text, spelled_keylines, spelled_test, IsTestTree, IsInitText, IsThreadText, IsLocationsText}
 use Rattle.litmus_grammar.specs.Texts.{IsStart}
 use Rattle.litmus_grammar.proofs.Spelled.{init-append, names-append, rows-append}
-use Rattle.litmus_laws.specs.Parts.{RulePart, tokens_in, tail_of, test_parts, StandsIn, is_named, IsNumbered, OfToken, Named, OfPart, IsTestTokenFault, IsOfItsPart, IsOfPart}
+use Rattle.litmus_laws.specs.Parts.{RulePart, tokens_in, tail_of, test_parts, StandsIn, is_named, IsRuleOfToken, OfToken, Named, OfPart, IsTestTokenFault, IsOfItsPart, IsOfPart}
 use Rattle.litmus_grammar.proofs.Heads.{keylines-append}
 use Rattle.litmus_table.proofs.Rules.{no_opcode_exists, no_opcode_forall, no_opcode_locations}
 
@@ -37,18 +37,18 @@ use Rattle.litmus_table.proofs.Rules.{no_opcode_exists, no_opcode_forall, no_opc
 -- these tokens lead from one part to another, and all of them stand where this rule holds
 abbrev Walks : Stage → LitmusRule → Stage → List Token → Type 0
 Walks s r s' [] = s ≡ s'
-Walks s r s' (t ∷ ts) = (part_rule s ≡ r) × Walks (after s t) r s' ts
+Walks s r s' (t ∷ ts) = (part_rule s ≡ r) × Walks (next_stage s t) r s' ts
 
 walk_on : (s : Stage) (r : LitmusRule) (s' : Stage) (ts rest : List Token) → Walks s r s' ts
     → stage_after s (ts ++ rest) ≡ stage_after s' rest
 walk_on s r s' [] rest w = ap (λ (x : Stage). stage_after x rest) w
-walk_on s r s' (t ∷ ts) rest w = walk_on (after s t) r s' ts rest w.1
+walk_on s r s' (t ∷ ts) rest w = walk_on (next_stage s t) r s' ts rest w.1
 
 walk_at : (s : Stage) (r : LitmusRule) (s' : Stage) (inner : List Token) (here : Token)
     (others : List Token) → Walks s r s' (inner ++ here ∷ others)
     → part_rule (stage_after s inner) ≡ r
 walk_at s r s' [] here others w = w.0
-walk_at s r s' (t ∷ ts) here others w = walk_at (after s t) r s' ts here others w.1
+walk_at s r s' (t ∷ ts) here others w = walk_at (next_stage s t) r s' ts here others w.1
 
 -- each part leads to the next
 abbrev AreWalked : Stage → List RulePart → Type 0
@@ -149,7 +149,7 @@ module _ (w : List ℕ) (op : Opcode) (known : opcode_of w ≡ Some op) where
       ap (λ (x : Bool). (x || bytes_eq w (codes "exists")) || bytes_eq w (codes "forall")) a
       ∙ ap (λ (x : Bool). x || bytes_eq w (codes "forall")) b ∙ c
 
-no_semicolon : (w : Want) → fits w (tokens.Mark marks.Semicolon) ≡ true → ⊥
+no_semicolon : (w : Want) → token_fits w (tokens.Mark marks.Semicolon) ≡ true → ⊥
 no_semicolon wants.Register h = absurd cc
 no_semicolon wants.Base h = absurd cc
 no_semicolon wants.Immediate h = absurd cc
@@ -158,7 +158,7 @@ no_semicolon wants.Comma h = absurd cc
 no_semicolon wants.Open h = absurd cc
 no_semicolon wants.Close h = absurd cc
 
-no_bar : (w : Want) → fits w (tokens.Mark marks.Bar) ≡ true → ⊥
+no_bar : (w : Want) → token_fits w (tokens.Mark marks.Bar) ≡ true → ⊥
 no_bar wants.Register h = absurd cc
 no_bar wants.Base h = absurd cc
 no_bar wants.Immediate h = absurd cc
@@ -167,7 +167,7 @@ no_bar wants.Comma h = absurd cc
 no_bar wants.Open h = absurd cc
 no_bar wants.Close h = absurd cc
 
-in_cell : (w : Want) (t : Token) → fits w t ≡ true → after stages.InCell t ≡ stages.InCell
+in_cell : (w : Want) (t : Token) → token_fits w t ≡ true → next_stage stages.InCell t ≡ stages.InCell
 in_cell w (tokens.Mark marks.Semicolon) h = absurd (no_semicolon w h)
 in_cell w (tokens.Mark marks.Bar) h = absurd (no_bar w h)
 in_cell w t h = refl
@@ -181,7 +181,7 @@ fit_walk [] [] rest s h w = w
 fit_walk [] (t ∷ ts) rest s h w = absurd cc
 fit_walk (x ∷ xs) [] rest s h w = absurd cc
 fit_walk (x ∷ xs) (t ∷ ts) rest s h w =
-    let p = and_parts (fits x t) (all_fit xs ts) h in (
+    let p = and_parts (token_fits x t) (all_fit xs ts) h in (
       refl,
       subst (λ (g : Stage). InRow g s (ts ++ rest)) (sym (in_cell x t p.0))
           (fit_walk xs ts rest s p.1 w),
@@ -197,7 +197,7 @@ none_walk : (ts rest : List Token) (s : Stage) → are_none ts ≡ true → InRo
 none_walk [] rest s h w = w
 none_walk (t ∷ ts) rest s h w = absurd cc
 
-operands_walk : (op : Opcode) (ts rest : List Token) (s : Stage) → takes op ts ≡ true
+operands_walk : (op : Opcode) (ts rest : List Token) (s : Stage) → takes_operands op ts ≡ true
     → InRow stages.InCell s rest → InRow stages.InCell s (ts ++ rest)
 operands_walk (opcodes.Data op) ts rest s h w = fit_walk (data_form op) ts rest s h w
 operands_walk (opcodes.Branch condition) ts rest s h w = label_walk ts rest s h w
@@ -375,14 +375,14 @@ part_right s t = by_case (other_right s t)
     by_case (inr (inr (w, e))) = subst (IsRight s) (sym e) (word_right s w)
 
 said : (C : Token → Type 0) (s : Stage) (x : Ruling) (t : Token) (k : LitmusRule) → IsRight s x
-    → RulingSays C s x k → IsNumbered t (part_rule s) k
+    → RulingSays C s x k → IsRuleOfToken t (part_rule s) k
 said C s (Always n) t k (inl named) e = Named (ap is_named e ∙ named)
 said C s (Always n) t k (inr same) e = OfPart (e ∙ same)
 said C s (Where other n) t k named (inl x) = Named (ap is_named x.1 ∙ named)
 said C s (Where other n) t k named (inr x) = OfPart x.1
 
 numbered : (C : Token → Type 0) (s : Stage) (t : Token) (k : LitmusRule) → RulingSays C s (ruling s t) k
-    → IsNumbered t (part_rule s) k
+    → IsRuleOfToken t (part_rule s) k
 numbered C s (tokens.Broken r) k e = OfToken (ap tokens.Broken (sym e))
 numbered C s t k e = said C s (part_ruling s t) t k (part_right s t) e
 
@@ -390,9 +390,9 @@ pub refusal_of_part : (most : Limits) (t : TestTree) (ps : List TokenAt) (rule :
     (offset : ℕ) → IsTestTree most t → (f : IsTestTokenFault ps rule offset)
     → IsOfItsPart ps rule offset f t
 refusal_of_part most t ps rule offset h f there of_part x =
-    subst (λ (r : LitmusRule). IsNumbered f.here.token r rule) (stage_of_part most t
-    (tokens_of f.before) there of_part h x)
-    (numbered _ (stage_after stages.Magic (tokens_of f.before)) f.here.token rule f.number)
+    subst (λ (r : LitmusRule). IsRuleOfToken f.here.token r rule) (stage_of_part most t
+    (test_tokens_of f.before) there of_part h x)
+    (numbered _ (stage_after stages.Magic (test_tokens_of f.before)) f.here.token rule f.number)
 
 -- ---- parts that are read alone
 
@@ -418,7 +418,7 @@ first_stands : (s : Stage) (before rest : List Token) → InRow s stages.InCell 
     → part_rule (stage_after s before) ≡ rules.Instruction
 first_stands s [] [] w = ap part_rule w
 first_stands s [] (t ∷ ts) w = w.0
-first_stands s (t ∷ ts) rest w = first_stands (after s t) ts rest w.1
+first_stands s (t ∷ ts) rest w = first_stands (next_stage s t) ts rest w.1
 
 thread_stays : (before rest : List Token) (t : ThreadTree) → AreCells (t.first ∷ t.others)
     → before ++ rest ≡ spelled_thread t (tokens.End ∷ [])
@@ -432,30 +432,30 @@ thread_stays before rest t h e =
 module _ (ps : List TokenAt) (rule : LitmusRule) (offset : ℕ) where
   of_rule : (IsText : List Token → Type 0) (start : Stage) (of_part : LitmusRule)
       (f : IsFault IsText start ps rule offset)
-      → part_rule (stage_after start (tokens_of f.before)) ≡ of_part
-      → IsNumbered f.here.token of_part rule
+      → part_rule (stage_after start (test_tokens_of f.before)) ≡ of_part
+      → IsRuleOfToken f.here.token of_part rule
   of_rule IsText start of_part f e =
-      subst (λ (r : LitmusRule). IsNumbered f.here.token r rule) e (numbered _
-      (stage_after start (tokens_of f.before)) f.here.token rule f.number)
+      subst (λ (r : LitmusRule). IsRuleOfToken f.here.token r rule) e (numbered _
+      (stage_after start (test_tokens_of f.before)) f.here.token rule f.number)
 
   pub init_refusal : (f : IsFault (IsStart IsInitText (stages.Init true false))
       (stages.Init true false) ps rule offset) → IsOfPart rules.Init f
   init_refusal f =
-      of_rule _ (stages.Init true false) rules.Init f (init_stays false (tokens_of f.before))
+      of_rule _ (stages.Init true false) rules.Init f (init_stays false (test_tokens_of f.before))
 
   pub thread_refusal : (f : IsFault IsThreadText stages.CellBegins ps rule offset)
       → IsOfPart rules.Instruction f
   thread_refusal f =
       let b = f.begins in
-      of_rule _ stages.CellBegins rules.Instruction f (thread_stays (tokens_of f.before) b.rest
+      of_rule _ stages.CellBegins rules.Instruction f (thread_stays (test_tokens_of f.before) b.rest
       b.text.tree b.text.fine b.text.whole)
 
   pub locations_refusal : (threads : ℕ) (f : IsFault (IsLocationsText threads) stages.Tail ps rule
       offset) → IsOfPart rules.Condition f
   locations_refusal threads f =
-      of_rule _ stages.Tail rules.Condition f (tail_stays (tokens_of f.before))
+      of_rule _ stages.Tail rules.Condition f (tail_stays (test_tokens_of f.before))
 
-  pub condition_refusal : (threads : ℕ) (f : IsFault (IsConditionText limits threads) stages.Tail ps
+  pub condition_refusal : (threads : ℕ) (f : IsFault (IsConditionText condition_limits threads) stages.Tail ps
       rule offset) → IsOfPart rules.Condition f
   condition_refusal threads f =
-      of_rule _ stages.Tail rules.Condition f (tail_stays (tokens_of f.before))
+      of_rule _ stages.Tail rules.Condition f (tail_stays (test_tokens_of f.before))

@@ -21,9 +21,9 @@ use Rattle.litmus_tokens.specs.declared.token.Token.TheVariants as tokens
 use Rattle.litmus_tokens.specs.declared.lexer.NextLexeme.{NextLexeme}
 use Rattle.litmus_tokens.specs.declared.lexer.NextLexeme.TheVariants as lexemes
 use Rattle.litmus_tokens.specs.Lexer.{is_not_ascii, is_word_byte, ends_word, ends_digits, is_equals, is_space, begins_comment, gap_from, comment_lexeme, ends_raw, raw_from, raw_lexeme, quoted_lexeme, line_lexeme, word_token, word_lexeme, significant, number_lexeme, minus_lexeme, mark_of, mark_lexeme, sign_lexeme, plain_lexeme, head_lexeme, stage_lexeme, first_lexeme}
-use Rattle.litmus_tokens.specs.Stage.{after}
-use Rattle.litmus_tokens.specs.Texts.{TokenAt, ends_line, fresh_after, after_lexeme, tokens_from, lexing}
-use Rattle.litmus_laws.specs.Tokens.{IsTestGap, Blank, LineEnd, Comment, begins_gap, IsByteRun, IsWordLexeme, gaps_text, AreGaps, IsLabelLexeme, IsLine, IsKeyline, is_first, is_plain, double_of, IsTestLexeme, FirstWord, NameEnd, Keyline, Quoted, Word, Label, Number, Negative, Double, Single, NotAscii, OpenComment, NoNameEnd, NoKeyline, NoQuoted, NoToken, TestPiece, Gap, Lexeme, text_of, ArePieces, tokens_at, IsTestCut, AreTestRising}
+use Rattle.litmus_tokens.specs.Stage.{next_stage}
+use Rattle.litmus_tokens.specs.Texts.{TokenAt, ends_line, fresh_after, after_lexeme, tokens_from, test_lexing}
+use Rattle.litmus_laws.specs.Tokens.{IsTestGap, Blank, LineEnd, Comment, begins_gap, IsByteRun, IsWordLexeme, gaps_text, AreGaps, IsLabelLexeme, IsFirstLine, IsKeyline, is_first, is_plain, double_of, IsTestLexeme, FirstWord, NameEnd, Keyline, Quoted, Word, Label, Number, Negative, Double, Single, NotAscii, OpenComment, NoNameEnd, NoKeyline, NoQuoted, NoToken, TestPiece, Gap, Lexeme, test_text_of, ArePieces, tokens_at, IsTestCut, AreTestRising}
 use Rattle.litmus_grammar.proofs.Lexed.{tokens_skip}
 use Rattle.litmus_laws.proofs.Gaps.{gaps_of, all_gaps}
 
@@ -450,7 +450,7 @@ module _ (fresh : Bool) (b : ℕ) (bs : List ℕ) (o : IsOpen b bs)
 -- ---- before the init block
 
 line_of : (xs : List ℕ)
-    → IsLine (take (position_or_len is_line_end xs) xs) (drop (position_or_len is_line_end xs) xs)
+    → IsFirstLine (take (position_or_len is_line_end xs) xs) (drop (position_or_len is_line_end xs) xs)
 line_of xs = record {
   each = λ k lt.
       let l = length-take (position_or_len is_line_end xs) xs in
@@ -475,7 +475,7 @@ module _ (b : ℕ) (bs : List ℕ) (o : IsOpen b bs) (letter : is_letter b ≡ t
   keyline_piece n m size ascii true e =
       let line = take n (b ∷ bs) in
       let all = nesting.equal (position_or_len is_equals line) (length line) e in
-      let is_line : IsLine line (drop n (b ∷ bs)) = subst (λ (k : ℕ). IsLine (take k (b ∷ bs)) (drop k (b ∷ bs))) (sym size) (line_of (b ∷ bs)) in (
+      let is_line : IsFirstLine line (drop n (b ∷ bs)) = subst (λ (k : ℕ). IsFirstLine (take k (b ∷ bs)) (drop k (b ∷ bs))) (sym size) (line_of (b ∷ bs)) in (
         omega arith,
         omega arith,
         NoKeyline refl refl b letter line (drop n (b ∷ bs)) is_line
@@ -484,7 +484,7 @@ module _ (b : ℕ) (bs : List ℕ) (o : IsOpen b bs) (letter : is_letter b ≡ t
       )
   keyline_piece n m size ascii false e =
       let line = take n (b ∷ bs) in
-      let is_line : IsLine line (drop n (b ∷ bs)) = subst (λ (k : ℕ). IsLine (take k (b ∷ bs)) (drop k (b ∷ bs))) (sym size) (line_of (b ∷ bs)) in
+      let is_line : IsFirstLine line (drop n (b ∷ bs)) = subst (λ (k : ℕ). IsFirstLine (take k (b ∷ bs)) (drop k (b ∷ bs))) (sym size) (line_of (b ∷ bs)) in
       let le = pos_le is_line_end (b ∷ bs) in
       let l = length-take n (b ∷ bs) in
       let some : 0 < position_or_len is_line_end (b ∷ bs) = pos_some is_line_end b bs (letter_no_end b letter) in
@@ -606,7 +606,7 @@ first_piece s fresh b bs =
 record CutAt (s : Stage) (fresh : Bool) (n : ℕ) (bs : List ℕ) (ps : List TokenAt) : Type 0 where
   pieces : List TestPiece
   fine : ArePieces s fresh pieces
-  whole : text_of pieces ≡ bs
+  whole : test_text_of pieces ≡ bs
   tokens : tokens_at n pieces ≡ ps
 
 pub skipped : (s : Stage) (fresh : Bool) (j n : ℕ) (bs : List ℕ) → j ≤ length bs
@@ -646,7 +646,7 @@ after_piece s fresh n b bs (lexemes.Lexeme t (suc j)) h ih =
     let l = length-drop j bs in
     let m = length-take (suc j) (b ∷ bs) in
     let size : n + length (take (suc j) (b ∷ bs)) ≡ n + suc j = omega arith in
-    let c = ih (after s t) (ends_line t) (n + suc j) (drop j bs) (omega arith) in
+    let c = ih (next_stage s t) (ends_line t) (n + suc j) (drop j bs) (omega arith) in
     record {
       pieces = Lexeme t (take (suc j) (b ∷ bs)) ∷ c.pieces;
       fine = (subst (IsTestLexeme s fresh t (take (suc j) (b ∷ bs))) (sym c.whole) h.2, c.fine);
@@ -656,7 +656,7 @@ after_piece s fresh n b bs (lexemes.Lexeme t (suc j)) h ih =
       tokens =
           ap (λ (ps : List TokenAt). record { token = t; offset = n } ∷ ps) (ap
           (λ (k : ℕ). tokens_at k c.pieces) size ∙ c.tokens
-          ∙ sym (skipped (after s t) (ends_line t) j n bs (omega arith)));
+          ∙ sym (skipped (next_stage s t) (ends_line t) j n bs (omega arith)));
     }
 
 cut_at : (most : ℕ) (s : Stage) (fresh : Bool) (n : ℕ) (bs : List ℕ) → length bs ≤ most
@@ -668,7 +668,7 @@ cut_at (suc most) s fresh n (b ∷ bs) le =
     after_piece s fresh n b bs (first_lexeme s fresh (b ∷ bs)) (first_piece s fresh b bs)
     (λ s' fresh' k xs short. cut_at most s' fresh' k xs (omega arith))
 
-pub is_cut : (s : Stage) (bytes : List ℕ) → IsTestCut s bytes (lexing s bytes)
+pub is_cut : (s : Stage) (bytes : List ℕ) → IsTestCut s bytes (test_lexing s bytes)
 is_cut s bytes =
     let c = cut_at (length bytes) s false 0 bytes (omega arith) in
     record { pieces = c.pieces; fine = c.fine; whole = c.whole; tokens = c.tokens }
@@ -739,10 +739,10 @@ rise stage fresh m n [] le h = (le, tt)
 rise stage fresh m n (Gap s ∷ ps) le h =
     rise stage (fresh_after fresh (slice_index s 0)) m (n + length s) ps (omega arith) h.1
 rise stage fresh m n (Lexeme t s ∷ ps) le h =
-    let some = lexeme_bytes stage fresh t s (text_of ps) h.0 in
-    (le, rise (after stage t) (ends_line t) (n + 1) (n + length s) ps (omega arith) h.1)
+    let some = lexeme_bytes stage fresh t s (test_text_of ps) h.0 in
+    (le, rise (next_stage stage t) (ends_line t) (n + 1) (n + length s) ps (omega arith) h.1)
 
-pub is_rising : (s : Stage) (bytes : List ℕ) → AreTestRising 0 (lexing s bytes)
+pub is_rising : (s : Stage) (bytes : List ℕ) → AreTestRising 0 (test_lexing s bytes)
 is_rising s bytes =
     let c = is_cut s bytes in
     subst (AreTestRising 0) c.tokens (rise s false 0 0 c.pieces (omega arith) c.fine)

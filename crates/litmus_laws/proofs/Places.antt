@@ -11,7 +11,7 @@ use Rattle.litmus_tokens.specs.declared.token.Mark.TheVariants as marks
 use Rattle.litmus_tokens.specs.declared.lexer.NextLexeme.TheVariants.{Lexeme}
 use Rattle.litmus_tokens.specs.Words.{register_of, is_known, or_zero}
 use Rattle.litmus_tokens.specs.Lexer.{ends_word, ends_digits, significant, first_lexeme}
-use Rattle.litmus_tokens.specs.Stage.{after}
+use Rattle.litmus_tokens.specs.Stage.{next_stage}
 use Rattle.litmus_tokens.specs.Texts.{tokens_from}
 use Rattle.text_values.specs.declared.test.Place.{Place}
 use Rattle.text_values.specs.declared.test.Place.TheVariants as places
@@ -57,7 +57,7 @@ equals_here bs h =
     if b then Lexeme (tokens.Mark marks.Implies) 2 else Lexeme (tokens.Mark marks.Equals) 1)
     (other (slice_index bs 0) 62 h)
 
-equals_stays : (w : InnerPart) → core (after (part w) (tokens.Mark marks.Equals)) ≡ part w
+equals_stays : (w : InnerPart) → core (next_stage (part w) (tokens.Mark marks.Equals)) ≡ part w
 equals_stays Entries = refl
 equals_stays Operands = refl
 equals_stays Condition = refl

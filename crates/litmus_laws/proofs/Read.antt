@@ -15,8 +15,8 @@ use Rattle.litmus_tokens.specs.declared.lexer.NextLexeme.TheVariants.{Layout, Le
 use Rattle.litmus_tokens.specs.Words.{ends_table}
 use Rattle.text_values.specs.Letters.{is_digit}
 use Rattle.litmus_tokens.specs.Lexer.{first_lexeme, begins_comment, stage_lexeme}
-use Rattle.litmus_tokens.specs.Stage.{after, after_brace}
-use Rattle.litmus_tokens.specs.Texts.{TokenAt, tokens_of, ends_line, fresh_after, after_lexeme, tokens_from}
+use Rattle.litmus_tokens.specs.Stage.{next_stage, after_brace}
+use Rattle.litmus_tokens.specs.Texts.{TokenAt, test_tokens_of, ends_line, fresh_after, after_lexeme, tokens_from}
 use Rattle.litmus_grammar.proofs.Lexed.{tokens_skip}
 use Rattle.litmus_laws.specs.Written.{begins_word}
 use Rattle.text_laws.proofs.Runs.{other}
@@ -39,7 +39,7 @@ core (Init a w) = Init a false
 core s = s
 
 abbrev pub read : Stage → List ℕ → List Token
-read s bs = tokens_of (tokens_from s false 0 0 bs)
+read s bs = test_tokens_of (tokens_from s false 0 0 bs)
 
 past_brace : (a : Bool) → is_past (after_brace a) ≡ true
 past_brace true = refl
@@ -49,7 +49,7 @@ past_word : (b : Bool) → is_past (if b then Tail else InCell) ≡ true
 past_word true = refl
 past_word false = refl
 
-past_init : (a w : Bool) (t : Token) → is_past (after (Init a w) t) ≡ true
+past_init : (a w : Bool) (t : Token) → is_past (next_stage (Init a w) t) ≡ true
 past_init a w (tokens.Word n) = refl
 past_init a w (tokens.Number b n) = refl
 past_init a w (tokens.Label n) = refl
@@ -75,7 +75,7 @@ past_init a w tokens.End = refl
 past_init a w tokens.Bad = refl
 past_init a w (tokens.Broken r) = refl
 
-past_header : (n : ℕ) (t : Token) → is_past (after (Header n) t) ≡ true
+past_header : (n : ℕ) (t : Token) → is_past (next_stage (Header n) t) ≡ true
 past_header k (tokens.Word n) = refl
 past_header k (tokens.Number b n) = refl
 past_header k (tokens.Label n) = refl
@@ -101,7 +101,7 @@ past_header k tokens.End = refl
 past_header k tokens.Bad = refl
 past_header k (tokens.Broken r) = refl
 
-past_begins : (t : Token) → is_past (after CellBegins t) ≡ true
+past_begins : (t : Token) → is_past (next_stage CellBegins t) ≡ true
 past_begins (tokens.Word n) = past_word (ends_table n)
 past_begins (tokens.Number b n) = refl
 past_begins (tokens.Label n) = refl
@@ -127,7 +127,7 @@ past_begins tokens.End = refl
 past_begins tokens.Bad = refl
 past_begins (tokens.Broken r) = refl
 
-past_cell : (t : Token) → is_past (after InCell t) ≡ true
+past_cell : (t : Token) → is_past (next_stage InCell t) ≡ true
 past_cell (tokens.Word n) = refl
 past_cell (tokens.Number b n) = refl
 past_cell (tokens.Label n) = refl
@@ -154,7 +154,7 @@ past_cell tokens.Bad = refl
 past_cell (tokens.Broken r) = refl
 
 -- whether a word was read last does not bear on what follows
-last_free : (a w : Bool) (t : Token) → after (Init a w) t ≡ after (Init a false) t
+last_free : (a w : Bool) (t : Token) → next_stage (Init a w) t ≡ next_stage (Init a false) t
 last_free a w (tokens.Word n) = refl
 last_free a w (tokens.Number b n) = refl
 last_free a w (tokens.Label n) = refl
@@ -180,7 +180,7 @@ last_free a w tokens.End = refl
 last_free a w tokens.Bad = refl
 last_free a w (tokens.Broken r) = refl
 
-pub past_after : (s : Stage) (t : Token) → is_past s ≡ true → is_past (after s t) ≡ true
+pub past_after : (s : Stage) (t : Token) → is_past s ≡ true → is_past (next_stage s t) ≡ true
 past_after Magic t h = absurd cc
 past_after Title t h = absurd cc
 past_after TitleEnd t h = absurd cc
@@ -213,7 +213,7 @@ core_core CellBegins = refl
 core_core InCell = refl
 core_core Tail = refl
 
-core_after : (s : Stage) (t : Token) → core (after s t) ≡ core (after (core s) t)
+core_after : (s : Stage) (t : Token) → core (next_stage s t) ≡ core (next_stage (core s) t)
 core_after Magic t = refl
 core_after Title t = refl
 core_after TitleEnd t = refl
@@ -239,10 +239,10 @@ core_lexeme Tail f bs h = refl
 
 after_free : (s : Stage) (f g : Bool) (p q b : ℕ) (x : NextLexeme)
     (later other : Stage → Bool → ℕ → List TokenAt)
-    → ((u v : Bool) (k : ℕ) → tokens_of (later s u k) ≡ tokens_of (other (core s) v k))
+    → ((u v : Bool) (k : ℕ) → test_tokens_of (later s u k) ≡ test_tokens_of (other (core s) v k))
     → ((t : Token) (v : Bool) (k : ℕ)
-    → tokens_of (later (after s t) v k) ≡ tokens_of (other (after (core s) t) v k))
-    → tokens_of (after_lexeme s f p b x later) ≡ tokens_of (after_lexeme (core s) g q b x other)
+    → test_tokens_of (later (next_stage s t) v k) ≡ test_tokens_of (other (next_stage (core s) t) v k))
+    → test_tokens_of (after_lexeme s f p b x later) ≡ test_tokens_of (after_lexeme (core s) g q b x other)
 after_free s f g p q b (Layout n) later other same next =
     same (fresh_after f b) (fresh_after g b) (n - 1)
 after_free s f g p q b (Lexeme t n) later other same next =
@@ -250,44 +250,44 @@ after_free s f g p q b (Lexeme t n) later other same next =
 
 -- the places, the lines and what was read last in the init block do not bear on the tokens
 pub free : (s : Stage) (f : Bool) (k p : ℕ) (bs : List ℕ) → is_past s ≡ true
-    → tokens_of (tokens_from s f k p bs) ≡ tokens_of (tokens_from (core s) false k 0 bs)
+    → test_tokens_of (tokens_from s f k p bs) ≡ test_tokens_of (tokens_from (core s) false k 0 bs)
 unfolding tokens_from
 free s f k p [] h = refl
 free s f (suc k) p (b ∷ bs) h =
     free s f k (p + 1) bs h
     ∙ sym (free (core s) false k 1 bs (past_core s h)
-    ∙ ap (λ (u : Stage). tokens_of (tokens_from u false k 0 bs)) (core_core s))
+    ∙ ap (λ (u : Stage). test_tokens_of (tokens_from u false k 0 bs)) (core_core s))
 free s f zero p (b ∷ bs) h =
-    ap (λ (x : NextLexeme). tokens_of (after_lexeme s f p b x (λ u g k. tokens_from u g k (p + 1) bs)))
+    ap (λ (x : NextLexeme). test_tokens_of (after_lexeme s f p b x (λ u g k. tokens_from u g k (p + 1) bs)))
     (core_lexeme s f (b ∷ bs) h)
     ∙ after_free s f false p 0 b (first_lexeme (core s) false (b ∷ bs))
     (λ u g k. tokens_from u g k (p + 1) bs) (λ u g k. tokens_from u g k 1 bs)
     (λ u v k. free s u k (p + 1) bs h
     ∙ sym (free (core s) v k 1 bs (past_core s h)
-    ∙ ap (λ (u : Stage). tokens_of (tokens_from u false k 0 bs)) (core_core s)))
-    (λ t v k. free (after s t) v k (p + 1) bs (past_after s t h)
-    ∙ ap (λ (u : Stage). tokens_of (tokens_from u false k 0 bs)) (core_after s t)
-    ∙ sym (free (after (core s) t) v k 1 bs (past_after (core s) t (past_core s h))))
+    ∙ ap (λ (u : Stage). test_tokens_of (tokens_from u false k 0 bs)) (core_core s)))
+    (λ t v k. free (next_stage s t) v k (p + 1) bs (past_after s t h)
+    ∙ ap (λ (u : Stage). test_tokens_of (tokens_from u false k 0 bs)) (core_after s t)
+    ∙ sym (free (next_stage (core s) t) v k 1 bs (past_after (core s) t (past_core s h))))
 
 -- a token, in a part from the init block on
 pub turn : (s : Stage) (b : ℕ) (word rest : List ℕ) (t : Token) → is_past s ≡ true
     → first_lexeme s false (b ∷ (word ++ rest)) ≡ Lexeme t (length (b ∷ word))
-    → read s (b ∷ (word ++ rest)) ≡ t ∷ read (core (after s t)) rest
+    → read s (b ∷ (word ++ rest)) ≡ t ∷ read (core (next_stage s t)) rest
 unfolding tokens_from
 turn s b word rest t h e =
     let l = length-append word rest in
     ap
     (λ (x : NextLexeme).
-    tokens_of (after_lexeme s false 0 b x (λ u g k. tokens_from u g k 1 (word ++ rest)))) e
-    ∙ ap (λ (k : ℕ). t ∷ tokens_of (tokens_from (after s t) (ends_line t) k 1 (word ++ rest)))
+    test_tokens_of (after_lexeme s false 0 b x (λ u g k. tokens_from u g k 1 (word ++ rest)))) e
+    ∙ ap (λ (k : ℕ). t ∷ test_tokens_of (tokens_from (next_stage s t) (ends_line t) k 1 (word ++ rest)))
     (omega arith)
-    ∙ ap (λ (ps : List TokenAt). t ∷ tokens_of ps) (tokens_skip (after s t) (ends_line t)
+    ∙ ap (λ (ps : List TokenAt). t ∷ test_tokens_of ps) (tokens_skip (next_stage s t) (ends_line t)
     (length word) 1 (word ++ rest) (omega arith))
     ∙ ap
     (λ (x : List ℕ). t
-    ∷ tokens_of (tokens_from (after s t) (ends_line t) 0 (1 + length word) x))
+    ∷ test_tokens_of (tokens_from (next_stage s t) (ends_line t) 0 (1 + length word) x))
     (drop_at word rest (length word) refl)
-    ∙ ap (λ (ts : List Token). t ∷ ts) (free (after s t) (ends_line t) 0 (1 + length word) rest
+    ∙ ap (λ (ts : List Token). t ∷ ts) (free (next_stage s t) (ends_line t) 0 (1 + length word) rest
     (past_after s t h))
 
 -- ---- three parts that a token of their own does not end
@@ -319,20 +319,20 @@ part_lexeme Condition bs = refl
 
 -- a token that ends no part
 pub inner_turn : (w : InnerPart) (b : ℕ) (word rest : List ℕ) (t : Token)
-    → core (after (part w) t) ≡ part w
+    → core (next_stage (part w) t) ≡ part w
     → first_lexeme Tail false (b ∷ (word ++ rest)) ≡ Lexeme t (length (b ∷ word))
     → inner w (b ∷ (word ++ rest)) ≡ t ∷ inner w rest
 inner_turn w b word rest t stays e =
     turn (part w) b word rest t (past_part w) (part_lexeme w (b ∷ (word ++ rest)) ∙ e)
     ∙ ap (λ (s : Stage). t ∷ read s rest) stays
 
-pub word_stays : (w : InnerPart) (n : List ℕ) → core (after (part w) (tokens.Word n)) ≡ part w
+pub word_stays : (w : InnerPart) (n : List ℕ) → core (next_stage (part w) (tokens.Word n)) ≡ part w
 word_stays Entries n = refl
 word_stays Operands n = refl
 word_stays Condition n = refl
 
 pub number_stays : (w : InnerPart) (b : Bool) (n : List ℕ)
-    → core (after (part w) (tokens.Number b n)) ≡ part w
+    → core (next_stage (part w) (tokens.Number b n)) ≡ part w
 number_stays Entries b n = refl
 number_stays Operands b n = refl
 number_stays Condition b n = refl

@@ -17,8 +17,8 @@ use Rattle.litmus_tokens.specs.declared.lexer.NextLexeme.TheVariants.{Layout, Le
 use Rattle.litmus_tokens.specs.Words.{are_digits}
 use Rattle.text_values.specs.Letters.{is_digit, is_letter}
 use Rattle.litmus_tokens.specs.Lexer.{is_word_byte, is_space, is_not_ascii, ends_word, ends_digits, is_equals, begins_comment, gap_from, comment_lexeme, ends_raw, raw_from, raw_lexeme, quoted_lexeme, line_lexeme, word_token, word_lexeme, significant, number_lexeme, minus_lexeme, mark_of, mark_lexeme, sign_lexeme, plain_lexeme, stage_lexeme, first_lexeme}
-use Rattle.litmus_tokens.specs.Stage.{after}
-use Rattle.litmus_tokens.specs.Texts.{TokenAt, tokens_of, ends_line, fresh_after, after_lexeme, tokens_from}
+use Rattle.litmus_tokens.specs.Stage.{next_stage}
+use Rattle.litmus_tokens.specs.Texts.{TokenAt, test_tokens_of, ends_line, fresh_after, after_lexeme, tokens_from}
 use Rattle.litmus_laws.specs.Written.{begins_word, IsWord, holds_comment}
 use Rattle.litmus_laws.proofs.Read.{is_past, past_after}
 use Rattle.litmus_laws.proofs.Conditions.{all_of_word, is_word}
@@ -58,7 +58,7 @@ FineIn Tail t = Fine t
 
 abbrev pub AreFine : Stage → List Token → Type 0
 AreFine s [] = Unit {0}
-AreFine s (t ∷ ts) = FineIn s t × AreFine (after s t) ts
+AreFine s (t ∷ ts) = FineIn s t × AreFine (next_stage s t) ts
 
 abbrev LexemeFine : Stage → NextLexeme → Type 0
 LexemeFine s (Layout n) = Unit {0}
@@ -282,14 +282,14 @@ first_fine s f b bs =
     (λ _. comment_fine s _ (comment_of (b ∷ bs))) (λ _. stage_fine s f b bs)))
 
 after_fine : (s : Stage) (f : Bool) (p b : ℕ) (x : NextLexeme) (later : Stage → Bool → ℕ → List TokenAt)
-    → LexemeFine s x → ((u : Stage) (g : Bool) (k : ℕ) → AreFine u (tokens_of (later u g k)))
-    → AreFine s (tokens_of (after_lexeme s f p b x later))
+    → LexemeFine s x → ((u : Stage) (g : Bool) (k : ℕ) → AreFine u (test_tokens_of (later u g k)))
+    → AreFine s (test_tokens_of (after_lexeme s f p b x later))
 after_fine s f p b (Layout n) later h all = all s (fresh_after f b) (n - 1)
-after_fine s f p b (Lexeme t n) later h all = (h, all (after s t) (ends_line t) (n - 1))
+after_fine s f p b (Lexeme t n) later h all = (h, all (next_stage s t) (ends_line t) (n - 1))
 
 -- the tokens of a text
 pub tokens_fine : (s : Stage) (f : Bool) (k p : ℕ) (bs : List ℕ)
-    → AreFine s (tokens_of (tokens_from s f k p bs))
+    → AreFine s (test_tokens_of (tokens_from s f k p bs))
 unfolding tokens_from
 tokens_fine s f k p [] = (fine_in s tokens.End tt tt tt, tt)
 tokens_fine s f (suc k) p (b ∷ bs) = tokens_fine s f k (p + 1) bs
@@ -317,4 +317,4 @@ fine_of Tail t p h = h
 
 pub all_fine : (s : Stage) (ts : List Token) → is_past s ≡ true → AreFine s ts → AllFine ts
 all_fine s [] p h = tt
-all_fine s (t ∷ ts) p h = (fine_of s t p h.0, all_fine (after s t) ts (past_after s t p) h.1)
+all_fine s (t ∷ ts) p h = (fine_of s t p h.0, all_fine (next_stage s t) ts (past_after s t p) h.1)

@@ -20,9 +20,9 @@ use Rattle.litmus_tokens.specs.declared.token.Token.TheVariants as tokens
 use Rattle.litmus_tokens.specs.declared.lexer.NextLexeme.{NextLexeme}
 use Rattle.litmus_tokens.specs.declared.lexer.NextLexeme.TheVariants as lexemes
 use Rattle.litmus_tokens.specs.Lexer.{is_not_ascii, is_word_byte, is_equals, begins_comment, gap_from, comment_lexeme, ends_raw, raw_from, raw_lexeme, quoted_lexeme, line_lexeme, word_token, label_lexeme, word_lexeme, significant, number_lexeme, minus_lexeme, mark_of, mark_lexeme, sign_lexeme, plain_lexeme, stage_lexeme, first_lexeme}
-use Rattle.litmus_tokens.specs.Stage.{after}
-use Rattle.litmus_tokens.specs.Texts.{TokenAt, ends_line, fresh_after, after_lexeme, tokens_from, lexing}
-use Rattle.litmus_laws.specs.Tokens.{IsTestGap, Blank, LineEnd, Comment, begins_gap, IsByteRun, IsWordLexeme, IsRaw, gaps_text, AreGaps, IsLabelLexeme, IsLine, LacksEquals, IsKeyline, is_first, is_plain, double_of, IsTestLexeme, FirstWord, NameEnd, Keyline, Quoted, Word, Label, Number, Negative, Double, Single, NotAscii, OpenComment, NoNameEnd, NoKeyline, NoQuoted, NoToken, TestPiece, Gap, Lexeme, text_of, ArePieces, tokens_at, IsTestCut}
+use Rattle.litmus_tokens.specs.Stage.{next_stage}
+use Rattle.litmus_tokens.specs.Texts.{TokenAt, ends_line, fresh_after, after_lexeme, tokens_from, test_lexing}
+use Rattle.litmus_laws.specs.Tokens.{IsTestGap, Blank, LineEnd, Comment, begins_gap, IsByteRun, IsWordLexeme, IsRaw, gaps_text, AreGaps, IsLabelLexeme, IsFirstLine, LacksEquals, IsKeyline, is_first, is_plain, double_of, IsTestLexeme, FirstWord, NameEnd, Keyline, Quoted, Word, Label, Number, Negative, Double, Single, NotAscii, OpenComment, NoNameEnd, NoKeyline, NoQuoted, NoToken, TestPiece, Gap, Lexeme, test_text_of, ArePieces, tokens_at, IsTestCut}
 use Rattle.litmus_laws.proofs.Gaps.{gaps_of, all_gaps}
 use Rattle.litmus_laws.proofs.Pieces.{IsOpen, cons_at, skipped, lexeme_bytes}
 use Rattle.std.proofs.lemmas.Bool.{and_left, false_from_ne_true, not-true}
@@ -557,7 +557,7 @@ first_raw stage fresh (b ∷ bs) rest first r =
 
 -- ---- before the init block
 
-line_size : (line behind : List ℕ) → IsLine line behind
+line_size : (line behind : List ℕ) → IsFirstLine line behind
     → position_or_len is_line_end (line ++ behind) ≡ length line
 line_size line behind x =
     let l = length-append line behind in
@@ -566,7 +566,7 @@ line_size line behind x =
     (λ lt. ap is_line_end (seam line behind) ∙ x.ends (omega arith))
 
 -- a fresh line that begins with a letter
-first_line : (text line behind : List ℕ) → IsLine line behind → text ≡ line ++ behind
+first_line : (text line behind : List ℕ) → IsFirstLine line behind → text ≡ line ++ behind
     → 0 < length text → is_letter (slice_index text 0) ≡ true
     → first_lexeme Head true text ≡ line_lexeme line
 first_line [] line behind x whole some letter = absurd (omega arith)
@@ -593,7 +593,7 @@ first_keyline s rest k =
     ∙ ap (λ (n : ℕ). lexemes.Lexeme tokens.Keyline n) (position_or_len_is is_not_ascii k.line
     (length s) 0 k.within k.ascii k.stops)
 
-first_no_keyline : (b : ℕ) (rest line behind : List ℕ) → is_letter b ≡ true → IsLine line behind
+first_no_keyline : (b : ℕ) (rest line behind : List ℕ) → is_letter b ≡ true → IsFirstLine line behind
     → b ∷ rest ≡ line ++ behind → LacksEquals line
     → first_lexeme Head true (b ∷ rest) ≡ lexemes.Lexeme tokens.Bad 1
 first_no_keyline b rest line behind letter x whole lacks =
@@ -775,7 +775,7 @@ lexeme_turn : (stage : Stage) (fresh : Bool) (n : ℕ) (t : Token) (s rest : Lis
     → first_lexeme stage fresh (s ++ rest) ≡ lexemes.Lexeme t (length s)
     → tokens_from stage fresh 0 n (s ++ rest)
     ≡ record { token = t; offset = n }
-    ∷ tokens_from (after stage t) (ends_line t) 0 (n + length s) rest
+    ∷ tokens_from (next_stage stage t) (ends_line t) 0 (n + length s) rest
 lexeme_turn stage fresh n t [] rest some e = absurd (omega arith)
 lexeme_turn stage fresh n t (b ∷ bs) rest some e =
     let l = length-append bs rest in
@@ -783,25 +783,25 @@ lexeme_turn stage fresh n t (b ∷ bs) rest some e =
     ∙ ap
     (λ (f : NextLexeme). after_lexeme stage fresh n b f (λ s' fresh' skip.
     tokens_from s' fresh' skip (n + 1) (bs ++ rest))) e
-    ∙ ap (λ (ps : List TokenAt). record { token = t; offset = n } ∷ ps) (skipped (after stage t)
+    ∙ ap (λ (ps : List TokenAt). record { token = t; offset = n } ∷ ps) (skipped (next_stage stage t)
     (ends_line t) (length bs) n (bs ++ rest) (omega arith)
-    ∙ ap (tokens_from (after stage t) (ends_line t) 0 (n + suc (length bs)))
+    ∙ ap (tokens_from (next_stage stage t) (ends_line t) 0 (n + suc (length bs)))
     (drop_at bs rest (length bs) refl))
 
 of_pieces : (stage : Stage) (fresh : Bool) (n : ℕ) (ps : List TestPiece) → ArePieces stage fresh ps
-    → tokens_from stage fresh 0 n (text_of ps) ≡ tokens_at n ps
+    → tokens_from stage fresh 0 n (test_text_of ps) ≡ tokens_at n ps
 of_pieces stage fresh n [] h = end_tokens stage fresh n
 of_pieces stage fresh n (Gap s ∷ ps) h =
-    gap_turn stage fresh n s (text_of ps) (gap_bytes stage s (text_of ps) h.0)
-    (first_gap stage fresh s (text_of ps) h.0)
+    gap_turn stage fresh n s (test_text_of ps) (gap_bytes stage s (test_text_of ps) h.0)
+    (first_gap stage fresh s (test_text_of ps) h.0)
     ∙ of_pieces stage (fresh_after fresh (slice_index s 0)) (n + length s) ps h.1
 of_pieces stage fresh n (Lexeme t s ∷ ps) h =
-    lexeme_turn stage fresh n t s (text_of ps) (lexeme_bytes stage fresh t s (text_of ps) h.0)
-    (first_of_lexeme stage fresh t s (text_of ps) h.0)
+    lexeme_turn stage fresh n t s (test_text_of ps) (lexeme_bytes stage fresh t s (test_text_of ps) h.0)
+    (first_of_lexeme stage fresh t s (test_text_of ps) h.0)
     ∙ ap (λ (qs : List TokenAt). record { token = t; offset = n } ∷ qs)
-    (of_pieces (after stage t) (ends_line t) (n + length s) ps h.1)
+    (of_pieces (next_stage stage t) (ends_line t) (n + length s) ps h.1)
 
 pub only_cut : (stage : Stage) (bytes : List ℕ) (ps : List TokenAt) → IsTestCut stage bytes ps
-    → lexing stage bytes ≡ ps
+    → test_lexing stage bytes ≡ ps
 only_cut stage bytes ps c =
-    ap (lexing stage) (sym c.whole) ∙ of_pieces stage false 0 c.pieces c.fine ∙ c.tokens
+    ap (test_lexing stage) (sym c.whole) ∙ of_pieces stage false 0 c.pieces c.fine ∙ c.tokens

@@ -6,7 +6,7 @@ use Rattle.litmus_tokens.specs.declared.token.Token.{Token}
 use Rattle.litmus_tokens.specs.declared.token.Token.TheVariants as tokens
 use Rattle.litmus_tokens.specs.declared.token.Mark.TheVariants as marks
 use Rattle.litmus_tokens.specs.Lexer.{first_lexeme}
-use Rattle.litmus_tokens.specs.Texts.{tokens_of, lexing, tokens_from}
+use Rattle.litmus_tokens.specs.Texts.{test_tokens_of, test_lexing, tokens_from}
 use Rattle.text_values.specs.declared.test.Place.{Place}
 use Rattle.text_values.specs.declared.test.InitEntry.{InitEntry}
 use Rattle.text_values.specs.declared.test.Step.{Step}
@@ -14,7 +14,7 @@ use Rattle.text_values.specs.declared.test.Quantifier.{Quantifier}
 use Rattle.text_values.specs.declared.test.Quantifier.TheVariants.{Exists, NotExists, Forall}
 use Rattle.text_values.specs.TestValue.{Formula, Content}
 use Rattle.litmus_tokens.specs.Conditions as conditions
-use Rattle.litmus_tokens.specs.Conditions.{Limits, limits, Group, place_meaning, spelled_place, spelled, spelled_quantifier}
+use Rattle.litmus_tokens.specs.Conditions.{Limits, condition_limits, Group, place_meaning, spelled_place, spelled, spelled_quantifier}
 use Rattle.litmus_table.specs.Grammar.{spelled_header, spelled_rows}
 use Rattle.litmus_table.specs.Late.{Late, or_else, late_columns}
 use Rattle.litmus_grammar.specs.Grammar as grammar
@@ -196,12 +196,12 @@ module _ (n : List ℕ) (es : List InitEntry) (t : List Step) (ts : List (List S
         ++ 125 ∷ 10 ∷ (table_text (t ∷ ts)
         ++ (observed_text ps ++ line (condition_text q f))))))
 
-    tokens_are : tokens_of (lexing Magic (printed (content n es (t ∷ ts) ps q f)))
+    tokens_are : test_tokens_of (test_lexing Magic (printed (content n es (t ∷ ts) ps q f)))
         ≡ spelled_test tree
     tokens_are =
         let O = observed_text ps ++ line (condition_text q f) in
         let T = table_text (t ∷ ts) ++ O in
-        ap (λ (l : List ℕ). tokens_of (lexing Magic l)) bytes_are
+        ap (λ (l : List ℕ). test_tokens_of (test_lexing Magic l)) bytes_are
         ∙ head_back n (all_of (map entry_line es) ++ 125 ∷ 10 ∷ T) h.name h.no_comment
         ∙ ap
         (λ (us : List Token). tokens.Word (codes "PPC") ∷ tokens.Word n ∷ tokens.LineEnd
@@ -276,7 +276,7 @@ module _ (n : List ℕ) (es : List InitEntry) (t : List Step) (ts : List (List S
         → ReadsTest (printed (content n es (t ∷ ts) ps q f)) (content n es (t ∷ ts) ps q f)
     is_within w = record {
       short = w.short;
-      text = record { tree = tree; fine = tree_fine limits w.shallow w.few; whole = tokens_are };
+      text = record { tree = tree; fine = tree_fine condition_limits w.shallow w.few; whole = tokens_are };
       in_time = tree_in_time;
       meant = tree_means;
     }

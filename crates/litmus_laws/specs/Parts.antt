@@ -5,10 +5,10 @@ use Rattle.litmus_tokens.specs.declared.rule.LitmusRule.TheVariants as rules
 use Rattle.litmus_tokens.specs.declared.token.Token.{Token}
 use Rattle.litmus_tokens.specs.declared.token.Token.TheVariants as tokens
 use Rattle.litmus_tokens.specs.Faults.{IsFault}
-use Rattle.litmus_tokens.specs.Texts.{TokenAt, tokens_of}
+use Rattle.litmus_tokens.specs.Texts.{TokenAt, test_tokens_of}
 use Rattle.litmus_tokens.specs.declared.stage.Stage.{Stage}
 use Rattle.litmus_tokens.specs.declared.stage.Stage.TheVariants.{Magic}
-use Rattle.litmus_tokens.specs.Conditions.{limits}
+use Rattle.litmus_tokens.specs.Conditions.{condition_limits}
 use Rattle.litmus_table.specs.Grammar.{spelled_header, spelled_rows}
 use Rattle.litmus_grammar.specs.Grammar.{TestTree, spelled_text, spelled_keylines, spelled_init, spelled_observed, spelled_condition, IsTestText}
 use Rattle.litmus_grammar.specs.Texts.{IsStart}
@@ -63,14 +63,14 @@ is_named rules.Filter = true
 is_named rule = false
 
 -- the rule that this token breaks in a part: one that is named for it, or the part's
-pub data IsNumbered (here : Token) (of_part rule : LitmusRule) : Type 0 where
-  OfToken : here ≡ tokens.Broken rule → IsNumbered here of_part rule
-  Named : is_named rule ≡ true → IsNumbered here of_part rule
-  OfPart : rule ≡ of_part → IsNumbered here of_part rule
+pub data IsRuleOfToken (here : Token) (of_part rule : LitmusRule) : Type 0 where
+  OfToken : here ≡ tokens.Broken rule → IsRuleOfToken here of_part rule
+  Named : is_named rule ≡ true → IsRuleOfToken here of_part rule
+  OfPart : rule ≡ of_part → IsRuleOfToken here of_part rule
 
 -- the fault of a test, as its reader looks for it
 abbrev pub IsTestTokenFault : List TokenAt → LitmusRule → ℕ → Type 0
-IsTestTokenFault ps rule offset = IsFault (IsStart (IsTestText limits) Magic) Magic ps rule offset
+IsTestTokenFault ps rule offset = IsFault (IsStart (IsTestText condition_limits) Magic) Magic ps rule offset
 
 -- it is numbered by the part of this test in which the refused token would stand, behind the tokens
 -- before it
@@ -78,12 +78,12 @@ abbrev pub IsOfItsPart : (ps : List TokenAt) (rule : LitmusRule) (offset : ℕ)
     → IsTestTokenFault ps rule offset → TestTree → Type 0
 IsOfItsPart ps rule offset f t =
     (there : Token) (of_part : LitmusRule)
-    → StandsIn (test_parts t) (tokens_of f.before) there of_part
-    → IsNumbered f.here.token of_part rule
+    → StandsIn (test_parts t) (test_tokens_of f.before) there of_part
+    → IsRuleOfToken f.here.token of_part rule
 
 -- ---- parts that are read alone: each token that they name no rule for has the part's
 
 abbrev pub IsOfPart : {IsText : List Token → Type 0} {start : Stage} {ps : List TokenAt}
     {rule : LitmusRule} {offset : ℕ}
     → LitmusRule → IsFault IsText start ps rule offset → Type 0
-IsOfPart {IsText} {start} {ps} {rule} {offset} of_part f = IsNumbered f.here.token of_part rule
+IsOfPart {IsText} {start} {ps} {rule} {offset} of_part f = IsRuleOfToken f.here.token of_part rule

@@ -12,7 +12,7 @@ use Rattle.litmus_tokens.specs.declared.token.Mark.TheVariants.{And, Or, Implies
 use Rattle.litmus_tokens.specs.declared.token.Token.{Token}
 use Rattle.litmus_tokens.specs.declared.token.Token.TheVariants as tokens
 use Rattle.litmus_tokens.specs.Lexer.{is_not_ascii, is_word_byte, ends_raw, word_token, significant, mark_of}
-use Rattle.litmus_tokens.specs.Stage.{after}
+use Rattle.litmus_tokens.specs.Stage.{next_stage}
 use Rattle.litmus_tokens.specs.Texts.{TokenAt, ends_line, fresh_after}
 
 -- ---- gaps
@@ -62,7 +62,7 @@ pub record IsLabelLexeme (word s rest : List ℕ) : Type 0 where
   pub whole : s ≡ word ++ (gaps_text gaps ++ 58 ∷ [])
 
 -- the line that a text begins with
-pub record IsLine (line behind : List ℕ) : Type 0 where
+pub record IsFirstLine (line behind : List ℕ) : Type 0 where
   pub each : (k : ℕ) → k < length line → is_line_end (slice_index line k) ≡ false
   pub ends : 0 < length behind → is_line_end (slice_index behind 0) ≡ true
 
@@ -75,7 +75,7 @@ LacksEquals line = (k : ℕ) → k < length line → (slice_index line k == 61) 
 pub record IsKeyline (s rest : List ℕ) : Type 0 where
   pub line : List ℕ
   pub behind : List ℕ
-  pub is_line : IsLine line behind
+  pub is_line : IsFirstLine line behind
   pub whole : s ++ rest ≡ line ++ behind
   pub letter : is_letter (slice_index line 0) ≡ true
   pub equals : ℕ
@@ -156,7 +156,7 @@ pub data IsTestLexeme (stage : Stage) (fresh : Bool) (t : Token) (s rest : List 
       → begins_gap (s ++ rest) ≡ false → s ≡ b ∷ [] → t ≡ tokens.Bad
       → IsTestLexeme stage fresh t s rest
   NoKeyline : stage ≡ Head → fresh ≡ true → (b : ℕ) → is_letter b ≡ true → (line behind : List ℕ)
-      → IsLine line behind
+      → IsFirstLine line behind
       → s ++ rest ≡ line ++ behind → LacksEquals line → s ≡ b ∷ [] → t ≡ tokens.Bad
       → IsTestLexeme stage fresh t s rest
   NoQuoted : stage ≡ Head → LacksQuote rest → s ≡ 34 ∷ [] → t ≡ tokens.Bad
@@ -174,18 +174,18 @@ pub data TestPiece : Type 0 where
   Gap : (text : List ℕ) → TestPiece
   Lexeme : (token : Token) (text : List ℕ) → TestPiece
 
-abbrev pub text_of : List TestPiece → List ℕ
-text_of [] = []
-text_of (Gap s ∷ ps) = s ++ text_of ps
-text_of (Lexeme t s ∷ ps) = s ++ text_of ps
+abbrev pub test_text_of : List TestPiece → List ℕ
+test_text_of [] = []
+test_text_of (Gap s ∷ ps) = s ++ test_text_of ps
+test_text_of (Lexeme t s ∷ ps) = s ++ test_text_of ps
 
 -- each token leads to the part of the next; a line is fresh again behind a line end
 abbrev pub ArePieces : Stage → Bool → List TestPiece → Type 0
 ArePieces stage fresh [] = Unit {0}
 ArePieces stage fresh (Gap s ∷ ps) =
-    IsTestGap stage s (text_of ps) × ArePieces stage (fresh_after fresh (slice_index s 0)) ps
+    IsTestGap stage s (test_text_of ps) × ArePieces stage (fresh_after fresh (slice_index s 0)) ps
 ArePieces stage fresh (Lexeme t s ∷ ps) =
-    IsTestLexeme stage fresh t s (text_of ps) × ArePieces (after stage t) (ends_line t) ps
+    IsTestLexeme stage fresh t s (test_text_of ps) × ArePieces (next_stage stage t) (ends_line t) ps
 
 -- the tokens of pieces that begin at an offset, and the end
 abbrev pub tokens_at : ℕ → List TestPiece → List TokenAt
@@ -197,7 +197,7 @@ tokens_at n (Lexeme t s ∷ ps) = record { token = t; offset = n } ∷ tokens_at
 pub record IsTestCut (stage : Stage) (bytes : List ℕ) (ps : List TokenAt) : Type 0 where
   pub pieces : List TestPiece
   pub fine : ArePieces stage false pieces
-  pub whole : text_of pieces ≡ bytes
+  pub whole : test_text_of pieces ≡ bytes
   pub tokens : tokens_at 0 pieces ≡ ps
 
 -- each token begins behind the one before it, from this offset on

@@ -4,7 +4,7 @@ use Rattle.litmus_tokens.specs.declared.stage.Stage.TheVariants.{Magic, Tail}
 use Rattle.litmus_tokens.specs.Lexer.{is_word_byte, begins_comment}
 use Rattle.litmus_tokens.specs.Words.{is_test_name}
 use Rattle.text_values.specs.Letters.{is_letter}
-use Rattle.litmus_tokens.specs.Texts.{tokens_of, lexing}
+use Rattle.litmus_tokens.specs.Texts.{test_tokens_of, test_lexing}
 use Rattle.text_values.specs.declared.test.Place.{Place}
 use Rattle.text_values.specs.declared.test.Place.TheVariants as places
 use Rattle.text_values.specs.declared.test.Value as declared_value
@@ -16,7 +16,7 @@ use Rattle.text_values.specs.declared.test.Quantifier.{Quantifier}
 use Rattle.text_values.specs.declared.instruction.Instruction.{Instruction}
 use Rattle.text_values.specs.declared.instruction.Instruction.TheVariants as instructions
 use Rattle.text_values.specs.TestValue.{Formula, Constant, Holds, Not, Join, Content, level}
-use Rattle.litmus_tokens.specs.Conditions.{Limits, limits, IsConditionText, formula_meaning}
+use Rattle.litmus_tokens.specs.Conditions.{Limits, condition_limits, IsConditionText, tree_formula}
 use Rattle.litmus_table.specs.Late.{is_in}
 use Rattle.litmus_grammar.specs.Grammar.{IsTestText, test_meaning}
 use Rattle.litmus_grammar.specs.Texts.{late_test}
@@ -99,15 +99,15 @@ IsBelow above below None = Unit {0}
 IsBelow above below (Some l) = (is_in l above ≡ false) × (is_in l below ≡ true)
 
 -- each label stands once, and each branch goes down; above are the labels so far
-abbrev pub AreLabelled : List (List ℕ) → List Step → Type 0
-AreLabelled above [] = Unit {0}
-AreLabelled above (steps.Label l ∷ ss) = (is_in l above ≡ false) × AreLabelled (l ∷ above) ss
-AreLabelled above (steps.Instruction i ∷ ss) =
-    IsBelow above (labels ss) (step_target i) × AreLabelled above ss
+abbrev pub HaveLabelsOnce : List (List ℕ) → List Step → Type 0
+HaveLabelsOnce above [] = Unit {0}
+HaveLabelsOnce above (steps.Label l ∷ ss) = (is_in l above ≡ false) × HaveLabelsOnce (l ∷ above) ss
+HaveLabelsOnce above (steps.Instruction i ∷ ss) =
+    IsBelow above (labels ss) (step_target i) × HaveLabelsOnce above ss
 
 abbrev pub AreThreads : List (List Step) → Type 0
 AreThreads [] = Unit {0}
-AreThreads (t ∷ ts) = AreTestSteps t × AreLabelled [] t × AreThreads ts
+AreThreads (t ∷ ts) = AreTestSteps t × HaveLabelsOnce [] t × AreThreads ts
 
 -- ---- tests
 
@@ -148,14 +148,14 @@ pub record IsTest (v : Content) : Type 0 where
 pub record IsTextOfCondition (threads : ℕ) (bytes : List ℕ) (quantifier : Quantifier) (f : Formula)
     : Type 0 where
   pub most : Limits
-  pub text : IsConditionText most threads (tokens_of (lexing Tail bytes))
+  pub text : IsConditionText most threads (test_tokens_of (test_lexing Tail bytes))
   pub asked : text.quantifier ≡ quantifier
-  pub meant : formula_meaning text.condition ≡ f
+  pub meant : tree_formula text.condition ≡ f
 
 -- a test, which the later checks pass
 pub record IsTextOfTest (bytes : List ℕ) (v : Content) : Type 0 where
   pub most : Limits
-  pub text : IsTestText most (tokens_of (lexing Magic bytes))
+  pub text : IsTestText most (test_tokens_of (test_lexing Magic bytes))
   pub in_time : late_test text.tree ≡ None
   pub meant : test_meaning text.tree ≡ v
 
@@ -180,11 +180,11 @@ joins (Join op a b) = joins a + joins b + 1
 -- a text with this proposition in parentheses
 pub record IsFormulaWithinLimits (bytes : List ℕ) (f : Formula) : Type 0 where
   pub short : length bytes ≤ most_bytes
-  pub shallow : nesting f + 1 ≤ limits.nesting
-  pub few : joins f ≤ limits.operators
+  pub shallow : nesting f + 1 ≤ condition_limits.nesting
+  pub few : joins f ≤ condition_limits.operators
 
 -- What printing can break of the limits that a text kept which was read: its text may be longer,
 -- and have more parentheses.
 pub record StaysWithin (bytes : List ℕ) (f : Formula) : Type 0 where
   pub short : length bytes ≤ most_bytes
-  pub shallow : nesting f + 1 ≤ limits.nesting
+  pub shallow : nesting f + 1 ≤ condition_limits.nesting

@@ -8,8 +8,8 @@ ghost use Rattle.litmus_tokens.specs.declared.stage.Stage.{Stage};
 ghost use Rattle.litmus_tokens.specs.declared.stage.Stage.TheVariants.{Magic, Init, CellBegins, Tail};
 ghost use Rattle.litmus_tokens.specs.declared.token.Token.{Token};
 ghost use Rattle.litmus_tokens.specs.Stage.{part_rule};
-ghost use Rattle.litmus_tokens.specs.Texts.{TokenAt, stage_after, lexing};
-ghost use Rattle.litmus_tokens.specs.Conditions.{Limits, limits, IsConditionText};
+ghost use Rattle.litmus_tokens.specs.Texts.{TokenAt, stage_after, test_lexing};
+ghost use Rattle.litmus_tokens.specs.Conditions.{Limits, condition_limits, IsConditionText};
 ghost use Rattle.litmus_grammar.specs.Grammar.{TestTree, IsTestTree as IsTestTree, spelled_test, IsInitText, IsThreadText, IsLocationsText};
 ghost use Rattle.text_values.specs.declared.test.Quantifier.{Quantifier};
 ghost use Rattle.text_values.specs.TestValue.{Formula, Content};
@@ -93,7 +93,7 @@ pub fn refusals_of_parts()
     ensures locations { (threads : ℕ) (ps : List TokenAt) (rule : LitmusRule) (offset : ℕ)
         → (f : IsFault (IsLocationsText threads) Tail ps rule offset) → IsOfPart rules.Condition f }
     ensures condition { (threads : ℕ) (ps : List TokenAt) (rule : LitmusRule) (offset : ℕ)
-        → (f : IsFault (IsConditionText limits threads) Tail ps rule offset)
+        → (f : IsFault (IsConditionText condition_limits threads) Tail ps rule offset)
         → IsOfPart rules.Condition f }
 {}
 
@@ -101,10 +101,11 @@ pub fn refusals_of_parts()
 /// (blanks, line ends and comments) they cover the text, in rising order.
 pub fn tokens_cover_the_text()
     // The text, read from any part on, is cut into such pieces, and its tokens are theirs.
-    ensures cut { (start : Stage) (bytes : List ℕ) → IsTestCut start bytes (lexing start bytes) }
+    ensures cut { (start : Stage) (bytes : List ℕ) → IsTestCut start bytes
+        (test_lexing start bytes) }
     // It is cut in no other way.
     ensures only { (start : Stage) (bytes : List ℕ) (ps : List TokenAt) → IsTestCut start bytes ps
-        → lexing start bytes ≡ ps }
+        → test_lexing start bytes ≡ ps }
     // Each token begins behind the one before it.
-    ensures rising { (start : Stage) (bytes : List ℕ) → AreTestRising 0 (lexing start bytes) }
+    ensures rising { (start : Stage) (bytes : List ℕ) → AreTestRising 0 (test_lexing start bytes) }
 {}

@@ -9,7 +9,7 @@ use Rattle.litmus_tokens.specs.declared.stage.Stage.TheVariants.{Init}
 use Rattle.litmus_tokens.specs.declared.token.Token.{Token}
 use Rattle.litmus_tokens.specs.declared.token.Token.TheVariants as tokens
 use Rattle.litmus_tokens.specs.declared.token.Mark.TheVariants as marks
-use Rattle.litmus_tokens.specs.Texts.{TokenAt, tokens_of, lexing, StandsAt}
+use Rattle.litmus_tokens.specs.Texts.{TokenAt, test_tokens_of, test_lexing, StandsAt}
 use Rattle.litmus_tokens.specs.Words.{decimal, register_of, or_zero}
 use Rattle.text_values.specs.declared.test.Place.{Place}
 use Rattle.text_values.specs.declared.test.Place.TheVariants as whole_places
@@ -23,7 +23,7 @@ use Rattle.litmus_grammar.specs.declared.parts.TextKind.{TextKind}
 use Rattle.litmus_grammar.specs.declared.parts.TextKind.TheVariants as kinds
 use Rattle.litmus_grammar.specs.Grammar.{EntryTree, spelled_entry, members, entry_meaning, IsInitText}
 use Rattle.litmus_grammar.specs.InitMachine.{lacks_thread, missing}
-use Rattle.litmus_grammar.specs.TextMachine.{TextState, TextResult, run, start, threads_in}
+use Rattle.litmus_grammar.specs.TextMachine.{TextState, TextResult, run_parts, text_start, threads_in}
 use Rattle.litmus_ppc.specs.TextReading.{FailsAt}
 use Rattle.litmus_grammar.specs.Texts as texts
 use Rattle.litmus_grammar.specs.Texts.{late_entries, late_of_init, ReadsInit, IsInitFault}
@@ -33,7 +33,7 @@ use Rattle.litmus_grammar.proofs.Bounds.{is_short}
 use Rattle.litmus_grammar.proofs.Ends.{ends_done}
 use Rattle.litmus_grammar.proofs.InitLeft.{init_whole}
 use Rattle.litmus_grammar.proofs.InitStarts.{init_reading}
-use Rattle.litmus_grammar.specs.Laws.{entry_kept, AreStarts}
+use Rattle.litmus_grammar.specs.Laws.{entry_kept, AreEntryStarts}
 use Rattle.litmus_grammar.proofs.InitAcceptance.{init_taken}
 use Rattle.litmus_grammar.proofs.Outcomes.{fault_found, no_fault}
 use Rattle.litmus_grammar.proofs.Runs.{same_state, ends_last, follows}
@@ -71,7 +71,7 @@ module _ (threads : ℕ) (few : threads < 18446744073709551616) where
   lacks_is (Register t r) = lacks_when (decimal t) (cases_lt (decimal t) threads)
 
   pub late_matches : (all : List TokenAt) (before : List Token) (es : List EntryTree) (ss : List ℕ)
-      → AreStarts all before es ss
+      → AreEntryStarts all before es ss
       → Matches all (late_entries threads before es) (missing threads (map entry_kept es) ss)
   late_matches all before [] [] h = tt
   late_matches all before [] (s ∷ ss) h = absurd h
@@ -129,46 +129,46 @@ module _ (threads : ℕ) (few : threads < 18446744073709551616) where
 
   module _ (bytes : List ℕ) where
     abbrev text_tokens : List TokenAt
-    text_tokens = lexing (Init true false) bytes
+    text_tokens = test_lexing (Init true false) bytes
 
     abbrev made : TextResult
-    made = run (start kinds.Init threads) text_tokens
+    made = run_parts (text_start kinds.Init threads) text_tokens
 
     abbrev missing_in : TextState → Option ℕ
     missing_in s =
         missing (threads_in s.kind s.threads s.draft) s.draft.init.entries s.draft.init.starts
 
-    text_of : (s : TextState) → made ≡ Ok s → IsInitText (tokens_of text_tokens)
+    text_of : (s : TextState) → made ≡ Ok s → IsInitText (test_tokens_of text_tokens)
     text_of s e =
         let l = ends_last (Init true false) false 0 0 bytes in
-        init_whole threads text_tokens s e (ends_done (start kinds.Init threads) s l.0 l.1
-        (ap (run (start kinds.Init threads)) (sym l.2) ∙ e))
+        init_whole threads text_tokens s e (ends_done (text_start kinds.Init threads) s l.0 l.1
+        (ap (run_parts (text_start kinds.Init threads)) (sym l.2) ∙ e))
 
     -- what the machine holds behind a text
-    holds : (s : TextState) → made ≡ Ok s → (x : IsInitText (tokens_of text_tokens))
+    holds : (s : TextState) → made ≡ Ok s → (x : IsInitText (test_tokens_of text_tokens))
         → (s.draft.init.entries ≡ map entry_kept (members x.entries))
-        × AreStarts text_tokens (tokens.Mark marks.OpenBrace ∷ []) (members x.entries)
+        × AreEntryStarts text_tokens (tokens.Mark marks.OpenBrace ∷ []) (members x.entries)
         s.draft.init.starts
     holds s e x =
         let t = init_taken threads x.entries text_tokens x.fine x.whole in
         let same : t.state ≡ s = same_state t.state s (sym t.by ∙ e) in
         subst
         (λ (y : TextState). (y.draft.init.entries ≡ map entry_kept (members x.entries))
-        × AreStarts text_tokens (tokens.Mark marks.OpenBrace ∷ []) (members x.entries)
+        × AreEntryStarts text_tokens (tokens.Mark marks.OpenBrace ∷ []) (members x.entries)
         y.draft.init.starts) same
         (t.entries, t.stand)
 
-    matches : (s : TextState) → made ≡ Ok s → (x : IsInitText (tokens_of text_tokens))
-        → Matches text_tokens (late_of_init threads (tokens_of text_tokens) x) (missing_in s)
+    matches : (s : TextState) → made ≡ Ok s → (x : IsInitText (test_tokens_of text_tokens))
+        → Matches text_tokens (late_of_init threads (test_tokens_of text_tokens) x) (missing_in s)
     matches s e x =
-        let f = follows (start kinds.Init threads) s text_tokens e in
+        let f = follows (text_start kinds.Init threads) s text_tokens e in
         let h = holds s e x in
         let given : threads_in s.kind s.threads s.draft ≡ threads = ap (λ (k : TextKind). threads_in k s.threads s.draft) f.kind ∙ f.threads in
         let same : missing_in s ≡ missing threads (map entry_kept (members x.entries)) s.draft.init.starts
         =
         ap (λ (n : ℕ). missing n s.draft.init.entries s.draft.init.starts) given
         ∙ ap (λ (es : List InitEntry). missing threads es s.draft.init.starts) h.0 in
-        subst (Matches text_tokens (late_of_init threads (tokens_of text_tokens) x)) (sym same)
+        subst (Matches text_tokens (late_of_init threads (test_tokens_of text_tokens) x)) (sym same)
         (late_matches text_tokens (tokens.Mark marks.OpenBrace ∷ []) (members x.entries)
         s.draft.init.starts h.1)
 
@@ -182,7 +182,7 @@ module _ (threads : ℕ) (few : threads < 18446744073709551616) where
     init_found s h bounded none =
         let le = is_short bytes bounded in
         let x = text_of s (h le) in
-        let late = in_time (late_of_init threads (tokens_of text_tokens) x) (missing_in s) (matches s (h le) x) none in
+        let late = in_time (late_of_init threads (test_tokens_of text_tokens) x) (missing_in s) (matches s (h le) x) none in
         record { short = le; text = x; in_time = late; meant = sym (kept_means (tokens.Mark marks.OpenBrace ∷ []) (members x.entries) late) ∙ sym (holds s (h le) x).0 }
 
     pub init_only : (s : TextState) → (length bytes ≤ 65536 → made ≡ Ok s) → (v : List InitEntry)
@@ -203,7 +203,7 @@ module _ (threads : ℕ) (few : threads < 18446744073709551616) where
         → ReadsInit threads bytes v → faults_of.IsLitmusMemory d
     init_only_there s (faults.OutOfMemory e) h found v r = absurd found
     init_only_there s (faults.Refused rule offset) h found v r =
-        let m = subst (Matches text_tokens (late_of_init threads (tokens_of text_tokens) r.text)) found.1 (matches s (h r.short) r.text) in
+        let m = subst (Matches text_tokens (late_of_init threads (test_tokens_of text_tokens) r.text)) found.1 (matches s (h r.short) r.text) in
         subst (λ (l : Option Late). Matches text_tokens l (Some offset)) r.in_time m
 
     pub init_fault : (d : LitmusFault) → (length bytes ≤ 65536 → FailsAt d made)
@@ -218,8 +218,8 @@ module _ (threads : ℕ) (few : threads < 18446744073709551616) where
             texts.IsGrammar le (fault_found (texts.IsStart IsInitText (Init true false)) kinds.Init
             threads (init_reading threads) text_tokens rule offset (h le))
 
-    later_fault : (x : IsInitText (tokens_of text_tokens)) (l : Option Late) (offset : ℕ)
-        → late_of_init threads (tokens_of text_tokens) x ≡ l → Matches text_tokens l (Some offset)
+    later_fault : (x : IsInitText (test_tokens_of text_tokens)) (l : Option Late) (offset : ℕ)
+        → late_of_init threads (test_tokens_of text_tokens) x ≡ l → Matches text_tokens l (Some offset)
         → texts.IsLateFault (texts.IsStart IsInitText (Init true false)) (Init true false)
         (texts.late_of_start (late_of_init threads)) bytes rules.Init offset
     later_fault x (Some l) offset e m =
@@ -233,9 +233,9 @@ module _ (threads : ℕ) (few : threads < 18446744073709551616) where
     init_missing s (faults.Refused rule offset) h bounded found =
         let le = is_short bytes bounded in
         let x = text_of s (h le) in
-        let m = subst (Matches text_tokens (late_of_init threads (tokens_of text_tokens) x)) found.1 (matches s (h le) x) in
+        let m = subst (Matches text_tokens (late_of_init threads (test_tokens_of text_tokens) x)) found.1 (matches s (h le) x) in
         texts.IsLater le (subst
         (λ (r : _). texts.IsLateFault (texts.IsStart IsInitText (Init true false))
         (Init true false) (texts.late_of_start (late_of_init threads)) bytes r offset)
         (sym found.0)
-        (later_fault x (late_of_init threads (tokens_of text_tokens) x) offset refl m))
+        (later_fault x (late_of_init threads (test_tokens_of text_tokens) x) offset refl m))

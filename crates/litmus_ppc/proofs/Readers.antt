@@ -2,14 +2,14 @@
 use Rattle.std.proofs.Common.{◌≡◌, ℕ, ◌<◌, ◌≤◌, false, List, length, Ok, refl, sym, ap, ◌∙◌, inl, inr, ◌⊎◌}
 use Rattle.std.proofs.lemmas.Bool.{cases_lt}
 use Rattle.litmus_tokens.specs.declared.stage.Stage.TheVariants.{Tail}
-use Rattle.litmus_tokens.specs.Texts.{tokens_of, lexing}
+use Rattle.litmus_tokens.specs.Texts.{test_tokens_of, test_lexing}
 use Rattle.text_values.specs.declared.test.Quantifier.{Quantifier}
 use Rattle.text_values.specs.TestValue.{Formula}
-use Rattle.litmus_tokens.specs.Conditions.{limits, formula_meaning, IsConditionText}
+use Rattle.litmus_tokens.specs.Conditions.{condition_limits, tree_formula, IsConditionText}
 use Rattle.litmus_ppc.specs.declared.fault.LitmusFault.{LitmusFault}
 use Rattle.litmus_ppc.specs.declared.fault.LitmusFault.TheVariants as faults
 use Rattle.litmus_grammar.specs.declared.parts.TextKind.TheVariants as kinds
-use Rattle.litmus_grammar.specs.TextMachine.{TextState, TextResult, run, start}
+use Rattle.litmus_grammar.specs.TextMachine.{TextState, TextResult, run_parts, text_start}
 use Rattle.litmus_ppc.specs.TextReading.{FailsAt}
 use Rattle.litmus_grammar.specs.Texts as texts
 use Rattle.litmus_grammar.specs.Texts.{ReadsCondition, IsConditionFault}
@@ -26,22 +26,22 @@ pair q a = (q, a)
 
 module _ (threads : ℕ) (few : threads < 18446744073709551616) (bytes : List ℕ) where
   abbrev made : TextResult
-  made = run (start kinds.Condition threads) (lexing Tail bytes)
+  made = run_parts (text_start kinds.Condition threads) (test_lexing Tail bytes)
 
   text_of : (s : TextState) → made ≡ Ok s
-      → IsConditionText limits threads (tokens_of (lexing Tail bytes))
+      → IsConditionText condition_limits threads (test_tokens_of (test_lexing Tail bytes))
   text_of s e =
       let l = ends_last Tail false 0 0 bytes in
-      condition_whole threads few (lexing Tail bytes) s e (ends_done (start kinds.Condition threads)
-      s l.0 l.1 (ap (run (start kinds.Condition threads)) (sym l.2) ∙ e))
+      condition_whole threads few (test_lexing Tail bytes) s e (ends_done (text_start kinds.Condition threads)
+      s l.0 l.1 (ap (run_parts (text_start kinds.Condition threads)) (sym l.2) ∙ e))
 
   meant_by : (s : TextState) → made ≡ Ok s
-      → (x : IsConditionText limits threads (tokens_of (lexing Tail bytes)))
-      → pair x.quantifier (formula_meaning x.condition) ≡ pair s.draft.quantifier s.draft.formula
+      → (x : IsConditionText condition_limits threads (test_tokens_of (test_lexing Tail bytes)))
+      → pair x.quantifier (tree_formula x.condition) ≡ pair s.draft.quantifier s.draft.formula
   meant_by s e x =
-      let t = condition_taken threads few (lexing Tail bytes) x in
+      let t = condition_taken threads few (test_lexing Tail bytes) x in
       let same : t.0 ≡ s = same_state t.0 s (sym t.1 ∙ e) in
-      ap (λ (q : Quantifier). pair q (formula_meaning x.condition))
+      ap (λ (q : Quantifier). pair q (tree_formula x.condition))
       (sym t.2 ∙ ap (λ (y : TextState). y.draft.quantifier) same)
       ∙ ap (λ (a : Formula). pair s.draft.quantifier a)
       (sym t.3 ∙ ap (λ (y : TextState). y.draft.formula) same)
@@ -63,8 +63,8 @@ module _ (threads : ℕ) (few : threads < 18446744073709551616) (bytes : List �
       → (v : Quantifier × Formula) → ReadsCondition threads bytes v → faults_of.IsLitmusMemory d
   condition_only_memory (faults.OutOfMemory e) h v r = tt
   condition_only_memory (faults.Refused rule offset) h v r =
-      no_fault (IsConditionText limits threads) kinds.Condition threads
-      (condition_reading threads few) (lexing Tail bytes) rule offset r.text (h r.short)
+      no_fault (IsConditionText condition_limits threads) kinds.Condition threads
+      (condition_reading threads few) (test_lexing Tail bytes) rule offset r.text (h r.short)
 
   pub condition_fault : (d : LitmusFault) → (length bytes ≤ 65536 → FailsAt d made)
       → (65536 < length bytes → faults_of.IsLitmusTooLong d)
@@ -76,5 +76,5 @@ module _ (threads : ℕ) (few : threads < 18446744073709551616) (bytes : List �
           → IsConditionFault threads bytes rule offset
       choose (inl lt) = texts.IsTooLong lt (long lt).0 (long lt).1
       choose (inr le) =
-          texts.IsGrammar le (fault_found (IsConditionText limits threads) kinds.Condition threads
-          (condition_reading threads few) (lexing Tail bytes) rule offset (h le))
+          texts.IsGrammar le (fault_found (IsConditionText condition_limits threads) kinds.Condition threads
+          (condition_reading threads few) (test_lexing Tail bytes) rule offset (h le))

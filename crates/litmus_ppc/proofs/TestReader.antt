@@ -1,11 +1,11 @@
 -- What `read_test` answers is what the grammar and the later checks say.
 use Rattle.std.proofs.Common.{◌≡◌, ℕ, ◌+◌, ◌<◌, ◌≤◌, List, map, length, Option, Some, None, Result, Ok, Err, refl, sym, ap, ◌∙◌, subst, arith, inl, inr, ◌⊎◌}
 use Rattle.std.proofs.lemmas.Bool.{cases_lt}
-use Rattle.litmus_tokens.specs.Texts.{TokenAt, tokens_of, lexing}
+use Rattle.litmus_tokens.specs.Texts.{TokenAt, test_tokens_of, test_lexing}
 use Rattle.text_values.specs.declared.test.InitEntry.{InitEntry}
 use Rattle.text_values.specs.declared.test.Step.{Step}
 use Rattle.text_values.specs.TestValue.{Content}
-use Rattle.litmus_tokens.specs.Conditions.{limits, place_meaning, formula_meaning}
+use Rattle.litmus_tokens.specs.Conditions.{condition_limits, place_meaning, tree_formula}
 use Rattle.litmus_table.specs.Checks.{IsFoundAt}
 use Rattle.litmus_table.specs.Late.{Late, Note, or_else, first_late, columns_notes, late_columns}
 use Rattle.litmus_table.specs.Laws.{steps_of, AreNoted}
@@ -14,7 +14,7 @@ use Rattle.litmus_ppc.specs.declared.fault.LitmusFault.TheVariants as faults
 use Rattle.litmus_grammar.specs.declared.parts.TextKind.TheVariants as kinds
 use Rattle.litmus_grammar.specs.Grammar.{members, entry_meaning, TestTree, test_meaning, IsTestText}
 use Rattle.litmus_grammar.specs.InitMachine.{missing}
-use Rattle.litmus_grammar.specs.TextMachine.{TextState, TextResult, threads_in, run, start, first_stage}
+use Rattle.litmus_grammar.specs.TextMachine.{TextState, TextResult, threads_in, run_parts, text_start, first_stage}
 use Rattle.litmus_grammar.specs.TextMachine as text
 use Rattle.litmus_ppc.specs.TextReading.{FailsAt, test_of}
 use Rattle.litmus_grammar.specs.Texts as texts
@@ -78,18 +78,18 @@ nothing_found ps (Some l) f = absurd f
 
 module _ (bytes : List ℕ) where
   abbrev ps : List TokenAt
-  ps = lexing (first_stage kinds.Test) bytes
+  ps = test_lexing (first_stage kinds.Test) bytes
 
   abbrev made : TextResult
-  made = run (start kinds.Test 0) ps
+  made = run_parts (text_start kinds.Test 0) ps
 
   few_tokens : length bytes ≤ 65536 → length ps < 18446744073709551616
   few_tokens le = let h = lexed_length (first_stage kinds.Test) bytes in omega (arith, h, le)
 
-  text_of : (s : TextState) → length bytes ≤ 65536 → made ≡ Ok s → IsTestText limits (tokens_of ps)
+  text_of : (s : TextState) → length bytes ≤ 65536 → made ≡ Ok s → IsTestText condition_limits (test_tokens_of ps)
   text_of s le e =
       let l = lexed_ends (first_stage kinds.Test) bytes in
-      let d = ends_done (start kinds.Test 0) s l.inner l.offset (ap (run (start kinds.Test 0)) (sym l.split) ∙ e) in
+      let d = ends_done (text_start kinds.Test 0) s l.inner l.offset (ap (run_parts (text_start kinds.Test 0)) (sym l.split) ∙ e) in
       let x = test_whole ps s (few_tokens le) e d in
       record { tree = x.tree; fine = x.fine; whole = x.whole }
 
@@ -103,7 +103,7 @@ module _ (bytes : List ℕ) where
   keeps_by : (t : TestTree) → t.others + 1 < 18446744073709551616 → (r : TakesTest ps t)
       → Keeps
       (test_at r.stage text.Done (with_all t.name r.block r.reached
-      (map place_meaning (members t.observed)) t.quantifier (formula_meaning t.condition))) t
+      (map place_meaning (members t.observed)) t.quantifier (tree_formula t.condition))) t
   keeps_by t few r =
       let many : t.others + 1 ≡ length r.reached.threads = sym (sym (length-steps r.reached.threads) ∙ ap (λ (l : List (List Step)). length l) r.meant ∙ length-meaning 0 (t.others + 1) t.rows) in
       let m = late_matches (t.others + 1) few ps (before_entries t) (members t.init) r.block.starts r.stand in
@@ -131,10 +131,10 @@ module _ (bytes : List ℕ) where
             threads = l;
             observed = map place_meaning (members t.observed);
             quantifier = t.quantifier;
-            condition = formula_meaning t.condition;
+            condition = tree_formula t.condition;
           }
 
-  keeps : (s : TextState) → length bytes ≤ 65536 → made ≡ Ok s → (x : IsTestText limits (tokens_of ps))
+  keeps : (s : TextState) → length bytes ≤ 65536 → made ≡ Ok s → (x : IsTestText condition_limits (test_tokens_of ps))
       → Keeps s x.tree
   keeps s le e x =
       let few = few_of x.tree ps x.whole (few_tokens le) in
@@ -207,7 +207,7 @@ module _ (bytes : List ℕ) where
       le : length bytes ≤ 65536
       le = is_short bytes bounded
 
-      x : IsTestText limits (tokens_of ps)
+      x : IsTestText condition_limits (test_tokens_of ps)
       x = text_of s le (h le)
 
       by_found : (o : Option Late) → late_init x.tree ≡ o → Matches ps o (Some offset)
@@ -235,7 +235,7 @@ module _ (bytes : List ℕ) where
       le : length bytes ≤ 65536
       le = is_short bytes bounded
 
-      x : IsTestText limits (tokens_of ps)
+      x : IsTestText condition_limits (test_tokens_of ps)
       x = text_of s le (h le)
 
       by_found : late_init x.tree ≡ None → (o : Option Late) → late_labels x.tree ≡ o

@@ -1,6 +1,6 @@
 -- What `read_thread` answers is what the grammar and the checks of labels say.
 use Rattle.std.proofs.Common.{◌≡◌, ℕ, ◌<◌, ◌≤◌, List, [], ◌∷◌, length, Option, Some, None, Result, Ok, Err, refl, sym, ap, ◌∙◌, subst}
-use Rattle.litmus_tokens.specs.Texts.{TokenAt, tokens_of, lexing}
+use Rattle.litmus_tokens.specs.Texts.{TokenAt, test_tokens_of, test_lexing}
 use Rattle.text_values.specs.declared.test.Step.{Step}
 use Rattle.litmus_table.specs.Grammar.{thread_meaning}
 use Rattle.litmus_table.specs.Late.{Late, Note, or_else, late_notes, first_late, thread_notes}
@@ -10,7 +10,7 @@ use Rattle.litmus_table.specs.Reading.{first_steps}
 use Rattle.litmus_ppc.specs.declared.fault.LitmusFault.{LitmusFault}
 use Rattle.litmus_grammar.specs.declared.parts.TextKind.TheVariants as kinds
 use Rattle.litmus_grammar.specs.Grammar.{IsThreadText}
-use Rattle.litmus_grammar.specs.TextMachine.{TextState, TextResult, run, start, first_stage}
+use Rattle.litmus_grammar.specs.TextMachine.{TextState, TextResult, run_parts, text_start, first_stage}
 use Rattle.litmus_ppc.specs.TextReading.{FailsAt}
 use Rattle.litmus_grammar.specs.Texts.{ReadsThread, IsThreadFault, late_of_thread}
 use Rattle.litmus_ppc.specs.Faults.{IsLitmusTooLong, IsLitmusMemory, IsLateFound, IsLitmusFaultOf}
@@ -26,8 +26,8 @@ first_of_one : (ts : List table.ThreadSteps) (ss : List Step) → steps_of ts �
 first_of_one [] ss e = absurd cc
 first_of_one (t ∷ ts) ss e = cc
 
-steps_hold : (ps : List TokenAt) (s : TextState) (x : IsThreadText (tokens_of ps))
-    → run (start kinds.Thread 1) ps ≡ Ok s → kept_steps s ≡ thread_meaning x.tree
+steps_hold : (ps : List TokenAt) (s : TextState) (x : IsThreadText (test_tokens_of ps))
+    → run_parts (text_start kinds.Thread 1) ps ≡ Ok s → kept_steps s ≡ thread_meaning x.tree
 steps_hold ps s x e =
     let t = thread_taken 1 ps x in
     let same = same_state _ s (sym t.by ∙ e) in
@@ -39,10 +39,10 @@ alone (Some l) = refl
 
 module _ (bytes : List ℕ) where
   abbrev ps : List TokenAt
-  ps = lexing (first_stage kinds.Thread) bytes
+  ps = test_lexing (first_stage kinds.Thread) bytes
 
   abbrev made : TextResult
-  made = run (start kinds.Thread 1) ps
+  made = run_parts (text_start kinds.Thread 1) ps
 
   -- what the check of labels answered
   abbrev Answered : TextState → Result (Unit {0}) LitmusFault → Type 0
@@ -51,7 +51,7 @@ module _ (bytes : List ℕ) where
       → IsLateFound given r (first_late notes)
 
   finds : (s : TextState) (r : Result (Unit {0}) LitmusFault) → made ≡ Ok s → Answered s r
-      → (x : IsThreadText (tokens_of ps)) → IsLateFound ps r (late_of_thread (tokens_of ps) x)
+      → (x : IsThreadText (test_tokens_of ps)) → IsLateFound ps r (late_of_thread (test_tokens_of ps) x)
   finds s r e answered x =
       let t = thread_taken 1 ps x in
       let same = same_state _ s (sym t.by ∙ e) in

@@ -28,8 +28,8 @@ AddsEntry (Ok u) b made = made ≡ Some (block_of b)
 AddsEntry (Err e) b made = RefusesStep e made
 
 -- and what a token did.
-abbrev pub Steps : Result Bool StepError → InitExpectation → InitBlock → Option machine.Did → Type 0
-Steps (Ok true) expected b made = made ≡ Some (record { step = steps.Ends; block = block_of b })
-Steps (Ok false) expected b made =
+abbrev pub InitSteps : Result Bool StepError → InitExpectation → InitBlock → Option machine.Did → Type 0
+InitSteps (Ok true) expected b made = made ≡ Some (record { step = steps.Ends; block = block_of b })
+InitSteps (Ok false) expected b made =
     made ≡ Some (record { step = steps.Goes expected; block = block_of b })
-Steps (Err e) expected b made = RefusesStep e made
+InitSteps (Err e) expected b made = RefusesStep e made

@@ -22,7 +22,7 @@ part_of (parts.Item expected) = machine.Item expected
 part_of parts.WantsQuantifier = machine.WantsQuantifier
 part_of parts.AfterTilde = machine.AfterTilde
 part_of (parts.Proposition q frames used expected) =
-    machine.Proposition q (condition.stack_of frames.items) used (condition.expectation_of expected)
+    machine.Proposition q (condition.condition_stack_of frames.items) used (condition.condition_expectation_of expected)
 part_of parts.ListOrEnd = machine.ListOrEnd
 part_of parts.WantsEnd = machine.WantsEnd
 part_of parts.Done = machine.Done

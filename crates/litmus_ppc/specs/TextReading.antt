@@ -5,10 +5,10 @@ use Rattle.text_values.specs.TestValue.{Content, formula_of}
 use Rattle.litmus_tokens.specs.declared.step.StepError.{StepError}
 use Rattle.litmus_tokens.specs.declared.condition.Frame as code_frame
 use Rattle.litmus_tokens.specs.declared.condition.Expectation as code_expectation
-use Rattle.litmus_tokens.specs.ConditionReading.{stack_of, expectation_of}
+use Rattle.litmus_tokens.specs.ConditionReading.{condition_stack_of, condition_expectation_of}
 use Rattle.text_values.specs.declared.test.Quantifier.{Quantifier}
 use Rattle.litmus_table.specs.Laws.{steps_of}
-use Rattle.litmus_table.specs.Reading.{RefusesStep, table_of}
+use Rattle.litmus_table.specs.Reading.{RefusesStep, table_state_of}
 use Rattle.litmus_ppc.specs.declared.fault.LitmusFault.{LitmusFault}
 use Rattle.litmus_ppc.specs.declared.fault.LitmusFault.TheVariants as faults
 use Rattle.litmus_ppc.specs.declared.parts.Part as code_part
@@ -22,7 +22,7 @@ abbrev pub draft_of : code_draft.Draft → machine.Draft
 draft_of h = record {
   name = h.name;
   init = block_of h.init;
-  table = table_of h.table;
+  table = table_state_of h.table;
   observed = h.observed.items;
   quantifier = h.condition.quantifier;
   formula = formula_of h.condition.proposition;
@@ -51,10 +51,10 @@ state_of r =
 
 -- The step that a function took is that of the machine, unless memory ran out: the next part and
 -- the next draft,
-abbrev pub StepsTo : Result (Unit {0}) StepError → code_part.Part → code_draft.Draft
+abbrev pub StepsText : Result (Unit {0}) StepError → code_part.Part → code_draft.Draft
     → Option machine.Next → Type 0
-StepsTo (Ok u) p h made = made ≡ Some (record { part = part_of p; draft = draft_of h })
-StepsTo (Err e) p h made = RefusesStep e made
+StepsText (Ok u) p h made = made ≡ Some (record { part = part_of p; draft = draft_of h })
+StepsText (Err e) p h made = RefusesStep e made
 
 -- the same in a proposition, which ends or not,
 abbrev pub ReadsProposition : Result Bool StepError → Quantifier → List code_frame.Frame → ℕ
@@ -65,7 +65,7 @@ ReadsProposition (Ok false) q frames used expected h made =
     made
     ≡ Some (record {
       part =
-          machine.Proposition q (stack_of frames) used (expectation_of expected);
+          machine.Proposition q (condition_stack_of frames) used (condition_expectation_of expected);
       draft = draft_of h;
     })
 ReadsProposition (Err e) q frames used expected h made = RefusesStep e made

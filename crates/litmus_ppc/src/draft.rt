@@ -2,15 +2,15 @@
 
 ghost use Rattle.std.specs.Prelude.{◌≡◌, IfOk};
 ghost use Rattle.litmus_tokens.specs.ConditionMachine.{proposition_step};
-ghost use Rattle.litmus_tokens.specs.Conditions.{limits};
+ghost use Rattle.litmus_tokens.specs.Conditions.{condition_limits};
 ghost use Rattle.litmus_tokens.specs.PlaceMachine.{place_step};
-ghost use Rattle.litmus_tokens.specs.ConditionReading.{stack_of, expectation_of};
+ghost use Rattle.litmus_tokens.specs.ConditionReading.{condition_stack_of, condition_expectation_of};
 ghost use Rattle.text_values.specs.TestValue.{content_of};
-ghost use Rattle.litmus_table.specs.Machine.{named};
-ghost use Rattle.litmus_table.specs.Reading.{table_of, first_steps};
+ghost use Rattle.litmus_table.specs.Machine.{name_thread};
+ghost use Rattle.litmus_table.specs.Reading.{table_state_of, first_steps};
 ghost use Rattle.litmus_grammar.specs.TextMachine.{HasColumn, part_step, nothing, first_table, after_init, Done, title_read, table_result, item_start, item_result, next_item, item_read, proposition_result, threads_in};
 ghost use Rattle.litmus_ppc.specs.PartReading.{part_of};
-ghost use Rattle.litmus_ppc.specs.TextReading.{draft_of, test_of, StepsTo, ReadsProposition};
+ghost use Rattle.litmus_ppc.specs.TextReading.{draft_of, test_of, StepsText, ReadsProposition};
 
 use crate::init::InitBlock;
 use crate::parts::{
@@ -44,7 +44,7 @@ pub struct Draft {
 
 // The table before a text of this kind: a thread alone has one.
 fn first_table(alloc: Global, kind: TextKind) -> Result<Table, AllocError>
-    ensures { IfOk result (λ t. table_of t ≡ first_table kind) }
+    ensures { IfOk result (λ t. table_state_of t ≡ first_table kind) }
 {
     let mut table = Table::new(alloc);
     if is_thread(kind) {
@@ -111,7 +111,7 @@ impl Draft {
         offset: usize,
     ) -> Result<(), StepError>
         // It does what the machine does.
-        ensures { StepsTo result part.new self.new (part_step kind given (draft_of self.old)
+        ensures { StepsText result part.new self.new (part_step kind given (draft_of self.old)
             (part_of part.old) token offset) }
     {
         match part {
@@ -172,7 +172,7 @@ impl Draft {
     // The name of the test.
     #[inline(never)]
     fn title_read(&mut self, part: &mut Part, token: Token) -> Result<(), StepError>
-        ensures { StepsTo result part.new self.new (title_read (draft_of self.old) token) }
+        ensures { StepsText result part.new self.new (title_read (draft_of self.old) token) }
     {
         match token {
             Token::Word(name) => {
@@ -190,8 +190,8 @@ impl Draft {
     // The name of a column.
     #[inline(never)]
     fn column_read(&mut self, part: &mut Part, token: Token) -> Result<(), StepError>
-        ensures { StepsTo result part.new self.new (table_result (draft_of self.old) HasColumn
-            (named (table_of self.old.table) token)) }
+        ensures { StepsText result part.new self.new (table_result (draft_of self.old) HasColumn
+            (name_thread (table_state_of self.old.table) token)) }
     {
         self.table.name_read(token)?;
         part.go_to(Part::HasColumn);
@@ -208,7 +208,7 @@ impl Draft {
         expected: ItemExpectation,
         token: Token,
     ) -> Result<(), StepError>
-        ensures { StepsTo result part.new self.new
+        ensures { StepsText result part.new self.new
             (item_read kind threads (draft_of self.old) expected token) }
     {
         match expected {
@@ -227,7 +227,7 @@ impl Draft {
         threads: usize,
         token: Token,
     ) -> Result<(), StepError>
-        ensures { StepsTo result part.new self.new
+        ensures { StepsText result part.new self.new
             (next_item kind threads (draft_of self.old) token) }
     {
         match token {
@@ -241,7 +241,8 @@ impl Draft {
 
     // The first token of a place of the list.
     fn item_start(&mut self, part: &mut Part, threads: usize, token: Token) -> Result<(), StepError>
-        ensures { StepsTo result part.new self.new (item_start threads (draft_of self.old) token) }
+        ensures { StepsText result part.new self.new (item_start threads
+            (draft_of self.old) token) }
     {
         if !has_thread(threads, &token) {
             return Err(StepError::Refused);
@@ -256,7 +257,7 @@ impl Draft {
         within: PlaceExpectation,
         token: Token,
     ) -> Result<(), StepError>
-        ensures { StepsTo result part.new self.new
+        ensures { StepsText result part.new self.new
             (item_result (draft_of self.old) (place_step within token)) }
     {
         match place_step(within, token)? {
@@ -285,8 +286,10 @@ impl Draft {
         token: Token,
     ) -> Result<bool, StepError>
         ensures { ReadsProposition result quantifier frames.new.items operators.new expected.new
-            self.new (proposition_result (draft_of self.old) quantifier (proposition_step limits
-            threads (stack_of frames.old.items) operators.old (expectation_of expected.old)
+            self.new (proposition_result (draft_of self.old) quantifier
+            (proposition_step condition_limits
+            threads (condition_stack_of frames.old.items) operators.old
+            (condition_expectation_of expected.old)
             token)) }
     {
         let open = mem::replace(frames, Vec::new(alloc));

@@ -2,8 +2,8 @@
 
 ghost use Rattle.std.specs.Prelude.{◌≡◌, IfOk};
 ghost use Rattle.litmus_tokens.specs.PlaceMachine.{value_read};
-ghost use Rattle.litmus_grammar.specs.InitMachine.{start, location_key, register_key, added, added_if, token_key, word_key, entry_read, place_read, valued, step, lacks_thread, missing};
-ghost use Rattle.litmus_ppc.specs.InitReading.{block_of, AddsEntry, Steps};
+ghost use Rattle.litmus_grammar.specs.InitMachine.{init_start, location_key, register_key, added, added_if, token_key, word_key, entry_read, place_read, valued, init_step, lacks_thread, missing};
+ghost use Rattle.litmus_ppc.specs.InitReading.{block_of, AddsEntry, InitSteps};
 
 use litmus_grammar::InitExpectation;
 use litmus_tokens::{
@@ -66,7 +66,7 @@ fn expect(expected: &mut InitExpectation, next: InitExpectation)
 impl InitBlock {
     /// A block of which nothing was read.
     pub fn new(alloc: Global) -> InitBlock
-        ensures { block_of result ≡ start }
+        ensures { block_of result ≡ init_start }
     {
         InitBlock {
             alloc,
@@ -86,8 +86,8 @@ impl InitBlock {
         offset: usize,
     ) -> Result<bool, StepError>
         // It does what the machine does.
-        ensures { Steps result expected.new self.new
-            (step (block_of self.old) expected.old token offset) }
+        ensures { InitSteps result expected.new self.new
+            (init_step (block_of self.old) expected.old token offset) }
     {
         match mem::replace(expected, InitExpectation::WantsOpen) {
             InitExpectation::WantsOpen => match token {
@@ -125,7 +125,8 @@ impl InitBlock {
         token: Token,
         offset: usize,
     ) -> Result<bool, StepError>
-        ensures { Steps result expected.new self.new (entry_read (block_of self.old) token offset) }
+        ensures { InitSteps result expected.new self.new (entry_read
+            (block_of self.old) token offset) }
     {
         match token {
             Token::Mark(Mark::CloseBrace) => Ok(true),
@@ -143,7 +144,8 @@ impl InitBlock {
         within: PlaceExpectation,
         token: Token,
     ) -> Result<bool, StepError>
-        ensures { Steps result expected.new self.new (place_read (block_of self.old) within token) }
+        ensures { InitSteps result expected.new self.new (place_read
+            (block_of self.old) within token) }
     {
         self.note(&within, &token)?;
         match place_step(within, token)? {
@@ -162,7 +164,7 @@ impl InitBlock {
         place: Place,
         token: Token,
     ) -> Result<bool, StepError>
-        ensures { Steps result expected.new self.new
+        ensures { InitSteps result expected.new self.new
             (valued (block_of self.old) place (value_read token)) }
     {
         let value = value_read(token)?;

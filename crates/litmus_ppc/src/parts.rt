@@ -2,7 +2,7 @@
 
 ghost use Rattle.std.specs.Prelude.{◌≡◌};
 ghost use Rattle.litmus_tokens.specs.Texts.{ends_line, is_end, begins_tail};
-ghost use Rattle.litmus_grammar.specs.TextMachine.{is_thread, first_stage, is_word, is_filter_word, is_list_word, magic_read, title_ended, head_read, column_ended, word_quantifier, quantifier_read, exists_read, proposition, list_opened, item_ended, tail_start, end_read, list_start, after_init, after_list, first_part};
+ghost use Rattle.litmus_grammar.specs.TextMachine.{is_thread, first_stage, is_word_token, is_filter_word, is_list_word, magic_read, title_ended, head_read, column_ended, word_quantifier, quantifier_read, exists_read, proposition_part, list_opened, item_ended, tail_start, end_read, list_start, after_init, after_list, first_part};
 ghost use Rattle.litmus_ppc.specs.PartReading.{part_of, IsNextPart};
 
 use litmus_grammar::{InitExpectation, ItemExpectation, TextKind};
@@ -117,7 +117,7 @@ pub fn first_stage(kind: TextKind) -> Stage
 
 /// Whether the token is a word.
 pub fn is_word(token: &Token) -> bool
-    ensures { result ≡ is_word token.now }
+    ensures { result ≡ is_word_token token.now }
 {
     match token {
         Token::Word(_) => true,
@@ -355,7 +355,7 @@ pub fn exists_read(part: &mut Part, alloc: Global, token: &Token) -> Result<(), 
 }
 
 fn proposition(alloc: Global, quantifier: Quantifier) -> Part
-    ensures { part_of result ≡ proposition quantifier }
+    ensures { part_of result ≡ proposition_part quantifier }
 {
     Part::Proposition(quantifier, Vec::new(alloc), 0, Expectation::Wants)
 }

@@ -1,12 +1,12 @@
 //! Reads texts.
 
 ghost use Rattle.std.specs.Prelude.{◌≡◌, ◌<◌, ◌≤◌, List, length, IfOk, IfErr, MatchResult};
-ghost use Rattle.litmus_tokens.specs.Texts.{fresh_after, lexing};
+ghost use Rattle.litmus_tokens.specs.Texts.{fresh_after, test_lexing};
 ghost use Rattle.text_values.specs.TestValue.{Content, Formula, content_of, formula_of};
 ghost use Rattle.text_values.specs.declared.test.Quantifier.{Quantifier};
 ghost use Rattle.text_values.specs.declared.test.Step.{Step};
 ghost use Rattle.litmus_ppc.specs.Faults.{HasLitmusOffset, IsLitmusTooLong, IsLitmusMemory, IsLitmusFaultOf};
-ghost use Rattle.litmus_grammar.specs.TextMachine.{start, first_stage, run};
+ghost use Rattle.litmus_grammar.specs.TextMachine.{text_start, first_stage, run_parts};
 ghost use Rattle.litmus_ppc.specs.TextReading.{state_of, Runs, StepsAt};
 ghost use Rattle.litmus_grammar.specs.Texts.{ReadsTest, IsTestFault, ReadsInit, IsInitFault, ReadsThread, IsThreadFault, ReadsCondition, IsConditionFault, ReadsLocations, IsLocationsFault};
 
@@ -27,8 +27,8 @@ fn is_fresh_behind(is_fresh: bool, byte: u8) -> bool
 
 // Hands the tokens of a text on, up to its end.
 fn read_tokens(alloc: Global, bytes: &[u8], reader: &mut Reader) -> Result<(), LitmusFault>
-    ensures { StepsAt result reader.new (run (state_of reader.old)
-        (lexing (state_of reader.old).stage bytes.now)) }
+    ensures { StepsAt result reader.new (run_parts (state_of reader.old)
+        (test_lexing (state_of reader.old).stage bytes.now)) }
 {
     let mut offset = 0;
     // Whether the line holds nothing but blanks so far.
@@ -61,7 +61,8 @@ fn read_all(
     kind: TextKind,
     threads: usize,
 ) -> Result<Reader, LitmusFault>
-    ensures { Runs result (run (start kind threads) (lexing (first_stage kind) bytes.now)) }
+    ensures { Runs result (run_parts (text_start kind threads) (test_lexing
+        (first_stage kind) bytes.now)) }
 {
     let mut reader = match Reader::new(alloc, kind, threads) {
         Ok(reader) => reader,
@@ -81,7 +82,8 @@ fn read_whole(
     threads: usize,
 ) -> Result<Reader, LitmusFault>
     ensures runs { length bytes.now ≤ 65536
-        → Runs result (run (start kind threads) (lexing (first_stage kind) bytes.now)) }
+        → Runs result (run_parts (text_start kind threads) (test_lexing
+        (first_stage kind) bytes.now)) }
     ensures too_long { 65536 < length bytes.now → MatchResult result (λ _. ⊥) IsLitmusTooLong }
     ensures within { IfErr result (λ e. HasLitmusOffset (length bytes.now) e) }
 {

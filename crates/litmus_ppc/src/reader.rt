@@ -4,11 +4,11 @@ ghost use Rattle.std.specs.Prelude.{◌≡◌, ℕ, List, IfOk, IfErr};
 ghost use Rattle.litmus_tokens.specs.Texts.{TokenAt};
 ghost use Rattle.litmus_table.specs.Late.{Note, first_late};
 ghost use Rattle.litmus_table.specs.Laws.{AreNoted};
-ghost use Rattle.litmus_table.specs.Reading.{table_of};
+ghost use Rattle.litmus_table.specs.Reading.{table_state_of};
 ghost use Rattle.litmus_grammar.specs.Kept.{AreDraftUpTo};
 ghost use Rattle.litmus_ppc.specs.Faults.{HasLitmusOffset, IsMissingFound, IsLateFound};
 ghost use Rattle.litmus_grammar.specs.InitMachine.{missing};
-ghost use Rattle.litmus_grammar.specs.TextMachine.{start, with_offset, step, rule_at, stage_rule, threads_in};
+ghost use Rattle.litmus_grammar.specs.TextMachine.{text_start, with_offset, text_step, text_rule_at, stage_rule, threads_in};
 ghost use Rattle.litmus_ppc.specs.TextReading.{draft_of, state_of, StepsAt};
 
 use crate::draft::Draft;
@@ -33,7 +33,7 @@ pub struct Reader {
 impl Reader {
     /// A reader at the start of a text of this kind, for a test of so many threads.
     pub fn new(alloc: Global, kind: TextKind, threads: usize) -> Result<Reader, AllocError>
-        ensures { IfOk result (λ r. state_of r ≡ start kind threads) }
+        ensures { IfOk result (λ r. state_of r ≡ text_start kind threads) }
     {
         let draft = Draft::new(alloc, kind)?;
         Ok(Reader {
@@ -58,7 +58,7 @@ impl Reader {
     pub fn step(&mut self, token: Token, offset: usize) -> Result<(), LitmusFault>
         // It does what the machine does.
         ensures { StepsAt result self.new
-            (with_offset offset (step (state_of self.old) token offset)) }
+            (with_offset offset (text_step (state_of self.old) token offset)) }
     {
         let rule = self.rule(&token);
         let next = self.stage.after(&token);
@@ -82,7 +82,8 @@ impl Reader {
     // The rule that the token breaks if it cannot stand here.
     fn rule(&self, token: &Token) -> LitmusRule
         ensures { result
-            ≡ rule_at self.now.kind (table_of self.now.draft.table) self.now.stage token.now }
+            ≡ text_rule_at self.now.kind (table_state_of self.now.draft.table) self.now.stage
+            token.now }
     {
         match token {
             Token::Broken(rule) => *rule,
@@ -93,7 +94,8 @@ impl Reader {
     // The rule that the token breaks in the part that it stands in.
     fn stage_rule(&self, token: &Token) -> LitmusRule
         ensures { result
-            ≡ stage_rule self.now.kind (table_of self.now.draft.table) self.now.stage token.now }
+            ≡ stage_rule self.now.kind (table_state_of self.now.draft.table) self.now.stage
+            token.now }
     {
         match self.stage {
             Stage::CellBegins => self.draft.table.rule(is_thread(self.kind), token),

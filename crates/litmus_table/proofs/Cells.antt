@@ -18,11 +18,11 @@ use Rattle.litmus_table.specs.declared.opcode.DataOpcode.TheVariants as data_opc
 use Rattle.litmus_table.specs.declared.opcode.Opcode.{Opcode}
 use Rattle.litmus_table.specs.declared.opcode.Opcode.TheVariants as opcodes
 use Rattle.litmus_table.specs.declared.opcode.Want.{Want}
-use Rattle.litmus_table.specs.Words.{opcode_of, data_form, fits, all_fit, is_label, takes, registers, immediate, data_meaning, branch_meaning}
+use Rattle.litmus_table.specs.Words.{opcode_of, data_form, token_fits, all_fit, is_label, takes_operands, registers, immediate, data_meaning, branch_meaning}
 use Rattle.litmus_table.specs.Grammar.{InstructionTree, CellTree, spelled_label, spelled_instruction, spelled_cell, IsInstruction, label_steps, operation_steps, instruction_steps, cell_steps}
 use Rattle.litmus_table.specs.Late.{Note, Defines, Branches, branch_notes, instruction_notes, label_notes, cell_notes}
-use Rattle.litmus_table.specs.Machine.{ThreadSteps, noted, Pending, CellExpectation, Begins, Labelled, InInstruction, WantsLabel, Whole, TableState, pending_with, put_at, operation, operand, step, can_end}
-use Rattle.litmus_table.specs.Laws.{then_on, Mark, Defined, Branched, instruction_marks, step_marks, marks as marks_of, AreMarks}
+use Rattle.litmus_table.specs.Machine.{ThreadSteps, noted, Pending, CellExpectation, Begins, Labelled, InInstruction, WantsLabel, Whole, TableState, pending_with, put_at, operation, operand, table_step, can_end}
+use Rattle.litmus_table.specs.Laws.{then_on, LabelMark, Defined, Branched, instruction_marks, step_marks, label_marks as marks_of, AreMarks}
 use Rattle.litmus_table.proofs.Finishes.{Wants, form_wants}
 use Rattle.litmus_table.proofs.Values.{registers-with, value_after, value_of}
 
@@ -35,7 +35,7 @@ module _ (text : List texts.TokenAt) (whole : List Token) (byte : List Token →
   -- where tokens lead, behind these before them
   abbrev pub run_from : List Token → TableState → List Token → Option TableState
   run_from b s [] = Some s
-  run_from b s (t ∷ ts) = then_on (λ u. run_from (b ++ t ∷ []) u ts) (step s t (byte b))
+  run_from b s (t ∷ ts) = then_on (λ u. run_from (b ++ t ∷ []) u ts) (table_step s t (byte b))
 
   -- a thread with these steps more
   pub record Adds (t t' : ThreadSteps) (ss : List Step) (ns : List Note) : Type 0 where
@@ -62,10 +62,10 @@ module _ (text : List texts.TokenAt) (whole : List Token) (byte : List Token →
   marks-append (s ∷ ss) rs [] qs e = absurd (omega arith)
   marks-append (s ∷ ss) rs (p ∷ ps) qs e =
       let less : length ss ≡ length ps = omega arith in
-      ap (λ (l : List Mark). step_marks s p ++ l) (marks-append ss rs ps qs less)
+      ap (λ (l : List LabelMark). step_marks s p ++ l) (marks-append ss rs ps qs less)
       ∙ sym (append_assoc (step_marks s p) (marks_of ss ps) (marks_of rs qs))
 
-  are_marks-append : (ns os : List Note) (ms ls : List Mark) → AreMarks text ns ms
+  are_marks-append : (ns os : List Note) (ms ls : List LabelMark) → AreMarks text ns ms
       → AreMarks text os ls → AreMarks text (ns ++ os) (ms ++ ls)
   are_marks-append [] os [] ls a z = z
   are_marks-append (Defines w before ∷ ns) os (Defined v offset ∷ ms) ls a z =
@@ -127,7 +127,7 @@ module _ (text : List texts.TokenAt) (whole : List Token) (byte : List Token →
         (with_data op (rs ++ registers ops) (value_after v ops) offset) rest)
     operands_run op w ws rs v b [] rest f = absurd cc
     operands_run op w [] rs v b (t ∷ []) rest f =
-        let fit = (and_parts (fits w t) true f).0 in
+        let fit = (and_parts (token_fits w t) true f).0 in
         let q = pending_with (pending op (w ∷ []) rs v) [] t in
         let regs : q.registers ≡ rs ++ registers (t ∷ []) = sym (append-nil q.registers) ∙ registers-with t [] rs in (
           byte b,
@@ -138,9 +138,9 @@ module _ (text : List texts.TokenAt) (whole : List Token) (byte : List Token →
               regs,
         )
     operands_run op w [] rs v b (t ∷ u ∷ ops) rest f =
-        absurd (let e = (and_parts (fits w t) false f).1 in cc)
+        absurd (let e = (and_parts (token_fits w t) false f).1 in cc)
     operands_run op w (w' ∷ ws) rs v b (t ∷ ops) rest f =
-        let k = and_parts (fits w t) (all_fit (w' ∷ ws) ops) f in
+        let k = and_parts (token_fits w t) (all_fit (w' ∷ ws) ops) f in
         let q = pending_with (pending op (w ∷ w' ∷ ws) rs v) (w' ∷ ws) t in
         let r = operands_run op w' ws q.registers q.value (b ++ t ∷ []) ops rest k.1 in (
           r.0,
@@ -327,14 +327,14 @@ module _ (text : List texts.TokenAt) (whole : List Token) (byte : List Token →
               adds_step (steps.Instruction i) (byte b) (branch_notes (Some op) [] b') (subst
               (λ (ns : List Note). AreMarks text ns (instruction_marks i (byte b) ++ []))
               (sym none) (
-              subst (λ (ms : List Mark). AreMarks text [] (ms ++ [])) (sym unmarked) tt)));
+              subst (λ (ms : List LabelMark). AreMarks text [] (ms ++ [])) (sym unmarked) tt)));
           leads =
               word_first h w b rest o ∙ ap (then_on (λ u. run_from b' u rest)) (e (byte b))
               ∙ put_run (steps.Instruction i) (byte b) Whole b' rest;
         }
 
     operated : (h : CellExpectation) (op : Opcode) (w : List ℕ) (ops b rest : List Token) → starts h
-        → opcode_of w ≡ Some op → takes op ops ≡ true → whole ≡ b ++ (tokens.Word w ∷ (ops ++ rest))
+        → opcode_of w ≡ Some op → takes_operands op ops ≡ true → whole ≡ b ++ (tokens.Word w ∷ (ops ++ rest))
         → Operated h op w ops b rest
     operated h (opcodes.Data op) w ops b rest o e f all = data_run h op w ops b rest o e f
     operated h (opcodes.Branch condition) w ops b rest o e f all =

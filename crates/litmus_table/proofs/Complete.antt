@@ -8,12 +8,12 @@ use Rattle.litmus_tokens.specs.declared.token.Token.TheVariants as tokens
 use Rattle.litmus_tokens.specs.declared.token.Mark as declared_mark
 use Rattle.litmus_tokens.specs.declared.token.Mark.TheVariants as marks
 use Rattle.litmus_tokens.specs.Texts as texts
-use Rattle.litmus_tokens.specs.Texts.{tokens_of, StandsAt}
+use Rattle.litmus_tokens.specs.Texts.{test_tokens_of, StandsAt}
 use Rattle.text_values.specs.declared.test.Step.{Step}
 use Rattle.litmus_table.specs.Grammar.{InstructionTree, CellTree, RowTree, spelled_label, spelled_instruction, spelled_cell, spelled_cells, spelled_rows, spelled_steps, AreCells, AreRowTrees, cell_steps, cells_steps, nth_cell, column, columns_meaning}
 use Rattle.litmus_table.specs.Late.{Note, cell_notes, nth_notes, column_notes, thread_notes, columns_notes}
-use Rattle.litmus_table.specs.Machine.{ThreadSteps, fresh, CellExpectation, Begins, TableState, at, is_last, expected_step, step, can_end}
-use Rattle.litmus_table.specs.Laws.{then_on, run, steps_of, AreMarks, IsNoted, AreNoted, marks as marks_of}
+use Rattle.litmus_table.specs.Machine.{ThreadSteps, fresh, CellExpectation, Begins, TableState, at, is_last, expected_step, table_step, can_end}
+use Rattle.litmus_table.specs.Laws.{then_on, run_table, steps_of, AreMarks, IsNoted, AreNoted, label_marks as marks_of}
 use Rattle.litmus_table.proofs.Cells.{stand, run_from, Adds, adds_none, adds_both, cell_run}
 use Rattle.litmus_table.proofs.Finishes.{separator}
 
@@ -323,15 +323,15 @@ module _ (text : List texts.TokenAt) (whole : List Token) (byte : List Token →
   Bytes b (p ∷ ps) = (byte b ≡ p.offset) × Bytes (b ++ p.token ∷ []) ps
 
   pub run_is : (ps : List texts.TokenAt) (b : List Token) (s : TableState) → Bytes b ps
-      → run s ps ≡ runs b s (tokens_of ps)
+      → run_table s ps ≡ runs b s (test_tokens_of ps)
   run_is [] b s h = refl
   run_is (p ∷ ps) b s h =
-      ap (λ (k : ℕ). then_on (λ u. run u ps) (step s p.token k)) (sym h.0)
-      ∙ by_step (step s p.token (byte b)) (λ u. run_is ps (b ++ p.token ∷ []) u h.1)
+      ap (λ (k : ℕ). then_on (λ u. run_table u ps) (table_step s p.token k)) (sym h.0)
+      ∙ by_step (table_step s p.token (byte b)) (λ u. run_is ps (b ++ p.token ∷ []) u h.1)
     where
       by_step : (o : Option TableState)
-          → ((u : TableState) → run u ps ≡ runs (b ++ p.token ∷ []) u (tokens_of ps))
-          → then_on (λ u. run u ps) o ≡ then_on (λ u. runs (b ++ p.token ∷ []) u (tokens_of ps)) o
+          → ((u : TableState) → run_table u ps ≡ runs (b ++ p.token ∷ []) u (test_tokens_of ps))
+          → then_on (λ u. run_table u ps) o ≡ then_on (λ u. runs (b ++ p.token ∷ []) u (test_tokens_of ps)) o
       by_step None later = refl
       by_step (Some u) later = later u
 
@@ -342,19 +342,19 @@ byte_at (p ∷ ps) [] = p.offset
 byte_at (p ∷ ps) (t ∷ b) = byte_at ps b
 
 pub tokens-append : (ps qs : List texts.TokenAt)
-    → tokens_of (ps ++ qs) ≡ tokens_of ps ++ tokens_of qs
+    → test_tokens_of (ps ++ qs) ≡ test_tokens_of ps ++ test_tokens_of qs
 tokens-append [] qs = refl
 tokens-append (p ∷ ps) qs = ap (λ (l : List Token). p.token ∷ l) (tokens-append ps qs)
 
 pub stands_at : (ps rs : List texts.TokenAt) (b : List Token) (t : Token) (ts : List Token)
-    → tokens_of ps ≡ b ++ (t ∷ ts) → StandsAt (ps ++ rs) b (byte_at (ps ++ rs) b)
+    → test_tokens_of ps ≡ b ++ (t ∷ ts) → StandsAt (ps ++ rs) b (byte_at (ps ++ rs) b)
 stands_at [] rs [] t ts e = absurd cc
 stands_at [] rs (u ∷ b) t ts e = absurd cc
 stands_at (p ∷ ps) rs [] t ts e =
     record { before = []; here = p; behind = ps ++ rs; split = refl; same = refl; at_place = refl }
 stands_at (p ∷ ps) rs (u ∷ b) t ts e =
     let first : p.token ≡ u = cc in
-    let others : tokens_of ps ≡ b ++ (t ∷ ts) = cc in
+    let others : test_tokens_of ps ≡ b ++ (t ∷ ts) = cc in
     let r = stands_at ps rs b t ts others in
     record {
       before = p ∷ r.before;
@@ -362,11 +362,11 @@ stands_at (p ∷ ps) rs (u ∷ b) t ts e =
       behind = r.behind;
       split = ap (λ (l : List texts.TokenAt). p ∷ l) r.split;
       same =
-          ap (λ (x : Token). x ∷ tokens_of r.before) first ∙ ap (λ (l : List Token). u ∷ l) r.same;
+          ap (λ (x : Token). x ∷ test_tokens_of r.before) first ∙ ap (λ (l : List Token). u ∷ l) r.same;
       at_place = r.at_place;
     }
 
 pub byte_there : (qs : List texts.TokenAt) (p : texts.TokenAt) (zs : List texts.TokenAt)
-    → byte_at (qs ++ p ∷ zs) (tokens_of qs) ≡ p.offset
+    → byte_at (qs ++ p ∷ zs) (test_tokens_of qs) ≡ p.offset
 byte_there [] p zs = refl
 byte_there (q ∷ qs) p zs = byte_there qs p zs

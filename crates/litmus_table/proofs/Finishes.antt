@@ -14,9 +14,9 @@ use Rattle.litmus_table.specs.declared.opcode.Opcode.{Opcode}
 use Rattle.litmus_table.specs.declared.opcode.Opcode.TheVariants as opcodes
 use Rattle.litmus_table.specs.declared.opcode.Want.{Want}
 use Rattle.litmus_table.specs.declared.opcode.Want.TheVariants as wants
-use Rattle.litmus_table.specs.Words.{opcode_of, data_form, fits, branch_meaning}
-use Rattle.litmus_table.specs.Machine.{ThreadSteps, Pending, CellExpectation, Begins, Labelled, InInstruction, WantsLabel, Whole, TableState, first_of, pending_with, pending_after, instruction_of, put_at, at, is_last, ended, operation, begins, cell, goes_on, operand, target_read, expected_step, step, is_row_start, can_end}
-use Rattle.litmus_table.specs.Laws.{then_on, run, columns, FinishesTable, is_whole}
+use Rattle.litmus_table.specs.Words.{opcode_of, data_form, token_fits, branch_meaning}
+use Rattle.litmus_table.specs.Machine.{ThreadSteps, Pending, CellExpectation, Begins, Labelled, InInstruction, WantsLabel, Whole, TableState, first_of, pending_with, pending_after, instruction_of, put_at, at, is_last, table_ended, operation, begin_instruction, cell, goes_on, operand, target_read, expected_step, table_step, is_row_start, can_end}
+use Rattle.litmus_table.specs.Laws.{then_on, run_table, columns, FinishesTable, is_whole_table}
 use Rattle.litmus_table.proofs.Sound.{columns-expected}
 
 -- ---- an instruction that is not whole wants a token
@@ -51,7 +51,7 @@ module _ (threads : List ThreadSteps) (c offset : ℕ) where
   either_way true a z x y = x
   either_way false a z x y = y
 
-  open_end : (t : Token) → IsOpenAt (ended threads c t)
+  open_end : (t : Token) → IsOpenAt (table_ended threads c t)
   open_end (tokens.Mark marks.Semicolon) =
       either_way (is_last threads c) (at threads 0 Begins) None tt tt
   open_end (tokens.Mark marks.Bar) =
@@ -64,7 +64,7 @@ module _ (threads : List ThreadSteps) (c offset : ℕ) where
   open_word (Some (opcodes.Fence f)) = tt
   open_word None = tt
 
-  open_begin : (t : Token) → IsOpenAt (begins threads c t offset)
+  open_begin : (t : Token) → IsOpenAt (begin_instruction threads c t offset)
   open_begin (tokens.Word w) = open_word (opcode_of w)
   open_begin t = open_end t
 
@@ -94,18 +94,18 @@ module _ (threads : List ThreadSteps) (c offset : ℕ) where
   open_expectation (WantsLabel condition) t = open_target condition t
   open_expectation Whole t = open_end t
 
-stays_open : (ps : List texts.TokenAt) (s f : TableState) → IsOpen s.expected → run s ps ≡ Some f
+stays_open : (ps : List texts.TokenAt) (s f : TableState) → IsOpen s.expected → run_table s ps ≡ Some f
     → IsOpen f.expected
 stays_open [] s f o e = subst (λ (x : TableState). IsOpen x.expected) same o
   where
     same : s ≡ f
     same = cc
 stays_open (p ∷ ps) s f o e =
-    by_step (step s p.token p.offset)
+    by_step (table_step s p.token p.offset)
     (open_expectation s.threads s.column p.offset s.expected p.token) e (λ u. stays_open ps u f)
   where
-    by_step : (x : Option TableState) → IsOpenAt x → then_on (λ u. run u ps) x ≡ Some f
-        → ((u : TableState) → IsOpen u.expected → run u ps ≡ Some f → IsOpen f.expected)
+    by_step : (x : Option TableState) → IsOpenAt x → then_on (λ u. run_table u ps) x ≡ Some f
+        → ((u : TableState) → IsOpen u.expected → run_table u ps ≡ Some f → IsOpen f.expected)
         → IsOpen f.expected
     by_step None k m later = absurd cc
     by_step (Some u) k m later = later u k m
@@ -124,7 +124,7 @@ filler wants.Comma = tokens.Mark marks.Comma
 filler wants.Open = tokens.Mark marks.Open
 filler wants.Close = tokens.Mark marks.Close
 
-filler_fits : (w : Want) → fits w (filler w) ≡ true
+filler_fits : (w : Want) → token_fits w (filler w) ≡ true
 filler_fits wants.Register = refl
 filler_fits wants.Base = refl
 filler_fits wants.Immediate = refl
@@ -143,7 +143,7 @@ record CellEnds (s : TableState) : Type 0 where
   expected : CellExpectation
   ended : can_end expected ≡ true
   leads : (rest : List texts.TokenAt)
-      → run s (by ++ rest) ≡ run (stand threads s.column expected) rest
+      → run_table s (by ++ rest) ≡ run_table (stand threads s.column expected) rest
 
 module _ (threads : List ThreadSteps) (c : ℕ) where
   abbrev pending : DataOpcode → List Want → List ℕ → ℤ → Pending
@@ -162,7 +162,7 @@ module _ (threads : List ThreadSteps) (c : ℕ) where
         leads =
             λ rest. ap
             (λ (b : Bool).
-            then_on (λ u. run u rest) (operand threads c (if b then Some q else None) 0))
+            then_on (λ u. run_table u rest) (operand threads c (if b then Some q else None) 0))
             (filler_fits w);
       }
   filled op w (w' ∷ ws) rs v =
@@ -176,7 +176,7 @@ module _ (threads : List ThreadSteps) (c : ℕ) where
         ended = r.ended;
         leads =
             λ rest. ap
-            (λ (b : Bool). then_on (λ u. run u (r.by ++ rest))
+            (λ (b : Bool). then_on (λ u. run_table u (r.by ++ rest))
             (operand threads c (if b then Some q else None) 0))
             (filler_fits w) ∙ r.leads rest;
       }
@@ -201,9 +201,9 @@ module _ (threads : List ThreadSteps) (c : ℕ) where
 
 pub separator : (threads : List ThreadSteps) (c offset : ℕ) (h : CellExpectation) → can_end h ≡ true
     → (expected_step threads c h (tokens.Mark marks.Semicolon) offset
-    ≡ ended threads c (tokens.Mark marks.Semicolon))
+    ≡ table_ended threads c (tokens.Mark marks.Semicolon))
     × (expected_step threads c h (tokens.Mark marks.Bar) offset
-    ≡ ended threads c (tokens.Mark marks.Bar))
+    ≡ table_ended threads c (tokens.Mark marks.Bar))
 separator threads c offset Begins e = (refl, refl)
 separator threads c offset Labelled e = (refl, refl)
 separator threads c offset (InInstruction p) e = absurd cc
@@ -217,8 +217,8 @@ row_ends zero threads c h e le =
       rest = first_token (tokens.Mark marks.Semicolon) ∷ [];
       after = stand threads 0 Begins;
       by =
-          ap (then_on (λ u. run u [])) ((separator threads c 0 h e).0)
-          ∙ ap (λ (b : Bool). then_on (λ u. run u []) (if b then at threads 0 Begins else None))
+          ap (then_on (λ u. run_table u [])) ((separator threads c 0 h e).0)
+          ∙ ap (λ (b : Bool). then_on (λ u. run_table u []) (if b then at threads 0 Begins else None))
           (le-leb (length threads) (c + 1) (omega arith));
       ended = refl;
     }
@@ -232,18 +232,18 @@ row_ends (suc left) threads c h e le =
       rest = first_token (tokens.Mark marks.Semicolon) ∷ [];
       after = stand threads 0 Begins;
       by =
-          ap (then_on (λ u. run u [])) ((separator threads c 0 h e).0)
-          ∙ ap (λ (b : Bool). then_on (λ u. run u []) (if b then at threads 0 Begins else None)) k;
+          ap (then_on (λ u. run_table u [])) ((separator threads c 0 h e).0)
+          ∙ ap (λ (b : Bool). then_on (λ u. run_table u []) (if b then at threads 0 Begins else None)) k;
       ended = refl;
     }
     choose false k later = record {
       rest = first_token (tokens.Mark marks.Bar) ∷ later.rest;
       after = later.after;
       by =
-          ap (then_on (λ u. run u later.rest)) ((separator threads c 0 h e).1)
+          ap (then_on (λ u. run_table u later.rest)) ((separator threads c 0 h e).1)
           ∙ ap
           (λ (b : Bool).
-          then_on (λ u. run u later.rest) (if b then None else at threads (c + 1) Begins)) k
+          then_on (λ u. run_table u later.rest) (if b then None else at threads (c + 1) Begins)) k
           ∙ later.by;
       ended = later.ended;
     }
@@ -251,15 +251,15 @@ row_ends (suc left) threads c h e le =
 columns_open : (n : ℕ) → IsOpen (columns n).expected
 columns_open n = subst IsOpen (sym (columns-expected n)) tt
 
-pub table_finishes : (n : ℕ) (ps : List texts.TokenAt) (s : TableState) → run (columns n) ps ≡ Some s
+pub table_finishes : (n : ℕ) (ps : List texts.TokenAt) (s : TableState) → run_table (columns n) ps ≡ Some s
     → FinishesTable is_row_start s
 table_finishes n ps s e =
     let k = cell_ends s.threads s.column s.expected (stays_open ps (columns n) s (columns_open n) e) in
     let r = row_ends (length k.threads) k.threads s.column k.expected k.ended (omega arith) in
     record { rest = k.by ++ r.rest; after = r.after; by = k.leads r.rest ∙ r.by; ended = r.ended }
 
-pub thread_finishes : (ps : List texts.TokenAt) (s : TableState) → run (columns 0) ps ≡ Some s
-    → FinishesTable is_whole s
+pub thread_finishes : (ps : List texts.TokenAt) (s : TableState) → run_table (columns 0) ps ≡ Some s
+    → FinishesTable is_whole_table s
 thread_finishes ps s e =
     let k = cell_ends s.threads s.column s.expected (stays_open ps (columns 0) s tt e) in
     record { rest = k.by ++ []; after = stand k.threads s.column k.expected; by = k.leads []; ended = k.ended }

@@ -17,7 +17,7 @@ use Rattle.text_values.specs.declared.test.Step.TheVariants as steps
 use Rattle.litmus_table.specs.declared.late.LateFault.{LateFault}
 use Rattle.litmus_table.specs.Checks.{first_from, label_rule, target_rule, instruction_rule, or_later, first_fault, IsFoundAt}
 use Rattle.litmus_table.specs.Late.{Late, Note, Defines, Branches, is_in, defined, late_notes}
-use Rattle.litmus_table.specs.Laws.{Mark, Defined, Branched, instruction_marks, marks, AreMarks}
+use Rattle.litmus_table.specs.Laws.{LabelMark, Defined, Branched, instruction_marks, label_marks, AreMarks}
 
 -- the labels that steps define
 abbrev labels : List Step → List (List ℕ)
@@ -174,19 +174,19 @@ above_target w done more = choose (is_in w (labels done)) refl
 
 -- ---- notes
 
-abbrev mark_labels : List Mark → List (List ℕ)
+abbrev mark_labels : List LabelMark → List (List ℕ)
 mark_labels [] = []
 mark_labels (Defined w offset ∷ ms) = w ∷ mark_labels ms
 mark_labels (Branched w offset ∷ ms) = mark_labels ms
 
-branches_define : (i : Instruction) (offset : ℕ) (ms : List Mark)
+branches_define : (i : Instruction) (offset : ℕ) (ms : List LabelMark)
     → mark_labels (instruction_marks i offset ++ ms) ≡ mark_labels ms
 branches_define (instructions.BranchIf condition label) offset ms = refl
 branches_define (instructions.Branch label) offset ms = refl
 branches_define i offset ms = refl
 
 marks_define : (ss : List Step) (ps : List ℕ) → length ss ≡ length ps
-    → mark_labels (marks ss ps) ≡ labels ss
+    → mark_labels (label_marks ss ps) ≡ labels ss
 marks_define [] ps e = refl
 marks_define (s ∷ ss) [] e = absurd (omega arith)
 marks_define (steps.Label w ∷ ss) (p ∷ ps) e =
@@ -194,10 +194,10 @@ marks_define (steps.Label w ∷ ss) (p ∷ ps) e =
     ap (λ (l : List (List ℕ)). w ∷ l) (marks_define ss ps less)
 marks_define (steps.Instruction i ∷ ss) (p ∷ ps) e =
     let less : length ss ≡ length ps = omega arith in
-    branches_define i p (marks ss ps) ∙ marks_define ss ps less
+    branches_define i p (label_marks ss ps) ∙ marks_define ss ps less
 
 module _ (text : List texts.TokenAt) where
-  notes_define : (ns : List Note) (ms : List Mark) → AreMarks text ns ms
+  notes_define : (ns : List Note) (ms : List LabelMark) → AreMarks text ns ms
       → defined ns ≡ mark_labels ms
   notes_define [] [] a = refl
   notes_define (Defines w b ∷ ns) (Defined v p ∷ ms) a =
@@ -352,7 +352,7 @@ module _ (text : List texts.TokenAt) where
       choose false false = (refl, stands)
 
   pub late_found : (ss done : List Step) (ps : List ℕ) (above : List (List ℕ)) (ns : List Note)
-      → length ss ≡ length ps → AreMarks text ns (marks ss ps) → Above above done
+      → length ss ≡ length ps → AreMarks text ns (label_marks ss ps) → Above above done
       → Finds done ss ps above ns
   late_found [] done ps above [] e a h = tt
   late_found [] done ps above (Defines w b ∷ ns) e a h = absurd a
@@ -375,13 +375,13 @@ module _ (text : List texts.TokenAt) where
       by_kind i ns a
       (λ os m. late_found ss (done ++ steps.Instruction i ∷ []) ps above os less m
       (above_same i above done h))
-      (λ os m. notes_define os (marks ss ps) m ∙ marks_define ss ps less)
+      (λ os m. notes_define os (label_marks ss ps) m ∙ marks_define ss ps less)
     where
       branch : (j : Instruction) (v : List ℕ) (os : List Note)
-          → AreMarks text os (Branched v p ∷ marks ss ps)
-          → ((ns' : List Note) → AreMarks text ns' (marks ss ps)
+          → AreMarks text os (Branched v p ∷ label_marks ss ps)
+          → ((ns' : List Note) → AreMarks text ns' (label_marks ss ps)
           → Finds (done ++ steps.Instruction j ∷ []) ss ps above ns')
-          → ((ns' : List Note) → AreMarks text ns' (marks ss ps) → defined ns' ≡ labels ss)
+          → ((ns' : List Note) → AreMarks text ns' (label_marks ss ps) → defined ns' ≡ labels ss)
           → IsFoundAt text
           (or_later
           (target_rule (first_from v 0 (done ++ steps.Instruction j ∷ ss)) (length done)) p
@@ -402,10 +402,10 @@ module _ (text : List texts.TokenAt) where
           (further (steps.Instruction j) done ss ps above os (later os m.2)))
 
       by_kind : (j : Instruction) (os : List Note)
-          → AreMarks text os (instruction_marks j p ++ marks ss ps)
-          → ((ns' : List Note) → AreMarks text ns' (marks ss ps)
+          → AreMarks text os (instruction_marks j p ++ label_marks ss ps)
+          → ((ns' : List Note) → AreMarks text ns' (label_marks ss ps)
           → Finds (done ++ steps.Instruction j ∷ []) ss ps above ns')
-          → ((ns' : List Note) → AreMarks text ns' (marks ss ps) → defined ns' ≡ labels ss)
+          → ((ns' : List Note) → AreMarks text ns' (label_marks ss ps) → defined ns' ≡ labels ss)
           → IsFoundAt text
           (or_later
           (instruction_rule (λ x. first_from x 0 (done ++ steps.Instruction j ∷ ss)) j

@@ -8,7 +8,7 @@ use Rattle.litmus_table.specs.declared.opcode.DataOpcode.{DataOpcode}
 use Rattle.litmus_table.specs.declared.opcode.DataOpcode.TheVariants as data_opcodes
 use Rattle.litmus_table.specs.declared.opcode.Want.{Want}
 use Rattle.litmus_table.specs.declared.opcode.Want.TheVariants as wants
-use Rattle.litmus_table.specs.Words.{data_form, fits}
+use Rattle.litmus_table.specs.Words.{data_form, token_fits}
 use Rattle.litmus_table.specs.Machine.{Pending, registers_with, value_with, first_of, rest_of, pending_with, pending_as, pending_after}
 
 short : (op : DataOpcode) → length (data_form op) < 10
@@ -38,7 +38,7 @@ pending op ws rs n = record { opcode = op; wants = ws; registers = rs; value = n
 
 pub takes : (op : DataOpcode) (k m : ℕ) (rs rs' : List ℕ) (n n' : ℤ) (w : Want) (t : Token)
     → first_of (drop k (data_form op)) ≡ Some w → m ≡ min (k + 1) 18446744073709551615
-    → fits w t ≡ true → rs' ≡ registers_with t rs → n' ≡ value_with t n
+    → token_fits w t ≡ true → rs' ≡ registers_with t rs → n' ≡ value_with t n
     → pending_after (pending op (drop k (data_form op)) rs n) t
     ≡ Some (pending op (drop m (data_form op)) rs' n')
 takes op k m rs rs' n n' w t first more fit registers value =

@@ -14,7 +14,7 @@ use Rattle.litmus_table.specs.declared.opcode.Opcode.TheVariants as opcodes
 use Rattle.litmus_table.specs.declared.opcode.Want.{Want}
 use Rattle.litmus_table.specs.declared.late.PlacedThread.{PlacedThread}
 use Rattle.litmus_table.specs.Words.{opcode_of, branch_meaning}
-use Rattle.litmus_table.specs.Machine.{ThreadSteps, fresh, Pending, CellExpectation, Begins, Labelled, InInstruction, WantsLabel, Whole, TableState, put_at, at, finished, is_last, ended, operation, begins, cell, first_of, goes_on, operand, pending_after, target_read, expected_step, instruction_of}
+use Rattle.litmus_table.specs.Machine.{ThreadSteps, fresh, Pending, CellExpectation, Begins, Labelled, InInstruction, WantsLabel, Whole, TableState, put_at, at, finished, is_last, table_ended, operation, begin_instruction, cell, first_of, goes_on, operand, pending_after, target_read, expected_step, instruction_of}
 use Rattle.litmus_table.specs.Reading.{thread_of, threads_of}
 use Rattle.litmus_table.specs.Bounds.{AllAtMost, AreThreadsUpTo}
 
@@ -46,7 +46,7 @@ module _ (n p : ℕ) (le : p ≤ n) (ts : List ThreadSteps) (c : ℕ) (h : AreTh
   either_way true a z x y = x
   either_way false a z x y = y
 
-  after_end : (t : Token) → WithinSome n (ended ts c t)
+  after_end : (t : Token) → WithinSome n (table_ended ts c t)
   after_end (tokens.Mark marks.Semicolon) = either_way (is_last ts c) (at ts 0 Begins) None h tt
   after_end (tokens.Mark marks.Bar) = either_way (is_last ts c) None (at ts (c + 1) Begins) tt h
   after_end t = tt
@@ -57,7 +57,7 @@ module _ (n p : ℕ) (le : p ≤ n) (ts : List ThreadSteps) (c : ℕ) (h : AreTh
   after_word (Some (opcodes.Fence f)) = done (instructions.Fence f)
   after_word None = tt
 
-  after_begin : (t : Token) → WithinSome n (begins ts c t p)
+  after_begin : (t : Token) → WithinSome n (begin_instruction ts c t p)
   after_begin (tokens.Word w) = after_word (opcode_of w)
   after_begin t = after_end t
 

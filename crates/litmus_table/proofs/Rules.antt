@@ -19,9 +19,9 @@ use Rattle.litmus_tokens.specs.Faults.{Ruling, Always, Where, RulingSays, cell_r
 use Rattle.litmus_table.specs.declared.opcode.DataOpcode.{DataOpcode}
 use Rattle.litmus_table.specs.declared.opcode.Want.{Want}
 use Rattle.litmus_table.specs.declared.opcode.Want.TheVariants as wants
-use Rattle.litmus_table.specs.Words.{opcode_of, computing_of, accessing_of, fence_of, branch_of, fits}
-use Rattle.litmus_table.specs.Machine.{ThreadSteps, Pending, CellExpectation, Begins, Labelled, InInstruction, WantsLabel, Whole, TableState, first_of, pending_with, at, is_last, operation, operand, step, is_row_start, is_begin, can_end, wanted, is_base, is_zero, separator_rule, rule_at}
-use Rattle.litmus_table.specs.Laws.{is_whole, is_taken, ends_at, stands, IsInCell, GivesRules}
+use Rattle.litmus_table.specs.Words.{opcode_of, computing_of, accessing_of, fence_of, branch_of, token_fits}
+use Rattle.litmus_table.specs.Machine.{ThreadSteps, Pending, CellExpectation, Begins, Labelled, InInstruction, WantsLabel, Whole, TableState, first_of, pending_with, at, is_last, operation, operand, table_step, is_row_start, is_begin, can_end, wanted, is_base, is_zero, separator_rule, table_rule_at}
+use Rattle.litmus_table.specs.Laws.{is_whole_table, is_taken, ends_at, stands, IsInCell, GivesRules}
 use Rattle.litmus_tokens.specs.Texts.{begins_tail, is_end}
 
 no_opcode_r1 : opcode_of (codes "r1") ≡ None
@@ -62,7 +62,7 @@ no_opcode_tail w e =
 -- what stands behind the rows begins none
 tail_refused : (threads : List ThreadSteps) (c offset : ℕ) (h : CellExpectation) (t : Token)
     → is_begin h ≡ true → begins_tail t ≡ true
-    → step (record { threads = threads; column = c; expected = h }) t offset ≡ None
+    → table_step (record { threads = threads; column = c; expected = h }) t offset ≡ None
 tail_refused threads c offset Begins (tokens.Word w) b e =
     ap (operation threads c offset) (no_opcode_tail w e)
 tail_refused threads c offset Begins (tokens.Mark marks.Tilde) b e = refl
@@ -70,28 +70,28 @@ tail_refused threads c offset Begins t b e = absurd cc
 tail_refused threads c offset h t b e = absurd cc
 
 pub apart : (s : TableState) (t : Token) (offset : ℕ) → is_row_start s ≡ true → begins_tail t ≡ true
-    → step s t offset ≡ None
+    → table_step s t offset ≡ None
 apart s t offset b e =
     tail_refused s.threads s.column offset s.expected t
     ((and_parts (s.column == 0) (is_begin s.expected) b).1) e
 
 -- ---- what can stand
 
-taken_stands : (alone : Bool) (s : TableState) (t : Token) → is_taken (step s t 0) ≡ true
+taken_stands : (alone : Bool) (s : TableState) (t : Token) → is_taken (table_step s t 0) ≡ true
     → stands alone s t ≡ true
 taken_stands alone s t e = ap (λ (b : Bool). b || ends_at alone s t) e
 
 refused : (alone : Bool) (s : TableState) (t : Token) → stands alone s t ≡ false
-    → is_taken (step s t 0) ≡ true → ⊥
+    → is_taken (table_step s t 0) ≡ true → ⊥
 refused alone s t out into = absurd (let e = taken_stands alone s t into in cc)
 
 no_end : (alone : Bool) (s : TableState) (t : Token) → begins_tail t ≡ false → is_end t ≡ false
     → ends_at alone s t ≡ false
 no_end false s t b e = ap (λ (x : Bool). is_row_start s && x) b ∙ and-false (is_row_start s)
-no_end true s t b e = ap (λ (x : Bool). is_whole s && x) e ∙ and-false (is_whole s)
+no_end true s t b e = ap (λ (x : Bool). is_whole_table s && x) e ∙ and-false (is_whole_table s)
 
 -- a token that is neither taken nor an end
-cannot : (alone : Bool) (s : TableState) (t : Token) → step s t 0 ≡ None → ends_at alone s t ≡ false
+cannot : (alone : Bool) (s : TableState) (t : Token) → table_step s t 0 ≡ None → ends_at alone s t ≡ false
     → stands alone s t ≡ true → ⊥
 cannot alone s t none out into =
     absurd (
@@ -113,7 +113,7 @@ module _ (alone : Bool) (threads : List ThreadSteps) (c : ℕ) where
   -- ---- separators
 
   no_separator : (w : Want)
-      → (fits w (tokens.Mark marks.Bar) ≡ false) × (fits w (tokens.Mark marks.Semicolon) ≡ false)
+      → (token_fits w (tokens.Mark marks.Bar) ≡ false) × (token_fits w (tokens.Mark marks.Semicolon) ≡ false)
   no_separator wants.Register = (refl, refl)
   no_separator wants.Base = (refl, refl)
   no_separator wants.Immediate = (refl, refl)
@@ -129,7 +129,7 @@ module _ (alone : Bool) (threads : List ThreadSteps) (c : ℕ) where
   inside op ws rs v = here (InInstruction (pending op ws rs v))
 
   unfit : (op : DataOpcode) (w : Want) (ws : List Want) (rs : List ℕ) (v : ℤ) (t : Token)
-      → fits w t ≡ false → step (inside op (w ∷ ws) rs v) t 0 ≡ None
+      → token_fits w t ≡ false → table_step (inside op (w ∷ ws) rs v) t 0 ≡ None
   unfit op w ws rs v t out =
       ap
       (λ (b : Bool). operand threads c
@@ -141,14 +141,14 @@ module _ (alone : Bool) (threads : List ThreadSteps) (c : ℕ) where
   going op (w ∷ ws) rs v = refl
 
   fit : (op : DataOpcode) (w : Want) (ws : List Want) (rs : List ℕ) (v : ℤ) (t : Token)
-      → fits w t ≡ true → is_taken (step (inside op (w ∷ ws) rs v) t 0) ≡ true
+      → token_fits w t ≡ true → is_taken (table_step (inside op (w ∷ ws) rs v) t 0) ≡ true
   fit op w ws rs v t into =
       let p = pending_with (pending op (w ∷ ws) rs v) ws t in
       ap (λ (b : Bool). is_taken (operand threads c (if b then Some p else None) 0)) into
       ∙ going op ws p.registers p.value
 
   in_operands : (op : DataOpcode) (ws : List Want) (rs : List ℕ) (v : ℤ) (t : Token)
-      → ((w : Want) → fits w t ≡ false) → step (inside op ws rs v) t 0 ≡ None
+      → ((w : Want) → token_fits w t ≡ false) → table_step (inside op ws rs v) t 0 ≡ None
   in_operands op [] rs v t out = refl
   in_operands op (w ∷ ws) rs v t out = unfit op w ws rs v t (out w)
 
@@ -238,7 +238,7 @@ module _ (alone : Bool) (threads : List ThreadSteps) (c : ℕ) where
       (sym int)
       (by_expectation h out)
     where
-      not_here : (g : CellExpectation) → step (here g) zero_token 0 ≡ None
+      not_here : (g : CellExpectation) → table_step (here g) zero_token 0 ≡ None
           → Can alone (here g) zero_token → ⊥
       not_here g none =
           cannot alone (here g) zero_token none (no_end alone (here g) zero_token refl refl)
@@ -275,7 +275,7 @@ module _ (alone : Bool) (threads : List ThreadSteps) (c : ℕ) where
   abbrev tail_word : Token
   tail_word = tokens.Word (codes "exists")
 
-  not_one : (g : CellExpectation) → step (here g) one 0 ≡ None → Can alone (here g) one → ⊥
+  not_one : (g : CellExpectation) → table_step (here g) one 0 ≡ None → Can alone (here g) one → ⊥
   not_one g none = cannot alone (here g) one none (no_end alone (here g) one refl refl)
 
   zero_want : (op : DataOpcode) (ws : List Want) (rs : List ℕ) (v : ℤ)
@@ -306,7 +306,7 @@ module _ (alone : Bool) (threads : List ThreadSteps) (c : ℕ) where
   zero_ruled Begins k = inr (not_one Begins (ap (operation threads c 0) no_opcode_r1), refl)
   zero_ruled Labelled k = inr (not_one Labelled (ap (operation threads c 0) no_opcode_r1), refl)
 
-  no_exists : (w : Want) → fits w tail_word ≡ false
+  no_exists : (w : Want) → token_fits w tail_word ≡ false
   no_exists wants.Register = refl
   no_exists wants.Base = refl
   no_exists wants.Immediate = refl
@@ -316,7 +316,7 @@ module _ (alone : Bool) (threads : List ThreadSteps) (c : ℕ) where
   no_exists wants.Close = refl
 
   exists_refused : (h : CellExpectation) (w : List ℕ) → stands alone (here h) (tokens.Word w) ≡ false
-      → step (here h) tail_word 0 ≡ None
+      → table_step (here h) tail_word 0 ≡ None
   exists_refused (InInstruction p) w k =
       in_operands p.opcode p.wants p.registers p.value tail_word no_exists
   exists_refused (WantsLabel condition) w k =
@@ -367,7 +367,7 @@ module _ (alone : Bool) (threads : List ThreadSteps) (c : ℕ) where
           ap (λ (b : Bool). if b then rules.ZeroBase else rules.Instruction)
           (ap (λ (b : Bool). is_base (wanted h) && b) r ∙ and-false (is_base (wanted h)))
 
-      at_start : (b : Bool) → is_row_start (here h) ≡ b → step (here h) tail_word 0 ≡ None
+      at_start : (b : Bool) → is_row_start (here h) ≡ b → table_step (here h) tail_word 0 ≡ None
           → (k : LitmusRule) → k ≡ rules.Instruction
           → Ruled false (here h) tail_word rules.Filter
           (if b && true && true then rules.Filter else k)
@@ -380,7 +380,7 @@ module _ (alone : Bool) (threads : List ThreadSteps) (c : ℕ) where
       at_start false r none k i =
           inr (cannot false (here h) tail_word none (ap (λ (x : Bool). x && true) r), i)
 
-      text_alone : (b : Bool) → step (here h) tail_word 0 ≡ None → (k : LitmusRule)
+      text_alone : (b : Bool) → table_step (here h) tail_word 0 ≡ None → (k : LitmusRule)
           → k ≡ rules.Instruction
           → Ruled true (here h) tail_word rules.Filter
           (if b && false && true then rules.Filter else k)
@@ -389,7 +389,7 @@ module _ (alone : Bool) (threads : List ThreadSteps) (c : ℕ) where
       text_alone false none k i =
           inr (cannot true (here h) tail_word none (and-false (can_end h)), i)
 
-      by_kind : (a : Bool) → step (here h) tail_word 0 ≡ None → (k : LitmusRule)
+      by_kind : (a : Bool) → table_step (here h) tail_word 0 ≡ None → (k : LitmusRule)
           → k ≡ rules.Instruction
           → Ruled a (here h) tail_word rules.Filter (if is_row_start (here h) && not a && true then rules.Filter
           else k)
@@ -473,7 +473,7 @@ module _ (alone : Bool) (threads : List ThreadSteps) (c : ℕ) where
     numbers : (h : CellExpectation) (negative : Bool) (ds : List ℕ)
         → stands alone (here h) (tokens.Number negative ds) ≡ false
         → Ruling_says h (cell_ruling stage (tokens.Number negative ds))
-        (rule_at alone (here h) (tokens.Number negative ds))
+        (table_rule_at alone (here h) (tokens.Number negative ds))
     numbers h negative ds out = choose (is_int negative ds) refl
       where
         choose : (b : Bool) → is_int negative ds ≡ b
@@ -490,7 +490,7 @@ module _ (alone : Bool) (threads : List ThreadSteps) (c : ℕ) where
             (and-false (is_zero (wanted h))) ∙ sym inner
 
     ruled : (h : CellExpectation) (t : Token) → stands alone (here h) t ≡ false
-        → Ruling_says h (cell_ruling stage t) (rule_at alone (here h) t)
+        → Ruling_says h (cell_ruling stage t) (table_rule_at alone (here h) t)
     ruled h (tokens.Mark marks.Semicolon) out =
         says_where h (tokens.Mark marks.Bar) rules.Columns (separator_rule h)
         (semicolon_ruled h out)

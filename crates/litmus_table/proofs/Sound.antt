@@ -8,17 +8,17 @@ use Rattle.litmus_tokens.specs.declared.token.Token.{Token}
 use Rattle.litmus_tokens.specs.declared.token.Token.TheVariants as tokens
 use Rattle.litmus_tokens.specs.declared.token.Mark.TheVariants as marks
 use Rattle.litmus_tokens.specs.Texts as texts
-use Rattle.litmus_tokens.specs.Texts.{tokens_of}
+use Rattle.litmus_tokens.specs.Texts.{test_tokens_of}
 use Rattle.text_values.specs.declared.instruction.BranchCondition.{BranchCondition}
 use Rattle.text_values.specs.declared.test.Step.{Step}
 use Rattle.litmus_table.specs.declared.opcode.DataOpcode.{DataOpcode}
 use Rattle.litmus_table.specs.declared.opcode.Opcode.{Opcode}
 use Rattle.litmus_table.specs.declared.opcode.Opcode.TheVariants as opcodes
 use Rattle.litmus_table.specs.declared.opcode.Want.{Want}
-use Rattle.litmus_table.specs.Words.{opcode_of, fits, all_fit}
+use Rattle.litmus_table.specs.Words.{opcode_of, token_fits, all_fit}
 use Rattle.litmus_table.specs.Grammar.{InstructionTree, CellTree, RowTree, spelled_instruction, spelled_cell, spelled_cells, spelled_rows, spelled_steps, IsInstruction, AreCells, AreRowTrees}
-use Rattle.litmus_table.specs.Machine.{ThreadSteps, fresh, first_of, pending_after, Pending, CellExpectation, Begins, Labelled, InInstruction, WantsLabel, Whole, TableState, pending_with, put_at, at, is_last, ended, operation, begins, cell, goes_on, operand, target_read, expected_step, step, is_row_start, can_end, is_begin}
-use Rattle.litmus_table.specs.Laws.{IsTable, IsThread, then_on, run, columns, is_whole}
+use Rattle.litmus_table.specs.Machine.{ThreadSteps, fresh, first_of, pending_after, Pending, CellExpectation, Begins, Labelled, InInstruction, WantsLabel, Whole, TableState, pending_with, put_at, at, is_last, table_ended, operation, begin_instruction, cell, goes_on, operand, target_read, expected_step, table_step, is_row_start, can_end, is_begin}
+use Rattle.litmus_table.specs.Laws.{IsTable, IsThread, then_on, run_table, columns, is_whole_table}
 
 -- ---- what is left of a cell, before its tail
 
@@ -44,7 +44,7 @@ module _ (Tail Cell : ℕ → List Token → Type 0) where
   module _ (n : ℕ)
       (here : (c : ℕ) (ts tail : List Token) → Tail c tail → Left Begins ts tail → Cell c ts)
       (behind : (threads : List ThreadSteps) (c : ℕ) (t : Token) (ts : List Token)
-      → length threads ≡ n + 1 → c ≤ n → After ts (ended threads c t) → Tail c (t ∷ ts))
+      → length threads ≡ n + 1 → c ≤ n → After ts (table_ended threads c t) → Tail c (t ∷ ts))
     where
       module _ (threads : List ThreadSteps) (c : ℕ) (size : length threads ≡ n + 1) (there : c ≤ n)
           (offset : ℕ) (ts : List Token) where
@@ -79,10 +79,10 @@ module _ (Tail Cell : ℕ → List Token → Type 0) where
         )
         after_word w None e r = absurd r
 
-        no_instruction : (t : Token) → After ts (ended threads c t) → Reads c Labelled (t ∷ ts)
+        no_instruction : (t : Token) → After ts (table_ended threads c t) → Reads c Labelled (t ∷ ts)
         no_instruction t r = (t ∷ ts, behind threads c t ts size there r, (None, tt, refl))
 
-        after_begin : (t : Token) → After ts (begins threads c t offset) → Reads c Labelled (t ∷ ts)
+        after_begin : (t : Token) → After ts (begin_instruction threads c t offset) → Reads c Labelled (t ∷ ts)
         after_begin (tokens.Word w) r = after_word w (opcode_of w) refl r
         after_begin t r = no_instruction t r
 
@@ -102,7 +102,7 @@ module _ (Tail Cell : ℕ → List Token → Type 0) where
         abbrev pending : DataOpcode → List Want → List ℕ → ℤ → Pending
         pending op ws rs v = record { opcode = op; wants = ws; registers = rs; value = v }
 
-        more_operands : (p : Pending) (w : Want) (ws : List Want) (t : Token) → fits w t ≡ true
+        more_operands : (p : Pending) (w : Want) (ws : List Want) (t : Token) → token_fits w t ≡ true
             → After ts (operand threads c (Some (pending_with p ws t)) offset)
             → (tail : List Token) × Tail c tail × (operands : List Token)
             × (all_fit (w ∷ ws) operands ≡ true) × (t ∷ ts ≡ operands ++ tail)
@@ -120,9 +120,9 @@ module _ (Tail Cell : ℕ → List Token → Type 0) where
             → After ts (expected_step threads c (InInstruction (pending op ws rs v)) t offset)
             → Reads c (InInstruction (pending op ws rs v)) (t ∷ ts)
         after_operand op [] rs v t r = absurd r
-        after_operand op (w ∷ ws) rs v t r = choose (fits w t) refl r
+        after_operand op (w ∷ ws) rs v t r = choose (token_fits w t) refl r
           where
-            choose : (b : Bool) → fits w t ≡ b
+            choose : (b : Bool) → token_fits w t ≡ b
                 → After ts (operand threads c
                 (if b then Some (pending_with (pending op (w ∷ ws) rs v) ws t) else None)
                 offset) → Reads c (InInstruction (pending op (w ∷ ws) rs v)) (t ∷ ts)
@@ -162,7 +162,7 @@ module _ (Tail Cell : ℕ → List Token → Type 0) where
         fits_put : (s : Step) (h : CellExpectation) → Fits (at (put_at c s offset threads) c h)
         fits_put s h = (length-put c s offset threads ∙ size, there)
 
-        fits_end : (t : Token) → Fits (ended threads c t)
+        fits_end : (t : Token) → Fits (table_ended threads c t)
         fits_end (tokens.Mark marks.Semicolon) = choose (is_last threads c)
           where
             choose : (b : Bool) → Fits (if b then at threads 0 Begins else None)
@@ -182,7 +182,7 @@ module _ (Tail Cell : ℕ → List Token → Type 0) where
         fits_word (Some (opcodes.Fence f)) = fits_put _ Whole
         fits_word None = tt
 
-        fits_begin : (t : Token) → Fits (begins threads c t offset)
+        fits_begin : (t : Token) → Fits (begin_instruction threads c t offset)
         fits_begin (tokens.Word w) = fits_word (opcode_of w)
         fits_begin t = fits_end t
 
@@ -213,22 +213,22 @@ module _ (Tail Cell : ℕ → List Token → Type 0) where
       pub reads : (may_end : TableState → Bool)
           → ((s : TableState) → s.column ≤ n → may_end s ≡ true → Reads s.column s.expected [])
           → (ps : List texts.TokenAt) (s f : TableState) → length s.threads ≡ n + 1 → s.column ≤ n
-          → run s ps ≡ Some f → may_end f ≡ true → Reads s.column s.expected (tokens_of ps)
+          → run_table s ps ≡ Some f → may_end f ≡ true → Reads s.column s.expected (test_tokens_of ps)
       reads may_end base [] s f size there e m =
           base s there (subst (λ (x : TableState). may_end x ≡ true) (sym same) m)
         where
           same : s ≡ f
           same = cc
       reads may_end base (p ∷ ps) s f size there e m =
-          after_expectation s.threads s.column size there p.offset (tokens_of ps) s.expected p.token
-          (by_step (step s p.token p.offset)
+          after_expectation s.threads s.column size there p.offset (test_tokens_of ps) s.expected p.token
+          (by_step (table_step s p.token p.offset)
           (fits_expectation s.threads s.column size there p.offset s.expected p.token) e
           (λ u. reads may_end base ps u f))
         where
-          by_step : (o : Option TableState) → Fits o → then_on (λ u. run u ps) o ≡ Some f
-              → ((u : TableState) → length u.threads ≡ n + 1 → u.column ≤ n → run u ps ≡ Some f
-              → may_end f ≡ true → Reads u.column u.expected (tokens_of ps))
-              → After (tokens_of ps) o
+          by_step : (o : Option TableState) → Fits o → then_on (λ u. run_table u ps) o ≡ Some f
+              → ((u : TableState) → length u.threads ≡ n + 1 → u.column ≤ n → run_table u ps ≡ Some f
+              → may_end f ≡ true → Reads u.column u.expected (test_tokens_of ps))
+              → After (test_tokens_of ps) o
           by_step None k x later = absurd cc
           by_step (Some u) k x later = later u k.0 k.1 x m
 
@@ -255,7 +255,7 @@ rows_of n ts (inr r) =
     }
 
 table_behind : (n : ℕ) (threads : List ThreadSteps) (c : ℕ) (t : Token) (ts : List Token)
-    → length threads ≡ n + 1 → c ≤ n → After (TableTail n) (TableCell n) ts (ended threads c t)
+    → length threads ≡ n + 1 → c ≤ n → After (TableTail n) (TableCell n) ts (table_ended threads c t)
     → TableTail n c (t ∷ ts)
 table_behind n threads c (tokens.Mark marks.Semicolon) ts size there r =
     choose (is_last threads c) refl r
@@ -326,8 +326,8 @@ pub columns-expected : (n : ℕ) → (columns n).expected ≡ Begins
 columns-expected zero = refl
 columns-expected (suc n) = columns-expected n
 
-pub table_sound : (n : ℕ) (ps : List texts.TokenAt) (s : TableState) → run (columns n) ps ≡ Some s
-    → is_row_start s ≡ true → IsTable n (tokens_of ps)
+pub table_sound : (n : ℕ) (ps : List texts.TokenAt) (s : TableState) → run_table (columns n) ps ≡ Some s
+    → is_row_start s ≡ true → IsTable n (test_tokens_of ps)
 table_sound n ps s e m =
     let first = columns-column n in
     let r = reads (TableTail n) (TableCell n) n (λ c ts tail t l. inr (tail, t, l)) (table_behind n) is_row_start
@@ -335,10 +335,10 @@ table_sound n ps s e m =
     let b = and_parts (u.column == 0) (is_begin u.expected) k in
     table_ends n u.column u.expected b.1 (is_zero u.column b.0))
     ps (columns n) s (columns-length n) (omega arith) e m in
-    rows_of n (tokens_of ps) (subst
-    (λ (h : CellExpectation). Reads (TableTail n) (TableCell n) 0 h (tokens_of ps))
+    rows_of n (test_tokens_of ps) (subst
+    (λ (h : CellExpectation). Reads (TableTail n) (TableCell n) 0 h (test_tokens_of ps))
     (columns-expected n) (subst
-    (λ (c : ℕ). Reads (TableTail n) (TableCell n) c (columns n).expected (tokens_of ps))
+    (λ (c : ℕ). Reads (TableTail n) (TableCell n) c (columns n).expected (test_tokens_of ps))
     first r))
 
 -- ---- the text of a thread alone
@@ -350,7 +350,7 @@ abbrev ThreadCell : ℕ → List Token → Type 0
 ThreadCell c ts = (tail : List Token) × ThreadTail c tail × Left Begins ts tail
 
 thread_behind : (threads : List ThreadSteps) (c : ℕ) (t : Token) (ts : List Token)
-    → length threads ≡ 0 + 1 → c ≤ 0 → After ThreadTail ThreadCell ts (ended threads c t)
+    → length threads ≡ 0 + 1 → c ≤ 0 → After ThreadTail ThreadCell ts (table_ended threads c t)
     → ThreadTail c (t ∷ ts)
 thread_behind threads c (tokens.Mark marks.Semicolon) ts size there r = choose (is_last threads c) r
   where
@@ -379,10 +379,10 @@ thread_ends c (InInstruction p) e = absurd cc
 thread_ends c (WantsLabel condition) e = absurd cc
 thread_ends c Whole e = ([], ([], tt, refl), refl)
 
-pub thread_sound : (ps : List texts.TokenAt) (s : TableState) → run (columns 0) ps ≡ Some s
-    → is_whole s ≡ true → IsThread (tokens_of ps)
+pub thread_sound : (ps : List texts.TokenAt) (s : TableState) → run_table (columns 0) ps ≡ Some s
+    → is_whole_table s ≡ true → IsThread (test_tokens_of ps)
 thread_sound ps s e m =
-    let r = reads ThreadTail ThreadCell 0 (λ c ts tail t l. (tail, t, l)) thread_behind is_whole (λ u there k. thread_ends u.column u.expected k) ps (columns 0) s refl (omega arith) e m in
+    let r = reads ThreadTail ThreadCell 0 (λ c ts tail t l. (tail, t, l)) thread_behind is_whole_table (λ u there k. thread_ends u.column u.expected k) ps (columns 0) s refl (omega arith) e m in
     record {
       tree = record { first = r.2.0; others = r.1.0 };
       fine = (r.2.1, r.1.1);

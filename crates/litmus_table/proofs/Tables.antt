@@ -3,14 +3,14 @@ use Rattle.std.proofs.Common.{◌≡◌, ℕ, zero, suc, ◌+◌, List, [], ◌�
 use Rattle.std.proofs.Math.Numerals.{add-one}
 use Rattle.litmus_tokens.specs.declared.token.Token.{Token}
 use Rattle.litmus_tokens.specs.Texts as texts
-use Rattle.litmus_tokens.specs.Texts.{tokens_of, StandsAt}
+use Rattle.litmus_tokens.specs.Texts.{test_tokens_of, StandsAt}
 use Rattle.litmus_tokens.specs.Faults.{Begins}
 use Rattle.text_values.specs.declared.test.Step.{Step}
 use Rattle.litmus_table.specs.Grammar.{spelled_rows, spelled_thread, columns_meaning, cells_steps, column}
 use Rattle.litmus_table.specs.Late.{column_notes, columns_notes}
-use Rattle.litmus_table.specs.Machine.{ThreadSteps, fresh, TableState, widened, step}
+use Rattle.litmus_table.specs.Machine.{ThreadSteps, fresh, TableState, widened, table_step}
 use Rattle.litmus_table.specs.Machine as machine
-use Rattle.litmus_table.specs.Laws.{IsTable, IsThread, then_on, run, columns, TakesAll, TakesRows, TakesCells, AreNoted}
+use Rattle.litmus_table.specs.Laws.{IsTable, IsThread, then_on, run_table, columns, TakesAll, TakesRows, TakesCells, AreNoted}
 use Rattle.litmus_table.proofs.Cells.{stand}
 use Rattle.litmus_table.proofs.Complete.{runs, freshes, rows_steps, rows_steps-column, gathered, fresh_steps, table_run, thread_run, Bytes, run_is, byte_at, tokens-append, stands_at, byte_there}
 use Rattle.litmus_table.proofs.Finishes.{table_finishes, thread_finishes}
@@ -20,10 +20,10 @@ bytes : (text : List texts.TokenAt) (whole : List Token)
     (stands : (b : List Token) (t : Token) (ts : List Token) → whole ≡ b ++ (t ∷ ts)
     → StandsAt text b (byte_at text b))
     (qs ps rs : List texts.TokenAt)
-    → text ≡ qs ++ (ps ++ rs) → Bytes text whole (byte_at text) stands (tokens_of qs) ps
+    → text ≡ qs ++ (ps ++ rs) → Bytes text whole (byte_at text) stands (test_tokens_of qs) ps
 bytes text whole stands qs [] rs e = tt
 bytes text whole stands qs (p ∷ ps) rs e = (
-  ap (λ (l : List texts.TokenAt). byte_at l (tokens_of qs)) e ∙ byte_there qs p (ps ++ rs),
+  ap (λ (l : List texts.TokenAt). byte_at l (test_tokens_of qs)) e ∙ byte_there qs p (ps ++ rs),
   subst (λ (l : List Token). Bytes text whole (byte_at text) stands l ps)
       (tokens-append qs (p ∷ [])) (bytes text whole stands (qs ++ p ∷ []) ps rs
       (e ∙ sym (append_assoc qs (p ∷ []) (ps ++ rs)))),
@@ -34,7 +34,7 @@ module _ (qs ps rs : List texts.TokenAt) where
   text = qs ++ ps ++ rs
 
   abbrev whole : List Token
-  whole = tokens_of (qs ++ ps)
+  whole = test_tokens_of (qs ++ ps)
 
   abbrev byte : List Token → ℕ
   byte b = byte_at text b
@@ -59,16 +59,16 @@ module _ (qs ps rs : List texts.TokenAt) where
   length-freshes zero = refl
   length-freshes (suc n) = let e = length-freshes n in omega arith
 
-  run_text : (s : TableState) (ts : List Token) → tokens_of ps ≡ ts
-      → run s ps ≡ runs text whole byte stands (tokens_of qs) s ts
+  run_text : (s : TableState) (ts : List Token) → test_tokens_of ps ≡ ts
+      → run_table s ps ≡ runs text whole byte stands (test_tokens_of qs) s ts
   run_text s ts e =
-      run_is text whole byte stands ps (tokens_of qs) s
+      run_is text whole byte stands ps (test_tokens_of qs) s
       (bytes text whole stands qs ps rs (append_assoc qs ps rs))
-      ∙ ap (λ (l : List Token). runs text whole byte stands (tokens_of qs) s l) e
+      ∙ ap (λ (l : List Token). runs text whole byte stands (test_tokens_of qs) s l) e
 
-  pub table_complete : (n : ℕ) (t : IsTable n (tokens_of ps)) → TakesRows n qs ps rs t.rows
+  pub table_complete : (n : ℕ) (t : IsTable n (test_tokens_of ps)) → TakesRows n qs ps rs t.rows
   table_complete n t =
-      let b = tokens_of qs in
+      let b = test_tokens_of qs in
       let threads = freshes text whole byte stands (suc n) in
       let many : length threads ≡ n + 1 = length-freshes (suc n) ∙ sym (add-one n) in
       let r = table_run text whole byte stands n t.rows threads b t.fine many (tokens-append qs ps ∙ ap (λ (l : List Token). b ++ l) t.whole) in
@@ -83,16 +83,16 @@ module _ (qs ps rs : List texts.TokenAt) where
       record {
         after = stand r.after 0 machine.Begins;
         by =
-            ap (λ (s : TableState). run s ps) (columns_are n)
+            ap (λ (s : TableState). run_table s ps) (columns_are n)
             ∙ run_text (stand threads 0 machine.Begins) (spelled_rows t.rows []) t.whole ∙ r.leads;
         ended = refl;
         meant = g.0 ∙ ap (λ (k : ℕ). columns_meaning 0 k t.rows) more;
         noted = subst (λ (k : ℕ). AreNoted text (columns_notes 0 k b t.rows) r.after) more g.1;
       }
 
-  pub thread_complete : (t : IsThread (tokens_of ps)) → TakesCells qs ps rs t.tree
+  pub thread_complete : (t : IsThread (test_tokens_of ps)) → TakesCells qs ps rs t.tree
   thread_complete t =
-      let b = tokens_of qs in
+      let b = test_tokens_of qs in
       let r = thread_run text whole byte stands t.tree.first t.tree.others fresh b t.fine (tokens-append qs ps ∙ ap (λ (l : List Token). b ++ l) t.whole) in
       let h = fresh_steps text whole byte stands r.after _ _ r.adds in
       record {
@@ -106,59 +106,59 @@ module _ (qs ps rs : List texts.TokenAt) where
 -- ---- beginnings
 
 run-append : (ps qs : List texts.TokenAt) (s : TableState)
-    → run s (ps ++ qs) ≡ then_on (λ u. run u qs) (run s ps)
+    → run_table s (ps ++ qs) ≡ then_on (λ u. run_table u qs) (run_table s ps)
 run-append [] qs s = refl
-run-append (p ∷ ps) qs s = by_step (step s p.token p.offset) (run-append ps qs)
+run-append (p ∷ ps) qs s = by_step (table_step s p.token p.offset) (run-append ps qs)
   where
     by_step : (o : Option TableState)
-        → ((u : TableState) → run u (ps ++ qs) ≡ then_on (λ v. run v qs) (run u ps))
-        → then_on (λ u. run u (ps ++ qs)) o ≡ then_on (λ u. run u qs) (then_on (λ u. run u ps) o)
+        → ((u : TableState) → run_table u (ps ++ qs) ≡ then_on (λ v. run_table v qs) (run_table u ps))
+        → then_on (λ u. run_table u (ps ++ qs)) o ≡ then_on (λ u. run_table u qs) (then_on (λ u. run_table u ps) o)
     by_step None later = refl
     by_step (Some u) later = later u
 
-taken_first : (s f : TableState) (ps qs : List texts.TokenAt) → run s (ps ++ qs) ≡ Some f → TakesAll s ps
-taken_first s f ps qs e = choose (run s ps) refl (sym (run-append ps qs s) ∙ e)
+taken_first : (s f : TableState) (ps qs : List texts.TokenAt) → run_table s (ps ++ qs) ≡ Some f → TakesAll s ps
+taken_first s f ps qs e = choose (run_table s ps) refl (sym (run-append ps qs s) ∙ e)
   where
-    choose : (o : Option TableState) → run s ps ≡ o → then_on (λ u. run u qs) o ≡ Some f → TakesAll s ps
+    choose : (o : Option TableState) → run_table s ps ≡ o → then_on (λ u. run_table u qs) o ≡ Some f → TakesAll s ps
     choose None k m = absurd cc
     choose (Some u) k m = record { after = u; by = k }
 
-taken_on : (s u f : TableState) (ps qs : List texts.TokenAt) → run s ps ≡ Some u → run u qs ≡ Some f
-    → run s (ps ++ qs) ≡ Some f
-taken_on s u f ps qs e m = run-append ps qs s ∙ ap (then_on (λ v. run v qs)) e ∙ m
+taken_on : (s u f : TableState) (ps qs : List texts.TokenAt) → run_table s ps ≡ Some u → run_table u qs ≡ Some f
+    → run_table s (ps ++ qs) ≡ Some f
+taken_on s u f ps qs e m = run-append ps qs s ∙ ap (then_on (λ v. run_table v qs)) e ∙ m
 
 abbrev unplaced : List Token → List texts.TokenAt
 unplaced [] = []
 unplaced (t ∷ ts) = record { token = t; offset = 0 } ∷ unplaced ts
 
-tokens-unplaced : (ts : List Token) → tokens_of (unplaced ts) ≡ ts
+tokens-unplaced : (ts : List Token) → test_tokens_of (unplaced ts) ≡ ts
 tokens-unplaced [] = refl
 tokens-unplaced (t ∷ ts) = ap (λ (l : List Token). t ∷ l) (tokens-unplaced ts)
 
 tokens-behind : (ps : List texts.TokenAt) (ts : List Token)
-    → tokens_of (ps ++ unplaced ts) ≡ tokens_of ps ++ ts
+    → test_tokens_of (ps ++ unplaced ts) ≡ test_tokens_of ps ++ ts
 tokens-behind ps ts =
-    tokens-append ps (unplaced ts) ∙ ap (λ (l : List Token). tokens_of ps ++ l) (tokens-unplaced ts)
+    tokens-append ps (unplaced ts) ∙ ap (λ (l : List Token). test_tokens_of ps ++ l) (tokens-unplaced ts)
 
 pub table_begins : (n : ℕ) (ps : List texts.TokenAt) → TakesAll (columns n) ps
-    → Begins (IsTable n) (tokens_of ps)
+    → Begins (IsTable n) (test_tokens_of ps)
 table_begins n ps t =
     let f = table_finishes n ps t.after t.by in
-    record { rest = tokens_of f.rest; text = subst (IsTable n) (tokens-append ps f.rest) (table_sound n (ps ++ f.rest) f.after (taken_on (columns n) t.after f.after ps f.rest t.by f.by) f.ended) }
+    record { rest = test_tokens_of f.rest; text = subst (IsTable n) (tokens-append ps f.rest) (table_sound n (ps ++ f.rest) f.after (taken_on (columns n) t.after f.after ps f.rest t.by f.by) f.ended) }
 
-pub table_taken : (n : ℕ) (ps : List texts.TokenAt) → Begins (IsTable n) (tokens_of ps)
+pub table_taken : (n : ℕ) (ps : List texts.TokenAt) → Begins (IsTable n) (test_tokens_of ps)
     → TakesAll (columns n) ps
 table_taken n ps b =
     let r = table_complete [] (ps ++ unplaced b.rest) [] n (subst (IsTable n) (sym (tokens-behind ps b.rest)) b.text) in
     taken_first (columns n) r.after ps (unplaced b.rest) r.by
 
 pub thread_begins : (ps : List texts.TokenAt) → TakesAll (columns 0) ps
-    → Begins IsThread (tokens_of ps)
+    → Begins IsThread (test_tokens_of ps)
 thread_begins ps t =
     let f = thread_finishes ps t.after t.by in
-    record { rest = tokens_of f.rest; text = subst IsThread (tokens-append ps f.rest) (thread_sound (ps ++ f.rest) f.after (taken_on (columns 0) t.after f.after ps f.rest t.by f.by) f.ended) }
+    record { rest = test_tokens_of f.rest; text = subst IsThread (tokens-append ps f.rest) (thread_sound (ps ++ f.rest) f.after (taken_on (columns 0) t.after f.after ps f.rest t.by f.by) f.ended) }
 
-pub thread_taken : (ps : List texts.TokenAt) → Begins IsThread (tokens_of ps) → TakesAll (columns 0) ps
+pub thread_taken : (ps : List texts.TokenAt) → Begins IsThread (test_tokens_of ps) → TakesAll (columns 0) ps
 thread_taken ps b =
     let r = thread_complete [] (ps ++ unplaced b.rest) [] (subst IsThread (sym (tokens-behind ps b.rest)) b.text) in
     taken_first (columns 0) r.after ps (unplaced b.rest) r.by

@@ -9,7 +9,7 @@ use Rattle.litmus_table.specs.declared.opcode.DataOpcode.{DataOpcode}
 use Rattle.litmus_table.specs.declared.opcode.DataOpcode.TheVariants as data_opcodes
 use Rattle.litmus_table.specs.declared.opcode.Want.{Want}
 use Rattle.litmus_table.specs.declared.opcode.Want.TheVariants as wants
-use Rattle.litmus_table.specs.Words.{data_form, fits, all_fit, registers, immediate}
+use Rattle.litmus_table.specs.Words.{data_form, token_fits, all_fit, registers, immediate}
 use Rattle.litmus_table.specs.Machine.{registers_with, or_value, value_with}
 
 pub registers-with : (t : Token) (ts : List Token) (rs : List ℕ)
@@ -67,7 +67,7 @@ other_immediate : (t : Token) (ts : List Token) → IsOther t → immediate (t �
 other_immediate (tokens.Number negative ds) ts o = absurd o
 other_immediate t ts o = refl
 
-is_other : (w : Want) (t : Token) → wants_number w ≡ false → fits w t ≡ true → IsOther t
+is_other : (w : Want) (t : Token) → wants_number w ≡ false → token_fits w t ≡ true → IsOther t
 is_other wants.Register (tokens.Number negative ds) e f = absurd cc
 is_other wants.Base (tokens.Number negative ds) e f = absurd cc
 is_other wants.Comma (tokens.Number negative ds) e f = absurd cc
@@ -85,13 +85,13 @@ none_after (wants.Immediate ∷ ws) ts v n f = absurd n
 none_after (wants.Zero ∷ ws) ts v n f = absurd n
 none_after (w ∷ ws) [] v n f = absurd cc
 none_after (w ∷ ws) (t ∷ ts) v n f =
-    let b = and_parts (fits w t) (all_fit ws ts) f in
+    let b = and_parts (token_fits w t) (all_fit ws ts) f in
     let o = is_other w t refl b.0 in
     let r = none_after ws ts (value_with t v) n b.1 in
     (r.0 ∙ other_value t v o, other_immediate t ts o ∙ r.1)
 
 -- digits of a number that fits
-immediate_value : (t : Token) (v : ℤ) (ts : List Token) → fits wants.Immediate t ≡ true
+immediate_value : (t : Token) (v : ℤ) (ts : List Token) → token_fits wants.Immediate t ≡ true
     → value_with t v ≡ immediate (t ∷ ts)
 immediate_value (tokens.Number negative ds) v ts f =
     ap (λ (b : Bool). or_value (if b then Some (signed negative (decimal ds)) else None) v) f
@@ -102,7 +102,7 @@ signed_zero : (negative : Bool)
 signed_zero true = (refl, refl)
 signed_zero false = (refl, refl)
 
-zero_value : (t : Token) (ts : List Token) → fits wants.Zero t ≡ true
+zero_value : (t : Token) (ts : List Token) → token_fits wants.Zero t ≡ true
     → value_with t (pos 0) ≡ immediate (t ∷ ts)
 zero_value (tokens.Number negative []) ts f = let z = signed_zero negative in z.0 ∙ sym z.1
 zero_value (tokens.Number negative (d ∷ ds)) ts f = absurd cc
@@ -114,13 +114,13 @@ one_after [] [] n f = refl
 one_after [] (t ∷ ts) n f = absurd cc
 one_after (w ∷ ws) [] n f = absurd cc
 one_after (wants.Immediate ∷ ws) (t ∷ ts) n f =
-    let b = and_parts (fits wants.Immediate t) (all_fit ws ts) f in
+    let b = and_parts (token_fits wants.Immediate t) (all_fit ws ts) f in
     (none_after ws ts (value_with t (pos 0)) n b.1).0 ∙ immediate_value t (pos 0) ts b.0
 one_after (wants.Zero ∷ ws) (t ∷ ts) n f =
-    let b = and_parts (fits wants.Zero t) (all_fit ws ts) f in
+    let b = and_parts (token_fits wants.Zero t) (all_fit ws ts) f in
     (none_after ws ts (value_with t (pos 0)) n b.1).0 ∙ zero_value t ts b.0
 one_after (w ∷ ws) (t ∷ ts) n f =
-    let b = and_parts (fits w t) (all_fit ws ts) f in
+    let b = and_parts (token_fits w t) (all_fit ws ts) f in
     let o = is_other w t refl b.0 in
     ap (λ (v : ℤ). value_after v ts) (other_value t (pos 0) o) ∙ one_after ws ts n b.1
     ∙ sym (other_immediate t ts o)

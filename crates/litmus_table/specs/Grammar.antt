@@ -8,7 +8,7 @@ use Rattle.litmus_tokens.specs.Words.{column_name}
 use Rattle.text_values.specs.declared.test.Step.{Step}
 use Rattle.text_values.specs.declared.test.Step.TheVariants as steps
 use Rattle.litmus_table.specs.declared.opcode.Opcode.{Opcode}
-use Rattle.litmus_table.specs.Words.{opcode_of, takes, instruction_meaning}
+use Rattle.litmus_table.specs.Words.{opcode_of, takes_operands, instruction_meaning}
 
 -- ---- trees
 
@@ -75,7 +75,7 @@ spelled_thread t rest = spelled_cell t.first (spelled_steps t.others rest)
 pub record IsOperation (i : InstructionTree) : Type 0 where
   pub opcode : Opcode
   pub known : opcode_of i.word ≡ Some opcode
-  pub fit : takes opcode i.operands ≡ true
+  pub fit : takes_operands opcode i.operands ≡ true
 
 abbrev pub IsInstruction : Option InstructionTree → Type 0
 IsInstruction None = Unit {0}

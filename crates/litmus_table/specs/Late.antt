@@ -9,7 +9,7 @@ use Rattle.litmus_tokens.specs.declared.token.Token.TheVariants as tokens
 use Rattle.litmus_tokens.specs.declared.token.Mark.TheVariants.{Semicolon, Bar}
 use Rattle.litmus_table.specs.declared.opcode.Opcode.{Opcode}
 use Rattle.litmus_table.specs.declared.opcode.Opcode.TheVariants as opcodes
-use Rattle.litmus_table.specs.Words.{opcode_of, target}
+use Rattle.litmus_table.specs.Words.{opcode_of, target_label}
 use Rattle.litmus_table.specs.Grammar.{InstructionTree, CellTree, RowTree, spelled_label, spelled_cell, spelled_rows}
 
 -- a fault, and the tokens before the one that it stands at
@@ -27,7 +27,7 @@ pub data Note : Type 0 where
   Branches : (label : List ℕ) (before : List Token) → Note
 
 abbrev pub branch_notes : Option Opcode → List Token → List Token → List Note
-branch_notes (Some (opcodes.Branch condition)) ts before = Branches (target ts) before ∷ []
+branch_notes (Some (opcodes.Branch condition)) ts before = Branches (target_label ts) before ∷ []
 branch_notes o ts before = []
 
 abbrev pub instruction_notes : Option InstructionTree → List Token → List Note

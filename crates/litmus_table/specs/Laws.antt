@@ -4,7 +4,7 @@ use Rattle.litmus_tokens.specs.declared.stage.Stage.{Stage}
 use Rattle.litmus_tokens.specs.declared.stage.Stage.TheVariants.{CellBegins, InCell}
 use Rattle.litmus_tokens.specs.declared.token.Token.{Token}
 use Rattle.litmus_tokens.specs.Texts as texts
-use Rattle.litmus_tokens.specs.Texts.{tokens_of, StandsAt, is_end, begins_tail}
+use Rattle.litmus_tokens.specs.Texts.{test_tokens_of, StandsAt, is_end, begins_tail}
 use Rattle.litmus_tokens.specs.Faults.{RulingSays, cell_ruling}
 use Rattle.text_values.specs.declared.instruction.Instruction.{Instruction}
 use Rattle.text_values.specs.declared.instruction.Instruction.TheVariants as instructions
@@ -12,7 +12,7 @@ use Rattle.text_values.specs.declared.test.Step.{Step}
 use Rattle.text_values.specs.declared.test.Step.TheVariants as steps
 use Rattle.litmus_table.specs.Grammar.{RowTree, ThreadTree, spelled_rows, spelled_thread, AreCells, AreRowTrees, columns_meaning, thread_meaning}
 use Rattle.litmus_table.specs.Late.{Note, Defines, Branches, thread_notes, columns_notes}
-use Rattle.litmus_table.specs.Machine.{ThreadSteps, TableState, start, widened, step, is_row_start, can_end, rule_at}
+use Rattle.litmus_table.specs.Machine.{ThreadSteps, TableState, table_start, widened, table_step, is_row_start, can_end, table_rule_at}
 
 -- ---- tables and threads on lists of tokens
 
@@ -35,28 +35,28 @@ then_on later None = None
 then_on later (Some s) = later s
 
 -- where these tokens lead
-abbrev pub run : TableState → List texts.TokenAt → Option TableState
-run s [] = Some s
-run s (p ∷ ps) = then_on (λ u. run u ps) (step s p.token p.offset)
+abbrev pub run_table : TableState → List texts.TokenAt → Option TableState
+run_table s [] = Some s
+run_table s (p ∷ ps) = then_on (λ u. run_table u ps) (table_step s p.token p.offset)
 
 -- a first column and so many others, before the first row
 abbrev pub columns : ℕ → TableState
-columns zero = widened start
+columns zero = widened table_start
 columns (suc n) = widened (columns n)
 
 pub record TakesAll (s : TableState) (ps : List texts.TokenAt) : Type 0 where
   pub after : TableState
-  pub by : run s ps ≡ Some after
+  pub by : run_table s ps ≡ Some after
 
 -- some tokens lead to where the table, or the text of a thread, may end
 pub record FinishesTable (may_end : TableState → Bool) (s : TableState) : Type 0 where
   pub rest : List texts.TokenAt
   pub after : TableState
-  pub by : run s rest ≡ Some after
+  pub by : run_table s rest ≡ Some after
   pub ended : may_end after ≡ true
 
-abbrev pub is_whole : TableState → Bool
-is_whole s = can_end s.expected
+abbrev pub is_whole_table : TableState → Bool
+is_whole_table s = can_end s.expected
 
 -- ---- what is kept
 
@@ -64,26 +64,26 @@ abbrev pub steps_of : List ThreadSteps → List (List Step)
 steps_of ts = map (λ t. t.steps) ts
 
 -- a label that a step defines or branches to, and the byte that is kept for it
-pub data Mark : Type 0 where
-  Defined : (label : List ℕ) (offset : ℕ) → Mark
-  Branched : (label : List ℕ) (offset : ℕ) → Mark
+pub data LabelMark : Type 0 where
+  Defined : (label : List ℕ) (offset : ℕ) → LabelMark
+  Branched : (label : List ℕ) (offset : ℕ) → LabelMark
 
-abbrev pub instruction_marks : Instruction → ℕ → List Mark
+abbrev pub instruction_marks : Instruction → ℕ → List LabelMark
 instruction_marks (instructions.BranchIf condition label) offset = Branched label offset ∷ []
 instruction_marks (instructions.Branch label) offset = Branched label offset ∷ []
 instruction_marks i offset = []
 
-abbrev pub step_marks : Step → ℕ → List Mark
+abbrev pub step_marks : Step → ℕ → List LabelMark
 step_marks (steps.Label label) offset = Defined label offset ∷ []
 step_marks (steps.Instruction i) offset = instruction_marks i offset
 
-abbrev pub marks : List Step → List ℕ → List Mark
-marks [] offsets = []
-marks (s ∷ ss) [] = []
-marks (s ∷ ss) (p ∷ ps) = step_marks s p ++ marks ss ps
+abbrev pub label_marks : List Step → List ℕ → List LabelMark
+label_marks [] offsets = []
+label_marks (s ∷ ss) [] = []
+label_marks (s ∷ ss) (p ∷ ps) = step_marks s p ++ label_marks ss ps
 
 -- these are the labels of these notes, and each byte is where the label stands in the text
-abbrev pub AreMarks : List texts.TokenAt → List Note → List Mark → Type 0
+abbrev pub AreMarks : List texts.TokenAt → List Note → List LabelMark → Type 0
 AreMarks text [] [] = Unit {0}
 AreMarks text (Defines w before ∷ ns) (Defined v offset ∷ ms) =
     (v ≡ w) × StandsAt text before offset × AreMarks text ns ms
@@ -93,7 +93,7 @@ AreMarks text ns ms = ⊥
 
 pub record IsNoted (text : List texts.TokenAt) (ns : List Note) (t : ThreadSteps) : Type 0 where
   pub each : length t.steps ≡ length t.offsets
-  pub marked : AreMarks text ns (marks t.steps t.offsets)
+  pub marked : AreMarks text ns (label_marks t.steps t.offsets)
 
 -- so for each thread
 abbrev pub AreNoted : List texts.TokenAt → List (List Note) → List ThreadSteps → Type 0
@@ -106,20 +106,20 @@ AreNoted text nss ts = ⊥
 pub record TakesRows (others : ℕ) (qs ps rs : List texts.TokenAt) (rows : List RowTree)
     : Type 0 where
   pub after : TableState
-  pub by : run (columns others) ps ≡ Some after
+  pub by : run_table (columns others) ps ≡ Some after
   pub ended : is_row_start after ≡ true
   pub meant : steps_of after.threads ≡ columns_meaning 0 (others + 1) rows
-  pub noted : AreNoted (qs ++ ps ++ rs) (columns_notes 0 (others + 1) (tokens_of qs) rows)
+  pub noted : AreNoted (qs ++ ps ++ rs) (columns_notes 0 (others + 1) (test_tokens_of qs) rows)
       after.threads
 
 -- and so for the text of a thread alone
 pub record TakesCells (qs ps rs : List texts.TokenAt) (tree : ThreadTree) : Type 0 where
   pub after : TableState
-  pub by : run (columns 0) ps ≡ Some after
-  pub ended : is_whole after ≡ true
+  pub by : run_table (columns 0) ps ≡ Some after
+  pub ended : is_whole_table after ≡ true
   pub meant : steps_of after.threads ≡ thread_meaning tree ∷ []
   pub noted : AreNoted (qs ++ ps ++ rs)
-      (thread_notes (tokens_of qs) (tree.first ∷ tree.others) ∷ []) after.threads
+      (thread_notes (test_tokens_of qs) (tree.first ∷ tree.others) ∷ []) after.threads
 
 -- ---- what can stand
 
@@ -130,11 +130,11 @@ is_taken (Some s) = true
 -- whether a token ends the table here, or the text of a thread alone
 abbrev pub ends_at : Bool → TableState → Token → Bool
 ends_at false s t = is_row_start s && begins_tail t
-ends_at true s t = is_whole s && is_end t
+ends_at true s t = is_whole_table s && is_end t
 
 -- whether a token can stand here
 abbrev pub stands : Bool → TableState → Token → Bool
-stands alone s t = is_taken (step s t 0) || ends_at alone s t
+stands alone s t = is_taken (table_step s t 0) || ends_at alone s t
 
 abbrev pub IsInCell : Stage → Type 0
 IsInCell CellBegins = Unit {0}
@@ -146,4 +146,4 @@ abbrev pub GivesRules : Type 0
 GivesRules =
     (alone : Bool) (s : TableState) (stage : Stage) (t : Token) → IsInCell stage
     → stands alone s t ≡ false
-    → RulingSays (λ u. stands alone s u ≡ true) stage (cell_ruling stage t) (rule_at alone s t)
+    → RulingSays (λ u. stands alone s u ≡ true) stage (cell_ruling stage t) (table_rule_at alone s t)

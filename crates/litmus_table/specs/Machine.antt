@@ -16,7 +16,7 @@ use Rattle.litmus_table.specs.declared.opcode.Opcode.{Opcode}
 use Rattle.litmus_table.specs.declared.opcode.Opcode.TheVariants as opcodes
 use Rattle.litmus_table.specs.declared.opcode.Want.{Want}
 use Rattle.litmus_table.specs.declared.opcode.Want.TheVariants as wants
-use Rattle.litmus_table.specs.Words.{opcode_of, data_form, fits, data_meaning, branch_meaning}
+use Rattle.litmus_table.specs.Words.{opcode_of, data_form, token_fits, data_meaning, branch_meaning}
 
 -- the steps of a thread, with the byte of each label and of the label that each branch names
 pub record ThreadSteps : Type 0 where
@@ -81,7 +81,7 @@ rest_of (w ∷ ws) = ws
 -- a token that an instruction wants
 abbrev pub pending_as : Pending → Option Want → Token → Option Pending
 pending_as p None t = None
-pending_as p (Some w) t = if fits w t then Some (pending_with p (rest_of p.wants) t) else None
+pending_as p (Some w) t = if token_fits w t then Some (pending_with p (rest_of p.wants) t) else None
 
 abbrev pub pending_after : Pending → Token → Option Pending
 pending_after p t = pending_as p (first_of p.wants) t
@@ -112,12 +112,12 @@ abbrev pub is_last : List ThreadSteps → ℕ → Bool
 is_last threads column = nat_le (length threads) (column + 1)
 
 -- a token behind a cell that is whole
-abbrev pub ended : List ThreadSteps → ℕ → Token → Option TableState
-ended threads column (tokens.Mark Semicolon) =
+abbrev pub table_ended : List ThreadSteps → ℕ → Token → Option TableState
+table_ended threads column (tokens.Mark Semicolon) =
     if is_last threads column then at threads 0 Begins else None
-ended threads column (tokens.Mark Bar) =
+table_ended threads column (tokens.Mark Bar) =
     if is_last threads column then None else at threads (column + 1) Begins
-ended threads column t = None
+table_ended threads column t = None
 
 abbrev pub operation : List ThreadSteps → ℕ → ℕ → Option Opcode → Option TableState
 operation threads column offset (Some (opcodes.Data op)) =
@@ -129,15 +129,15 @@ operation threads column offset (Some (opcodes.Fence f)) =
 operation threads column offset None = None
 
 -- a token where an instruction may begin, or the cell may end
-abbrev pub begins : List ThreadSteps → ℕ → Token → ℕ → Option TableState
-begins threads column (tokens.Word w) offset = operation threads column offset (opcode_of w)
-begins threads column t offset = ended threads column t
+abbrev pub begin_instruction : List ThreadSteps → ℕ → Token → ℕ → Option TableState
+begin_instruction threads column (tokens.Word w) offset = operation threads column offset (opcode_of w)
+begin_instruction threads column t offset = table_ended threads column t
 
 -- a token where a cell begins
 abbrev pub cell : List ThreadSteps → ℕ → Token → ℕ → Option TableState
 cell threads column (tokens.Label w) offset =
     at (put_at column (steps.Label w) offset threads) column Labelled
-cell threads column t offset = begins threads column t offset
+cell threads column t offset = begin_instruction threads column t offset
 
 -- an instruction ends with what it wants
 abbrev pub goes_on : List ThreadSteps → ℕ → Pending → Option Want → ℕ → Option TableState
@@ -156,15 +156,15 @@ target_read threads column condition t offset = None
 
 abbrev pub expected_step : List ThreadSteps → ℕ → CellExpectation → Token → ℕ → Option TableState
 expected_step threads column Begins t offset = cell threads column t offset
-expected_step threads column Labelled t offset = begins threads column t offset
+expected_step threads column Labelled t offset = begin_instruction threads column t offset
 expected_step threads column (InInstruction p) t offset = operand threads column (pending_after p t) offset
 expected_step threads column (WantsLabel condition) t offset =
     target_read threads column condition t offset
-expected_step threads column Whole t offset = ended threads column t
+expected_step threads column Whole t offset = table_ended threads column t
 
 -- a token that stands at this byte
-abbrev pub step : TableState → Token → ℕ → Option TableState
-step s t offset = expected_step s.threads s.column s.expected t offset
+abbrev pub table_step : TableState → Token → ℕ → Option TableState
+table_step s t offset = expected_step s.threads s.column s.expected t offset
 
 -- ---- the header
 
@@ -175,9 +175,9 @@ abbrev pub widened : TableState → TableState
 widened s = record { threads = s.threads ++ fresh ∷ []; column = s.column; expected = s.expected }
 
 -- the name of the next thread
-abbrev pub named : TableState → Token → Option TableState
-named s (tokens.Word w) = if names_column (length s.threads) w then Some (widened s) else None
-named s t = None
+abbrev pub name_thread : TableState → Token → Option TableState
+name_thread s (tokens.Word w) = if names_column (length s.threads) w then Some (widened s) else None
+name_thread s t = None
 
 -- ---- where the reader stands, and the rule that a refused token breaks
 
@@ -217,15 +217,15 @@ abbrev pub separator_rule : CellExpectation → LitmusRule
 separator_rule h = if can_end h then rules.Columns else rules.Instruction
 
 -- the rule that a token breaks which cannot stand here, in a table or in the text of a thread alone
-abbrev pub rule_at : Bool → TableState → Token → LitmusRule
-rule_at alone s (tokens.Mark Semicolon) = separator_rule s.expected
-rule_at alone s (tokens.Mark Bar) = separator_rule s.expected
-rule_at alone s (tokens.Word w) = rule_of_word alone s w
-rule_at alone s (tokens.Number negative ds) =
+abbrev pub table_rule_at : Bool → TableState → Token → LitmusRule
+table_rule_at alone s (tokens.Mark Semicolon) = separator_rule s.expected
+table_rule_at alone s (tokens.Mark Bar) = separator_rule s.expected
+table_rule_at alone s (tokens.Word w) = rule_of_word alone s w
+table_rule_at alone s (tokens.Number negative ds) =
     if is_zero (wanted s.expected) && is_int negative ds then rules.Offset else rules.Instruction
-rule_at alone s t = rules.Instruction
+table_rule_at alone s t = rules.Instruction
 
 -- ---- a table of no thread
 
-abbrev pub start : TableState
-start = record { threads = []; column = 0; expected = Begins }
+abbrev pub table_start : TableState
+table_start = record { threads = []; column = 0; expected = Begins }

@@ -31,19 +31,19 @@ pending_of p =
       value = p.value;
     }
 
-abbrev pub expectation_of : Cell → machine.CellExpectation
-expectation_of cells.Begins = machine.Begins
-expectation_of cells.Labelled = machine.Labelled
-expectation_of (cells.InInstruction p) = machine.InInstruction (pending_of p)
-expectation_of (cells.WantsLabel condition) = machine.WantsLabel condition
-expectation_of cells.Whole = machine.Whole
+abbrev pub cell_expectation_of : Cell → machine.CellExpectation
+cell_expectation_of cells.Begins = machine.Begins
+cell_expectation_of cells.Labelled = machine.Labelled
+cell_expectation_of (cells.InInstruction p) = machine.InInstruction (pending_of p)
+cell_expectation_of (cells.WantsLabel condition) = machine.WantsLabel condition
+cell_expectation_of cells.Whole = machine.Whole
 
-abbrev pub table_of : Table → machine.TableState
-table_of t =
+abbrev pub table_state_of : Table → machine.TableState
+table_state_of t =
     record {
       threads = threads_of t.threads.items;
       column = t.column;
-      expected = expectation_of t.cell;
+      expected = cell_expectation_of t.cell;
     }
 
 -- What a function returned, seen by view, is what the machine does, unless memory ran out.
@@ -51,11 +51,11 @@ abbrev pub RefusesStep : {Y : Type 0} → StepError → Option Y → Type 0
 RefusesStep errors.OutOfMemory made = Unit {0}
 RefusesStep errors.Refused made = made ≡ None
 
-abbrev pub Takes : Result (Unit {0}) StepError → code_pending.Pending → Option machine.Pending
+abbrev pub TakesCell : Result (Unit {0}) StepError → code_pending.Pending → Option machine.Pending
     → Type 0
-Takes (Ok u) p made = made ≡ Some (pending_of p)
-Takes (Err e) p made = RefusesStep e made
+TakesCell (Ok u) p made = made ≡ Some (pending_of p)
+TakesCell (Err e) p made = RefusesStep e made
 
-abbrev pub Steps : Result (Unit {0}) StepError → Table → Option machine.TableState → Type 0
-Steps (Ok u) t made = made ≡ Some (table_of t)
-Steps (Err e) t made = RefusesStep e made
+abbrev pub TableSteps : Result (Unit {0}) StepError → Table → Option machine.TableState → Type 0
+TableSteps (Ok u) t made = made ≡ Some (table_state_of t)
+TableSteps (Err e) t made = RefusesStep e made

@@ -101,20 +101,20 @@ data_form data_opcodes.Compare = wants.Register ∷ wants.Comma ∷ wants.Regist
 data_form data_opcodes.CompareImmediate = wants.Register ∷ wants.Comma ∷ wants.Immediate ∷ []
 
 -- a base is a register other than `r0`, and an offset is 0
-abbrev pub fits : Want → Token → Bool
-fits wants.Register (tokens.Word w) = is_register w
-fits wants.Base (tokens.Word w) = is_register w && not (bytes_eq w (codes "r0"))
-fits wants.Immediate (tokens.Number negative ds) = is_int negative ds
-fits wants.Zero (tokens.Number negative ds) = is_empty ds
-fits wants.Comma (tokens.Mark marks.Comma) = true
-fits wants.Open (tokens.Mark marks.Open) = true
-fits wants.Close (tokens.Mark marks.Close) = true
-fits want t = false
+abbrev pub token_fits : Want → Token → Bool
+token_fits wants.Register (tokens.Word w) = is_register w
+token_fits wants.Base (tokens.Word w) = is_register w && not (bytes_eq w (codes "r0"))
+token_fits wants.Immediate (tokens.Number negative ds) = is_int negative ds
+token_fits wants.Zero (tokens.Number negative ds) = is_empty ds
+token_fits wants.Comma (tokens.Mark marks.Comma) = true
+token_fits wants.Open (tokens.Mark marks.Open) = true
+token_fits wants.Close (tokens.Mark marks.Close) = true
+token_fits want t = false
 
 -- these tokens are what is wanted, one for one
 abbrev pub all_fit : List Want → List Token → Bool
 all_fit [] [] = true
-all_fit (w ∷ ws) (t ∷ ts) = fits w t && all_fit ws ts
+all_fit (w ∷ ws) (t ∷ ts) = token_fits w t && all_fit ws ts
 all_fit ws ts = false
 
 abbrev pub is_label : List Token → Bool
@@ -122,10 +122,10 @@ is_label (tokens.Word w ∷ []) = true
 is_label ts = false
 
 -- registers and numbers as the form has them; a label behind a branch; nothing behind a fence
-abbrev pub takes : Opcode → List Token → Bool
-takes (opcodes.Data op) ts = all_fit (data_form op) ts
-takes (opcodes.Branch condition) ts = is_label ts
-takes (opcodes.Fence f) ts = are_none ts
+abbrev pub takes_operands : Opcode → List Token → Bool
+takes_operands (opcodes.Data op) ts = all_fit (data_form op) ts
+takes_operands (opcodes.Branch condition) ts = is_label ts
+takes_operands (opcodes.Fence f) ts = are_none ts
 
 -- ---- what an instruction means, of tokens that fit
 
@@ -139,10 +139,10 @@ immediate [] = pos 0
 immediate (tokens.Number negative ds ∷ ts) = signed negative (decimal ds)
 immediate (t ∷ ts) = immediate ts
 
-abbrev pub target : List Token → List ℕ
-target [] = []
-target (tokens.Word w ∷ ts) = w
-target (t ∷ ts) = target ts
+abbrev pub target_label : List Token → List ℕ
+target_label [] = []
+target_label (tokens.Word w ∷ ts) = w
+target_label (t ∷ ts) = target_label ts
 
 -- of these registers and this number
 abbrev pub data_meaning : DataOpcode → List ℕ → ℤ → Instruction
@@ -167,5 +167,5 @@ branch_meaning None label = instructions.Branch label
 
 abbrev pub instruction_meaning : Opcode → List Token → Instruction
 instruction_meaning (opcodes.Data op) ts = data_meaning op (registers ts) (immediate ts)
-instruction_meaning (opcodes.Branch condition) ts = branch_meaning condition (target ts)
+instruction_meaning (opcodes.Branch condition) ts = branch_meaning condition (target_label ts)
 instruction_meaning (opcodes.Fence f) ts = instructions.Fence f

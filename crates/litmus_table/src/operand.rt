@@ -2,9 +2,9 @@
 
 ghost use Rattle.std.specs.Prelude.{◌≡◌, slice_index, IfOk};
 ghost use Rattle.litmus_tokens.specs.Words.{is_register, register_of, or_zero, is_int};
-ghost use Rattle.litmus_table.specs.Words.{fits};
+ghost use Rattle.litmus_table.specs.Words.{token_fits};
 ghost use Rattle.litmus_table.specs.Machine.{empty_pending, registers_with, value_with, pending_after, first_of, instruction_of};
-ghost use Rattle.litmus_table.specs.Reading.{pending_of, Takes};
+ghost use Rattle.litmus_table.specs.Reading.{pending_of, TakesCell};
 
 use crate::opcode::{DataOpcode, Want};
 use litmus_tokens::{Mark, StepError, Token, register_number, signed_number};
@@ -49,7 +49,7 @@ impl Pending {
     /// Takes one more token. Errors: it is not the one that is wanted, or out of memory; the
     /// instruction is then to be dropped.
     pub fn take(&mut self, token: &Token) -> Result<(), StepError>
-        ensures { Takes result self.new (pending_after (pending_of self.old) token.now) }
+        ensures { TakesCell result self.new (pending_after (pending_of self.old) token.now) }
     {
         match self.want() {
             Some(want) => {
@@ -188,7 +188,7 @@ pub fn is_int(is_negative: bool, digits: &[u8]) -> bool
 
 // Whether a token is what is wanted.
 fn fits(want: Want, token: &Token) -> bool
-    ensures { result ≡ fits want token.now }
+    ensures { result ≡ token_fits want token.now }
 {
     match want {
         Want::Register => match token {

@@ -1,13 +1,13 @@
 //! Reads the table of threads.
 
 ghost use Rattle.std.specs.Prelude.{◌≡◌, ◌≤◌, ℕ, List, map, length, IfOk, OnOk};
-ghost use Rattle.litmus_table.specs.Machine.{start, put_at, is_last, ended, operation, begins, cell, target_read, finished, step, widened, named, is_begin, is_row_start, can_end, wanted, rule_of_word, separator_rule, rule_at};
+ghost use Rattle.litmus_table.specs.Machine.{table_start, put_at, is_last, table_ended, operation, begin_instruction, cell, target_read, finished, table_step, widened, name_thread, is_begin, is_row_start, can_end, wanted, rule_of_word, separator_rule, table_rule_at};
 ghost use Rattle.litmus_tokens.specs.Texts.{TokenAt};
 ghost use Rattle.litmus_table.specs.Checks.{IsFoundAt};
 ghost use Rattle.litmus_table.specs.Late.{Note, first_late};
 ghost use Rattle.litmus_table.specs.Laws.{AreNoted, steps_of};
 ghost use Rattle.litmus_table.specs.Bounds.{AreThreadsUpTo, IsFoundWithin};
-ghost use Rattle.litmus_table.specs.Reading.{threads_of, expectation_of, table_of, first_steps, Steps};
+ghost use Rattle.litmus_table.specs.Reading.{threads_of, cell_expectation_of, table_state_of, first_steps, TableSteps};
 
 use crate::late::{LateFault, PlacedThread};
 use crate::opcode::{Opcode, Want, opcode_of};
@@ -52,7 +52,7 @@ pub struct Table {
 
 impl Cell {
     fn is_begin(&self) -> bool
-        ensures { result ≡ is_begin (expectation_of self.now) }
+        ensures { result ≡ is_begin (cell_expectation_of self.now) }
     {
         match self {
             Cell::Begins => true,
@@ -61,7 +61,7 @@ impl Cell {
     }
 
     fn can_end(&self) -> bool
-        ensures { result ≡ can_end (expectation_of self.now) }
+        ensures { result ≡ can_end (cell_expectation_of self.now) }
     {
         match self {
             Cell::Begins => true,
@@ -74,7 +74,7 @@ impl Cell {
 
     // What is wanted within an instruction.
     fn want(&self) -> Option<Want>
-        ensures { result ≡ wanted (expectation_of self.now) }
+        ensures { result ≡ wanted (cell_expectation_of self.now) }
     {
         match self {
             Cell::InInstruction(pending) => pending.want(),
@@ -86,7 +86,7 @@ impl Cell {
 impl Table {
     /// A table without threads.
     pub fn new(alloc: Global) -> Table
-        ensures { table_of result ≡ start }
+        ensures { table_state_of result ≡ table_start }
     {
         Table {
             alloc,
@@ -98,14 +98,14 @@ impl Table {
 
     /// The number of threads.
     pub fn width(&self) -> usize
-        ensures { result ≡ length (table_of self.now).threads }
+        ensures { result ≡ length (table_state_of self.now).threads }
     {
         self.threads.len()
     }
 
     /// Adds a thread. Errors: out of memory.
     pub fn add_thread(&mut self) -> Result<(), AllocError>
-        ensures { IfOk result (λ _. table_of self.new ≡ widened (table_of self.old)) }
+        ensures { IfOk result (λ _. table_state_of self.new ≡ widened (table_state_of self.old)) }
     {
         self.threads.push(PlacedThread::new(self.alloc))?;
         Ok(())
@@ -114,9 +114,9 @@ impl Table {
     /// The step over the name of the next thread. Errors: out of memory, or the token is not
     /// that name.
     pub fn name_read(&mut self, token: Token) -> Result<(), StepError>
-        ensures steps { Steps result self.new (named (table_of self.old) token) }
-        ensures within { (n : ℕ) → AreThreadsUpTo n (table_of self.old).threads
-            → OnOk result (AreThreadsUpTo n (table_of self.new).threads) }
+        ensures steps { TableSteps result self.new (name_thread (table_state_of self.old) token) }
+        ensures within { (n : ℕ) → AreThreadsUpTo n (table_state_of self.old).threads
+            → OnOk result (AreThreadsUpTo n (table_state_of self.new).threads) }
     {
         match token {
             Token::Word(word) => {
@@ -132,21 +132,21 @@ impl Table {
 
     /// Whether a row begins here.
     pub fn is_row_start(&self) -> bool
-        ensures { result ≡ is_row_start (table_of self.now) }
+        ensures { result ≡ is_row_start (table_state_of self.now) }
     {
         self.column == 0 && self.cell.is_begin()
     }
 
     /// Whether the cell can end here.
     pub fn is_cell_whole(&self) -> bool
-        ensures { result ≡ can_end (table_of self.now).expected }
+        ensures { result ≡ can_end (table_state_of self.now).expected }
     {
         self.cell.can_end()
     }
 
     // The rule that a word breaks which cannot stand here.
     fn word_rule(&self, is_alone: bool, word: &[u8]) -> LitmusRule
-        ensures { result ≡ rule_of_word is_alone (table_of self.now) word.now }
+        ensures { result ≡ rule_of_word is_alone (table_state_of self.now) word.now }
     {
         if self.is_row_start() && !is_alone && is_filter(word) {
             return LitmusRule::Filter;
@@ -159,7 +159,7 @@ impl Table {
 
     // The rule that a separator breaks which cannot stand here.
     fn separator_rule(&self) -> LitmusRule
-        ensures { result ≡ separator_rule (table_of self.now).expected }
+        ensures { result ≡ separator_rule (table_state_of self.now).expected }
     {
         if self.cell.can_end() {
             return LitmusRule::Columns;
@@ -169,7 +169,7 @@ impl Table {
 
     /// The rule that a misplaced token breaks, in a table or in the text of a thread alone.
     pub fn rule(&self, is_alone: bool, token: &Token) -> LitmusRule
-        ensures { result ≡ rule_at is_alone (table_of self.now) token.now }
+        ensures { result ≡ table_rule_at is_alone (table_state_of self.now) token.now }
     {
         match token {
             Token::Mark(Mark::Semicolon) => self.separator_rule(),
@@ -189,10 +189,11 @@ impl Table {
     /// the table is then to be dropped.
     pub fn step(&mut self, token: Token, offset: usize) -> Result<(), StepError>
         // It does what the machine does.
-        ensures steps { Steps result self.new (step (table_of self.old) token offset) }
+        ensures steps { TableSteps result self.new (table_step
+            (table_state_of self.old) token offset) }
         // What it keeps of this token stands at this byte.
-        ensures within { (n : ℕ) → offset ≤ n → AreThreadsUpTo n (table_of self.old).threads
-            → OnOk result (AreThreadsUpTo n (table_of self.new).threads) }
+        ensures within { (n : ℕ) → offset ≤ n → AreThreadsUpTo n (table_state_of self.old).threads
+            → OnOk result (AreThreadsUpTo n (table_state_of self.new).threads) }
     {
         self.go(token, offset)?;
         Ok(())
@@ -200,7 +201,7 @@ impl Table {
 
     // Goes over a token, in the cell as it is.
     fn go(&mut self, token: Token, offset: usize) -> Result<(), StepError>
-        ensures { Steps result self.new (step (table_of self.old) token offset) }
+        ensures { TableSteps result self.new (table_step (table_state_of self.old) token offset) }
     {
         match &mut self.cell {
             Cell::Begins => self.cell_start(token, offset),
@@ -225,7 +226,8 @@ impl Table {
 
     // A token where a cell begins.
     fn cell_start(&mut self, token: Token, offset: usize) -> Result<(), StepError>
-        ensures { Steps result self.new (cell (threads_of self.old.threads.items) self.old.column
+        ensures { TableSteps result self.new (cell (threads_of self.old.threads.items)
+            self.old.column
             token offset) }
     {
         match token {
@@ -240,7 +242,8 @@ impl Table {
 
     // A token where an instruction may begin, or the cell may end.
     fn instruction_start(&mut self, token: Token, offset: usize) -> Result<(), StepError>
-        ensures { Steps result self.new (begins (threads_of self.old.threads.items) self.old.column
+        ensures { TableSteps result self.new (begin_instruction
+            (threads_of self.old.threads.items) self.old.column
             token offset) }
     {
         match token {
@@ -251,7 +254,7 @@ impl Table {
 
     // The word of an instruction.
     fn word_read(&mut self, opcode: Option<Opcode>, offset: usize) -> Result<(), StepError>
-        ensures { Steps result self.new (operation (threads_of self.old.threads.items)
+        ensures { TableSteps result self.new (operation (threads_of self.old.threads.items)
             self.old.column offset opcode) }
     {
         match opcode {
@@ -276,7 +279,7 @@ impl Table {
         token: Token,
         offset: usize,
     ) -> Result<(), StepError>
-        ensures { Steps result self.new (target_read (threads_of self.old.threads.items)
+        ensures { TableSteps result self.new (target_read (threads_of self.old.threads.items)
             self.old.column condition token offset) }
     {
         match token {
@@ -292,7 +295,7 @@ impl Table {
     }
 
     fn finish(&mut self, instruction: Instruction, offset: usize) -> Result<(), StepError>
-        ensures { Steps result self.new (finished (threads_of self.old.threads.items)
+        ensures { TableSteps result self.new (finished (threads_of self.old.threads.items)
             self.old.column instruction offset) }
     {
         self.put(Step::Instruction(instruction), offset)?;
@@ -321,7 +324,8 @@ impl Table {
 
     // A token behind a cell that is whole.
     fn cell_ended(&mut self, token: &Token) -> Result<(), StepError>
-        ensures { Steps result self.new (ended (threads_of self.old.threads.items) self.old.column
+        ensures { TableSteps result self.new (table_ended
+            (threads_of self.old.threads.items) self.old.column
             token.now) }
     {
         match token {
@@ -348,11 +352,11 @@ impl Table {
     /// The first fault of a label, thread by thread, or `None`. Errors: out of memory.
     pub fn check_labels(&self) -> Result<Option<LateFault>, AllocError>
         // The byte is one of those that were kept.
-        ensures within { (n : ℕ) → AreThreadsUpTo n (table_of self.now).threads
+        ensures within { (n : ℕ) → AreThreadsUpTo n (table_state_of self.now).threads
             → IfOk result (IsFoundWithin n) }
         // What it finds is what the definitions find, at the byte where that stands.
         ensures found { (text : List TokenAt) (notes : List (List Note))
-            → AreNoted text notes (table_of self.now).threads
+            → AreNoted text notes (table_state_of self.now).threads
             → IfOk result (λ f. IsFoundAt text f (first_late notes)) }
     {
         for thread in &self.threads {
@@ -366,7 +370,7 @@ impl Table {
     /// The threads, without their offsets. Errors: out of memory.
     pub fn into_threads(self) -> Result<Vec<Thread>, AllocError>
         ensures { IfOk result (λ ts. map (λ t. t.steps.items) ts.items
-            ≡ steps_of (table_of self).threads) }
+            ≡ steps_of (table_state_of self).threads) }
     {
         let mut threads = Vec::new(self.alloc);
         for thread in self.threads {
@@ -377,7 +381,7 @@ impl Table {
 
     /// The first thread, without its offsets. A text of a thread alone has no other.
     pub fn into_thread(self) -> Thread
-        ensures { result.steps.items ≡ first_steps (table_of self).threads }
+        ensures { result.steps.items ≡ first_steps (table_state_of self).threads }
     {
         for thread in self.threads {
             return thread.into_thread();

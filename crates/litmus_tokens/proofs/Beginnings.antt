@@ -5,7 +5,7 @@ use Rattle.litmus_tokens.specs.declared.token.Token.{Token}
 use Rattle.litmus_tokens.specs.Faults.{Begins}
 use Rattle.litmus_tokens.specs.Conditions.{Limits}
 use Rattle.litmus_tokens.specs.ConditionMachine.{ConditionFrame, ConditionExpectation, Wants, ConditionStepResult, Goes, Ends, Refuses, proposition_step, whole_at, go_on, proposition}
-use Rattle.litmus_tokens.specs.ConditionLaws.{takes_on, takes, IsPropositionText, TakesWhatBegins}
+use Rattle.litmus_tokens.specs.ConditionLaws.{takes_on, takes_tokens, IsPropositionText, TakesWhatBegins}
 use Rattle.litmus_tokens.specs.Texts.{are_none}
 use Rattle.litmus_tokens.proofs.Sound.{sound}
 use Rattle.litmus_tokens.proofs.Complete.{complete}
@@ -20,7 +20,7 @@ module _ (most : Limits) (threads : ℕ) where
     by : proposition most threads fs used expected (ts ++ rest) ≡ Some value
 
   goes_on : (ts : List Token) (fs : List ConditionFrame) (used : ℕ) (expected : ConditionExpectation)
-      → takes most threads fs used expected ts ≡ true → GoesOn fs used expected ts
+      → takes_tokens most threads fs used expected ts ≡ true → GoesOn fs used expected ts
   goes_on [] fs used expected e =
       let f = finishes most threads fs used expected in
       record { rest = f.rest; value = f.value; by = f.by }
@@ -32,8 +32,8 @@ module _ (most : Limits) (threads : ℕ) where
       by_end v [] k = ([], v, refl)
       by_end v (u ∷ us) k = absurd cc
 
-      by_result : (x : ConditionStepResult) → takes_on (λ gs u h. takes most threads gs u h ts) ts x ≡ true
-          → ((gs : List ConditionFrame) (u : ℕ) (h : ConditionExpectation) → takes most threads gs u h ts ≡ true
+      by_result : (x : ConditionStepResult) → takes_on (λ gs u h. takes_tokens most threads gs u h ts) ts x ≡ true
+          → ((gs : List ConditionFrame) (u : ℕ) (h : ConditionExpectation) → takes_tokens most threads gs u h ts ≡ true
           → GoesOn gs u h ts)
           → (rest : List Token) × (w : Formula)
           × (go_on (λ gs u h. proposition most threads gs u h (ts ++ rest)) (ts ++ rest) x
@@ -44,7 +44,7 @@ module _ (most : Limits) (threads : ℕ) where
 
   or_refused : (ts us : List Token) (fs : List ConditionFrame) (used : ℕ) (expected : ConditionExpectation)
       (v : Formula) → proposition most threads fs used expected (ts ++ us) ≡ Some v
-      → takes most threads fs used expected ts ≡ true
+      → takes_tokens most threads fs used expected ts ≡ true
   or_refused [] us fs used expected v e = refl
   or_refused (t ∷ ts) us fs used expected v e =
       by_result (proposition_step most threads fs used expected t) e
@@ -58,8 +58,8 @@ module _ (most : Limits) (threads : ℕ) where
           → go_on (λ gs u h. proposition most threads gs u h (ts ++ us)) (ts ++ us) x ≡ Some v
           → ((gs : List ConditionFrame) (u : ℕ) (h : ConditionExpectation)
           → proposition most threads gs u h (ts ++ us) ≡ Some v
-          → takes most threads gs u h ts ≡ true)
-          → takes_on (λ gs u h. takes most threads gs u h ts) ts x ≡ true
+          → takes_tokens most threads gs u h ts ≡ true)
+          → takes_on (λ gs u h. takes_tokens most threads gs u h ts) ts x ≡ true
       by_result (Goes gs u h) k later = later gs u h k
       by_result (Ends w) k later = by_end w ts k
       by_result Refuses k later = absurd cc
@@ -68,12 +68,12 @@ pub takes_beginnings : (most : Limits) (threads : ℕ) → threads < 18446744073
     → TakesWhatBegins most threads
 takes_beginnings most threads few ts = (found, only)
   where
-    found : takes most threads [] 0 Wants ts ≡ true → Begins (IsPropositionText most threads) ts
+    found : takes_tokens most threads [] 0 Wants ts ≡ true → Begins (IsPropositionText most threads) ts
     found e =
         let g = goes_on most threads ts [] 0 Wants e in
         record { rest = g.rest; text = record { value = g.value; text = sound most threads few (ts ++ g.rest) g.value g.by } }
 
-    only : Begins (IsPropositionText most threads) ts → takes most threads [] 0 Wants ts ≡ true
+    only : Begins (IsPropositionText most threads) ts → takes_tokens most threads [] 0 Wants ts ≡ true
     only b =
         or_refused most threads ts b.rest [] 0 Wants b.text.value (complete most threads few
         (ts ++ b.rest) b.text.value b.text.text)

@@ -8,7 +8,7 @@ use Rattle.text_values.specs.TestValue.{Formula, Join, level}
 use Rattle.litmus_tokens.specs.declared.token.Token.{Token}
 use Rattle.litmus_tokens.specs.declared.token.Token.TheVariants as tokens
 use Rattle.litmus_tokens.specs.declared.token.Mark.TheVariants as marks
-use Rattle.litmus_tokens.specs.Conditions.{FormulaTree, Pair, Prefix, prefix_token, connective_token, spelled, formula_meaning, tightness, IsGrouped, HasAtoms, depth, operators, Limits}
+use Rattle.litmus_tokens.specs.Conditions.{FormulaTree, Pair, Prefix, prefix_token, connective_token, spelled, tree_formula, tightness, IsGrouped, HasAtoms, depth, operators, Limits}
 use Rattle.litmus_tokens.specs.ConditionMachine.{ConditionFrame, InGroup, InPrefix, LeftOf, open_count, fold_to}
 
 pub data Branch : Type 0 where
@@ -19,7 +19,7 @@ pub data Branch : Type 0 where
 abbrev pub frame : Branch → ConditionFrame
 frame BGroup = InGroup
 frame (BPrefix tilde) = InPrefix
-frame (BLeft op a) = LeftOf op (formula_meaning a)
+frame (BLeft op a) = LeftOf op (tree_formula a)
 
 abbrev pub frames : List Branch → List ConditionFrame
 frames [] = []
@@ -94,7 +94,7 @@ pub record Folded (most : Limits) (threads l : ℕ) (whole rest : List Token)
     (p : List ConditionFrame × Formula) (used : ℕ) : Type 0 where
   pub bs : List Branch
   pub t : FormulaTree
-  pub is : p ≡ (frames bs, formula_meaning t)
+  pub is : p ≡ (frames bs, tree_formula t)
   pub fine : Fine most threads bs
   pub grouped : IsGrouped t
   pub atoms : HasAtoms threads t
@@ -115,7 +115,7 @@ pub folded : (most : Limits) (threads l : ℕ) (whole rest : List Token) (used :
     (t : FormulaTree) → l ≤ 4 → l ≤ tightness t → Fine most threads bs → IsGrouped t
     → HasAtoms threads t → need bs ≤ tightness t → opens bs + depth t ≤ most.nesting
     → count bs + operators t ≡ used → whole ≡ before bs (spelled t rest)
-    → Folded most threads l whole rest (fold_to l (frames bs) (formula_meaning t)) used
+    → Folded most threads l whole rest (fold_to l (frames bs) (tree_formula t)) used
 folded most threads l whole rest used [] t low tight fine grouped atoms needed shallow counted is =
     record { bs = []; t = t; is = refl; fine = tt; grouped = grouped; atoms = atoms; needed = needed; tight = tight; shallow = shallow; counted = counted; whole_is = is; stops = tt }
 folded most threads l whole rest used (BGroup ∷ bs) t low tight fine grouped atoms needed shallow
@@ -134,10 +134,10 @@ folded most threads l whole rest used (BLeft op a ∷ bs) t low tight fine group
     choose : (b : Bool) → nat_le l (level op) ≡ b
         → (l ≤ level op
         → Folded most threads l whole rest
-        (fold_to l (frames bs) (Join op (formula_meaning a) (formula_meaning t))) used)
+        (fold_to l (frames bs) (Join op (tree_formula a) (tree_formula t))) used)
         → Folded most threads l whole rest
-        (if b then fold_to l (frames bs) (Join op (formula_meaning a) (formula_meaning t))
-        else (LeftOf op (formula_meaning a) ∷ frames bs, formula_meaning t)) used
+        (if b then fold_to l (frames bs) (Join op (tree_formula a) (tree_formula t))
+        else (LeftOf op (tree_formula a) ∷ frames bs, tree_formula t)) used
     choose true e joined = joined (test_true l (level op) e)
     choose false e joined =
         record { bs = BLeft op a ∷ bs; t = t; is = refl; fine = fine; grouped = grouped; atoms = atoms; needed = needed; tight = tight; shallow = shallow; counted = counted; whole_is = is; stops = test_false l (level op) e }

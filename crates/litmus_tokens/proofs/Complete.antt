@@ -16,9 +16,9 @@ use Rattle.litmus_tokens.specs.declared.token.Mark.TheVariants as marks
 use Rattle.litmus_tokens.specs.Words.{register_of, is_known, or_zero}
 use Rattle.litmus_tokens.specs.declared.place.PlaceExpectation.TheVariants.{WantsColon}
 use Rattle.litmus_tokens.specs.declared.place.WrittenPlace.TheVariants as written
-use Rattle.litmus_tokens.specs.Conditions.{PlaceTree, Location, Register, ValueTree, Number, Address, spelled_place, spelled_value, place_meaning, value_meaning, IsPlaceTree, HasThread, IsValueTree, FormulaTree, Word, Atom, Prefix, Pair, Group, constant_word, connective_token, spelled, formula_meaning, tightness, IsGrouped, HasAtoms, depth, operators, Limits, IsProposition}
+use Rattle.litmus_tokens.specs.Conditions.{PlaceTree, Location, Register, ValueTree, Number, Address, spelled_place, spelled_value, place_meaning, value_meaning, IsPlaceTree, HasThread, IsValueTree, FormulaTree, Word, Atom, Prefix, Pair, Group, constant_word, connective_token, spelled, tree_formula, tightness, IsGrouped, HasAtoms, depth, operators, Limits, IsProposition}
 use Rattle.litmus_tokens.specs.PlaceMachine.{register_ends, place_of}
-use Rattle.litmus_tokens.specs.ConditionMachine.{ConditionFrame, InGroup, InPrefix, LeftOf, ConditionExpectation, Wants, HasConstant, HasNot, InPlace, WantsEquals, WantsValue, Has, ConditionStepResult, Goes, Refuses, open_count, fold_to, expected_after_word, expected_after_place, in_place, operand, left_frames, closed, ended, atom_read, go_on, proposition}
+use Rattle.litmus_tokens.specs.ConditionMachine.{ConditionFrame, InGroup, InPrefix, LeftOf, ConditionExpectation, Wants, HasConstant, HasNot, InPlace, WantsEquals, WantsValue, Has, ConditionStepResult, Goes, Refuses, open_count, fold_to, expected_after_word, expected_after_place, in_place, operand, left_frames, condition_closed, condition_ended, atom_read, go_on, proposition}
 use Rattle.litmus_tokens.proofs.Branches.{level-le}
 use Rattle.litmus_tokens.proofs.Places.{place_of_written, value_taken}
 
@@ -27,8 +27,8 @@ abbrev pub pending : FormulaTree → List ConditionFrame → List ConditionFrame
 pending (Word b) fs = (fs, Constant b)
 pending (Atom p v) fs = (fs, Holds (place_meaning p) (value_meaning v))
 pending (Prefix tilde a) fs = pending a (InPrefix ∷ fs)
-pending (Pair op a b) fs = pending b (LeftOf op (formula_meaning a) ∷ fs)
-pending (Group a) fs = (fs, formula_meaning a)
+pending (Pair op a b) fs = pending b (LeftOf op (tree_formula a) ∷ fs)
+pending (Group a) fs = (fs, tree_formula a)
 
 abbrev pub wanted : List ConditionFrame → ℕ
 wanted [] = 0
@@ -37,16 +37,16 @@ wanted (InPrefix ∷ fs) = 4
 wanted (LeftOf op a ∷ fs) = level op
 
 fold_pending : (t : FormulaTree) (fs : List ConditionFrame) (l : ℕ) → IsGrouped t → l ≤ tightness t
-    → fold_to l (pending t fs).0 (pending t fs).1 ≡ fold_to l fs (formula_meaning t)
+    → fold_to l (pending t fs).0 (pending t fs).1 ≡ fold_to l fs (tree_formula t)
 fold_pending (Word b) fs l g h = refl
 fold_pending (Atom p v) fs l g h = refl
 fold_pending (Prefix tilde a) fs l g h = fold_pending a (InPrefix ∷ fs) l g.1 (omega (arith, g.0))
 fold_pending (Pair op a b) fs l g h =
     let e = le-leb l (level op) h in
-    fold_pending b (LeftOf op (formula_meaning a) ∷ fs) l g.3 (omega (arith, g.1))
+    fold_pending b (LeftOf op (tree_formula a) ∷ fs) l g.3 (omega (arith, g.1))
     ∙ ap
-    (λ (x : Bool). if x then fold_to l fs (Join op (formula_meaning a) (formula_meaning b))
-    else (LeftOf op (formula_meaning a) ∷ fs, formula_meaning b)) e
+    (λ (x : Bool). if x then fold_to l fs (Join op (tree_formula a) (tree_formula b))
+    else (LeftOf op (tree_formula a) ∷ fs, tree_formula b)) e
 fold_pending (Group a) fs l g h = refl
 
 -- an operator joins nothing where it may stand
@@ -62,9 +62,9 @@ fold_stays op (LeftOf o a ∷ fs) v h =
 joins_pending : (op : Connective) (a : FormulaTree) (fs : List ConditionFrame) → IsGrouped a
     → level op + 1 ≤ tightness a → wanted fs ≤ level op
     → left_frames op (fold_to (level op + 1) (pending a fs).0 (pending a fs).1)
-    ≡ LeftOf op (formula_meaning a) ∷ fs
+    ≡ LeftOf op (tree_formula a) ∷ fs
 joins_pending op a fs g h w =
-    ap (left_frames op) (fold_pending a fs (level op + 1) g h ∙ fold_stays op fs (formula_meaning a) w)
+    ap (left_frames op) (fold_pending a fs (level op + 1) g h ∙ fold_stays op fs (tree_formula a) w)
 
 -- what may stand behind a proposition
 abbrev pub CanFollow : List Token → Type 0
@@ -257,14 +257,14 @@ module _ (most : Limits) (threads : ℕ) where
       (connective_follows op (spelled b rest))
       ∙ joins_run op p.0 (used + operators a) p.1 (spelled b rest) (omega arith)
       ∙ ap (λ (gs : List ConditionFrame). run gs (used + operators a + 1) Wants (spelled b rest)) same
-      ∙ tree_run few b (LeftOf op (formula_meaning a) ∷ fs) (used + operators a + 1) all rest g.3 h.1 g.1
+      ∙ tree_run few b (LeftOf op (tree_formula a) ∷ fs) (used + operators a + 1) all rest g.3 h.1 g.1
       (omega arith) (omega arith) m c
   tree_run few (Group a) fs used all rest g h w d u m c =
       opened_run (Goes (InGroup ∷ fs) used Wants) fs (spelled a (tokens.Mark marks.Close ∷ rest))
       (omega arith)
       ∙ tree_run few a (InGroup ∷ fs) used all (tokens.Mark marks.Close ∷ rest) g h (omega arith)
       (omega arith) u m tt
-      ∙ ap (λ (p : List ConditionFrame × Formula). from (closed all p) rest)
+      ∙ ap (λ (p : List ConditionFrame × Formula). from (condition_closed all p) rest)
       (fold_pending a (InGroup ∷ fs) 0 g (omega arith))
 
 -- the machine takes each proposition, and gives what it means
@@ -276,6 +276,6 @@ complete most threads few ts v m =
     ap (proposition most threads [] 0 Wants) m.whole
     ∙ tree_run most threads few m.tree [] 0 (operators m.tree) (tokens.End ∷ []) i.grouped i.atoms
     (omega arith) (let d = i.shallow in omega arith) (omega arith) i.short tt
-    ∙ ap (λ (p : List ConditionFrame × Formula). from most threads (ended p) [])
+    ∙ ap (λ (p : List ConditionFrame × Formula). from most threads (condition_ended p) [])
     (fold_pending m.tree [] 0 i.grouped (omega arith))
     ∙ ap Some m.meant

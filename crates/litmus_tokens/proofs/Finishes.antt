@@ -14,7 +14,7 @@ use Rattle.litmus_tokens.specs.declared.place.PlaceExpectation.TheVariants.{Begi
 use Rattle.litmus_tokens.specs.declared.place.WrittenPlace.TheVariants as written
 use Rattle.litmus_tokens.specs.Conditions.{constant_word, Limits}
 use Rattle.litmus_tokens.specs.PlaceMachine.{place_of}
-use Rattle.litmus_tokens.specs.ConditionMachine.{ConditionFrame, InGroup, InPrefix, LeftOf, ConditionExpectation, Wants, HasConstant, HasNot, InPlace, WantsEquals, WantsValue, Has, fold_to, closed, ended}
+use Rattle.litmus_tokens.specs.ConditionMachine.{ConditionFrame, InGroup, InPrefix, LeftOf, ConditionExpectation, Wants, HasConstant, HasNot, InPlace, WantsEquals, WantsValue, Has, fold_to, condition_closed, condition_ended}
 use Rattle.litmus_tokens.specs.ConditionLaws.{FinishesFormula}
 use Rattle.litmus_tokens.proofs.Complete.{run, from}
 
@@ -44,9 +44,9 @@ module _ (most : Limits) (threads : ℕ) where
       → fold_to 0 gs v ≡ fold_to 0 fs w
       → run most threads gs used (Has v) ts ≡ run most threads fs used (Has w) ts
   same_end fs gs used v w (tokens.End ∷ ts) c e =
-      ap (λ (p : List ConditionFrame × Formula). from most threads (ended p) ts) e
+      ap (λ (p : List ConditionFrame × Formula). from most threads (condition_ended p) ts) e
   same_end fs gs used v w (tokens.Mark marks.Close ∷ ts) c e =
-      ap (λ (p : List ConditionFrame × Formula). from most threads (closed used p) ts) e
+      ap (λ (p : List ConditionFrame × Formula). from most threads (condition_closed used p) ts) e
   same_end fs gs used v w [] c e = absurd c
   same_end fs gs used v w (_ ∷ ts) c e = absurd c
 

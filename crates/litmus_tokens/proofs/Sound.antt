@@ -18,9 +18,9 @@ use Rattle.litmus_tokens.specs.declared.place.PlaceExpectation.{PlaceExpectation
 use Rattle.litmus_tokens.specs.declared.place.PlaceExpectation.TheVariants.{WantsColon}
 use Rattle.litmus_tokens.specs.declared.place.PlaceStep.{PlaceStep}
 use Rattle.litmus_tokens.specs.declared.place.PlaceStep.TheVariants as steps
-use Rattle.litmus_tokens.specs.Conditions.{PlaceTree, Location, spelled_place, place_meaning, value_meaning, IsPlaceTree, HasThread, FormulaTree, Word, Atom, Group, constant_word, connective_token, spelled, formula_meaning, tightness, IsGrouped, HasAtoms, depth, operators, Limits, IsFormulaTree, IsProposition}
+use Rattle.litmus_tokens.specs.Conditions.{PlaceTree, Location, spelled_place, place_meaning, value_meaning, IsPlaceTree, HasThread, FormulaTree, Word, Atom, Group, constant_word, connective_token, spelled, tree_formula, tightness, IsGrouped, HasAtoms, depth, operators, Limits, IsFormulaTree, IsProposition}
 use Rattle.litmus_tokens.specs.PlaceMachine.{place_step, place_of, value_read}
-use Rattle.litmus_tokens.specs.ConditionMachine.{ConditionFrame, InGroup, InPrefix, ConditionExpectation, Wants, HasConstant, HasNot, InPlace, WantsEquals, WantsValue, Has, ConditionStepResult, Goes, Ends, Refuses, open_count, fold_to, opened, expected_after_word, expected_after_place, in_place, place_result, operand, left_frames, joins, closed, ended, behind, after_constant, after_not, after_place, atom_read, proposition_step, whole_at, go_on, proposition}
+use Rattle.litmus_tokens.specs.ConditionMachine.{ConditionFrame, InGroup, InPrefix, ConditionExpectation, Wants, HasConstant, HasNot, InPlace, WantsEquals, WantsValue, Has, ConditionStepResult, Goes, Ends, Refuses, open_count, fold_to, condition_opened, expected_after_word, expected_after_place, in_place, place_result, operand, left_frames, joins, condition_closed, condition_ended, behind_operand, after_constant, after_not, after_place, atom_read, proposition_step, whole_at, go_on, proposition}
 use Rattle.litmus_tokens.proofs.Places.{within, StepStands, place_stands, ExpectationThread, WrittenThread, StepThread, place_thread, has_thread, place_of_written, ValueStands, value_stands}
 use Rattle.litmus_tokens.proofs.Branches.{Branch, BGroup, BPrefix, BLeft, frame, frames, before, need, opens, count, Fine, Stops, open_count-frames, level-le, need-le, opens-le, Folded, folded}
 
@@ -49,7 +49,7 @@ pub record Full (most : Limits) (threads : ℕ) (whole rest : List Token) (fs : 
   pub bs : List Branch
   pub t : FormulaTree
   pub is : frames bs ≡ fs
-  pub means : formula_meaning t ≡ v
+  pub means : tree_formula t ≡ v
   pub fine : Fine most threads bs
   pub grouped : IsGrouped t
   pub atoms : HasAtoms threads t
@@ -77,7 +77,7 @@ pub record Ended (most : Limits) (threads : ℕ) (whole rest : List Token) (v : 
     : Type 0 where
   pub t : FormulaTree
   pub is : IsFormulaTree most threads t
-  pub means : formula_meaning t ≡ v
+  pub means : tree_formula t ≡ v
   pub whole_is : whole ≡ spelled t rest
 
 abbrev pub ResultStands : Limits → ℕ → List Token → List Token → ConditionStepResult → Type 0
@@ -99,7 +99,7 @@ module _ (most : Limits) (threads : ℕ) (few : threads < 18446744073709551616) 
     single : (t : FormulaTree) (rest : List Token) (fs : List ConditionFrame) (used : ℕ) → IsGrouped t
         → HasAtoms threads t → 5 ≤ tightness t → depth t ≡ 0 → operators t ≡ 0
         → Open most threads whole (spelled t rest) fs used
-        → Full most threads whole rest fs used (formula_meaning t)
+        → Full most threads whole rest fs used (tree_formula t)
     single t rest fs used grouped atoms tight flat none o =
         let deep = opens-le most threads o.bs o.fine in
         let sum = o.counted in
@@ -117,7 +117,7 @@ module _ (most : Limits) (threads : ℕ) (few : threads < 18446744073709551616) 
 
     opened_stands : (rest : List Token) (fs : List ConditionFrame) (next : ConditionStepResult)
         → (open_count fs < most.nesting → ResultStands most threads whole rest next)
-        → ResultStands most threads whole rest (opened most fs next)
+        → ResultStands most threads whole rest (condition_opened most fs next)
     opened_stands rest fs next h = choose (nat_lt (open_count fs) most.nesting) refl
       where
         choose : (x : Bool) → nat_lt (open_count fs) most.nesting ≡ x
@@ -232,14 +232,14 @@ module _ (most : Limits) (threads : ℕ) (few : threads < 18446744073709551616) 
 
     ended_stands : (rest : List Token) (used : ℕ) (p : List ConditionFrame × Formula) → used ≤ most.operators
         → Folded most threads 0 whole (tokens.End ∷ rest) p used
-        → ResultStands most threads whole rest (ended p)
+        → ResultStands most threads whole rest (condition_ended p)
     ended_stands rest used p short d =
-        subst (λ (q : List ConditionFrame × Formula). ResultStands most threads whole rest (ended q))
+        subst (λ (q : List ConditionFrame × Formula). ResultStands most threads whole rest (condition_ended q))
         (sym d.is) (by_branches d.bs d.shallow d.counted d.whole_is)
       where
         by_branches : (bs : List Branch) → opens bs + depth d.t ≤ most.nesting
             → count bs + operators d.t ≡ used → whole ≡ before bs (spelled d.t (tokens.End ∷ rest))
-            → ResultStands most threads whole rest (ended (frames bs, formula_meaning d.t))
+            → ResultStands most threads whole rest (condition_ended (frames bs, tree_formula d.t))
         by_branches [] shallow counted is =
             record { t = d.t; is = record { grouped = d.grouped; atoms = d.atoms; shallow = omega arith; short = omega arith }; means = refl; whole_is = is }
         by_branches (b ∷ bs) shallow counted is = tt
@@ -247,16 +247,16 @@ module _ (most : Limits) (threads : ℕ) (few : threads < 18446744073709551616) 
     closed_stands : (rest : List Token) (used : ℕ) (p : List ConditionFrame × Formula)
         → used ≤ most.operators
         → Folded most threads 0 whole (tokens.Mark marks.Close ∷ rest) p used
-        → ResultStands most threads whole rest (closed used p)
+        → ResultStands most threads whole rest (condition_closed used p)
     closed_stands rest used p short d =
-        subst (λ (q : List ConditionFrame × Formula). ResultStands most threads whole rest (closed used q))
+        subst (λ (q : List ConditionFrame × Formula). ResultStands most threads whole rest (condition_closed used q))
         (sym d.is) (by_branches d.bs d.fine d.shallow d.counted d.whole_is)
       where
         by_branches : (bs : List Branch) → Fine most threads bs
             → opens bs + depth d.t ≤ most.nesting
             → count bs + operators d.t ≡ used
             → whole ≡ before bs (spelled d.t (tokens.Mark marks.Close ∷ rest))
-            → ResultStands most threads whole rest (closed used (frames bs, formula_meaning d.t))
+            → ResultStands most threads whole rest (condition_closed used (frames bs, tree_formula d.t))
         by_branches [] fine shallow counted is = tt
         by_branches (BGroup ∷ bs) fine shallow counted is =
             record { bs = bs; t = Group d.t; is = refl; means = refl; fine = fine.1; grouped = d.grouped; atoms = d.atoms; tight = omega arith; shallow = omega arith; counted = counted; short = short; whole_is = is }
@@ -265,7 +265,7 @@ module _ (most : Limits) (threads : ℕ) (few : threads < 18446744073709551616) 
 
     behind_stands : (t : Token) (rest : List Token) (fs : List ConditionFrame) (used : ℕ) (v : Formula)
         → Full most threads whole (t ∷ rest) fs used v
-        → ResultStands most threads whole rest (behind most fs used v t)
+        → ResultStands most threads whole rest (behind_operand most fs used v t)
     behind_stands (tokens.Mark marks.And) rest fs used v f =
         joins_stands connectives.And rest fs used v f
     behind_stands (tokens.Mark marks.Or) rest fs used v f =

@@ -12,9 +12,9 @@ use Rattle.litmus_tokens.specs.declared.condition.Frame as code_frame
 use Rattle.litmus_tokens.specs.declared.condition.Frame.TheVariants as frames
 use Rattle.litmus_tokens.specs.declared.condition.PropositionStep as code_step
 use Rattle.litmus_tokens.specs.declared.step.StepError.{StepError}
-use Rattle.litmus_tokens.specs.Conditions.{limits}
+use Rattle.litmus_tokens.specs.Conditions.{condition_limits}
 use Rattle.litmus_tokens.specs.ConditionMachine as machine
-use Rattle.litmus_tokens.specs.ConditionReading.{frame_of, stacked, stack_of, is_open, StepsTo}
+use Rattle.litmus_tokens.specs.ConditionReading.{frame_of, stacked, condition_stack_of, is_open, StepsCondition}
 
 stacked-push : (fs : List code_frame.Frame) (f : code_frame.Frame) (below : List machine.ConditionFrame)
     → stacked (fs ++ f ∷ []) below ≡ frame_of f ∷ stacked fs below
@@ -22,67 +22,67 @@ stacked-push [] f below = refl
 stacked-push (g ∷ fs) f below = stacked-push fs f (frame_of g ∷ below)
 
 pub stack_of-push : (fs : List code_frame.Frame) (f : code_frame.Frame)
-    → stack_of (fs ++ f ∷ []) ≡ frame_of f ∷ stack_of fs
+    → condition_stack_of (fs ++ f ∷ []) ≡ frame_of f ∷ condition_stack_of fs
 stack_of-push fs f = stacked-push fs f []
 
 -- one turn of joining: the frame that was popped decides
 module _ (l : ℕ) (start : List machine.ConditionFrame × Formula) (items rest : List code_frame.Frame)
-    (v : Formula) (so_far : start ≡ machine.fold_to l (stack_of items) v) where
+    (v : Formula) (so_far : start ≡ machine.fold_to l (condition_stack_of items) v) where
   popped : (f : code_frame.Frame) → items ≡ rest ++ f ∷ []
-      → start ≡ machine.fold_to l (frame_of f ∷ stack_of rest) v
+      → start ≡ machine.fold_to l (frame_of f ∷ condition_stack_of rest) v
   popped f e =
       so_far
       ∙ ap (λ (fs : List machine.ConditionFrame). machine.fold_to l fs v)
-      (ap stack_of e ∙ stack_of-push rest f)
+      (ap condition_stack_of e ∙ stack_of-push rest f)
 
   pub popped_prefix : (f : code_frame.Frame) → items ≡ rest ++ f ∷ [] → f ≡ frames.Prefix
       → (w : Proposition) → formula_of w ≡ v
-      → start ≡ machine.fold_to l (stack_of rest) (Not (formula_of w))
+      → start ≡ machine.fold_to l (condition_stack_of rest) (Not (formula_of w))
   popped_prefix f e is w same =
       popped f e
-      ∙ ap (λ (g : code_frame.Frame). machine.fold_to l (frame_of g ∷ stack_of rest) v) is
-      ∙ ap (λ (x : Formula). machine.fold_to l (stack_of rest) (Not x)) (sym same)
+      ∙ ap (λ (g : code_frame.Frame). machine.fold_to l (frame_of g ∷ condition_stack_of rest) v) is
+      ∙ ap (λ (x : Formula). machine.fold_to l (condition_stack_of rest) (Not x)) (sym same)
 
   pub popped_left : (f : code_frame.Frame) → items ≡ rest ++ f ∷ []
       → (op : Connective) (a a' w : Proposition) → f ≡ frames.Left op a → a' ≡ a → formula_of w ≡ v
       → l ≤ level op
-      → start ≡ machine.fold_to l (stack_of rest) (Join op (formula_of a') (formula_of w))
+      → start ≡ machine.fold_to l (condition_stack_of rest) (Join op (formula_of a') (formula_of w))
   popped_left f e op a a' w is left same le =
       popped f e
-      ∙ ap (λ (g : code_frame.Frame). machine.fold_to l (frame_of g ∷ stack_of rest) v) is
+      ∙ ap (λ (g : code_frame.Frame). machine.fold_to l (frame_of g ∷ condition_stack_of rest) v) is
       ∙ ap
-      (λ (x : Bool). if x then machine.fold_to l (stack_of rest) (Join op (formula_of a) v)
-      else (machine.LeftOf op (formula_of a) ∷ stack_of rest, v))
+      (λ (x : Bool). if x then machine.fold_to l (condition_stack_of rest) (Join op (formula_of a) v)
+      else (machine.LeftOf op (formula_of a) ∷ condition_stack_of rest, v))
       (le-leb l (level op) le)
-      ∙ ap (λ (x : Formula). machine.fold_to l (stack_of rest) (Join op (formula_of a) x))
+      ∙ ap (λ (x : Formula). machine.fold_to l (condition_stack_of rest) (Join op (formula_of a) x))
       (sym same)
       ∙ ap
       (λ (x : Proposition).
-      machine.fold_to l (stack_of rest) (Join op (formula_of x) (formula_of w)))
+      machine.fold_to l (condition_stack_of rest) (Join op (formula_of x) (formula_of w)))
       (sym left)
 
   pub popped_stays : (f : code_frame.Frame) → items ≡ rest ++ f ∷ []
       → (op : Connective) (a : Proposition) (after : List code_frame.Frame) → f ≡ frames.Left op a
-      → level op < l → after ≡ rest ++ frames.Left op a ∷ [] → start ≡ (stack_of after, v)
+      → level op < l → after ≡ rest ++ frames.Left op a ∷ [] → start ≡ (condition_stack_of after, v)
   popped_stays f e op a after is lt pushed =
       popped f e
-      ∙ ap (λ (g : code_frame.Frame). machine.fold_to l (frame_of g ∷ stack_of rest) v) is
+      ∙ ap (λ (g : code_frame.Frame). machine.fold_to l (frame_of g ∷ condition_stack_of rest) v) is
       ∙ ap
-      (λ (x : Bool). if x then machine.fold_to l (stack_of rest) (Join op (formula_of a) v)
-      else (machine.LeftOf op (formula_of a) ∷ stack_of rest, v))
+      (λ (x : Bool). if x then machine.fold_to l (condition_stack_of rest) (Join op (formula_of a) v)
+      else (machine.LeftOf op (formula_of a) ∷ condition_stack_of rest, v))
       (lt-leb l (level op) lt)
       ∙ sym (ap (λ (fs : List machine.ConditionFrame). (fs, v))
-      (ap stack_of pushed ∙ stack_of-push rest (frames.Left op a)))
+      (ap condition_stack_of pushed ∙ stack_of-push rest (frames.Left op a)))
 
   -- a parenthesis stays
   pub popped_group : (f : code_frame.Frame) → items ≡ rest ++ f ∷ [] → f ≡ frames.Group
       → (after : List code_frame.Frame) → after ≡ rest ++ frames.Group ∷ []
-      → start ≡ (stack_of after, v)
+      → start ≡ (condition_stack_of after, v)
   popped_group f e is after pushed =
       popped f e
-      ∙ ap (λ (h : code_frame.Frame). machine.fold_to l (frame_of h ∷ stack_of rest) v) is
+      ∙ ap (λ (h : code_frame.Frame). machine.fold_to l (frame_of h ∷ condition_stack_of rest) v) is
       ∙ sym (ap (λ (fs : List machine.ConditionFrame). (fs, v))
-      (ap stack_of pushed ∙ stack_of-push rest frames.Group))
+      (ap condition_stack_of pushed ∙ stack_of-push rest frames.Group))
 
 open_count-stacked : (fs : List code_frame.Frame) (below : List machine.ConditionFrame)
     → machine.open_count (stacked fs below) ≡ count_by is_open fs + machine.open_count below
@@ -98,75 +98,75 @@ open_count-stacked (frames.Left op a ∷ fs) below =
     let h = open_count-stacked fs (machine.LeftOf op (formula_of a) ∷ below) in omega arith
 
 pub open_count-stack : (fs : List code_frame.Frame)
-    → machine.open_count (stack_of fs) ≡ count_by is_open fs
+    → machine.open_count (condition_stack_of fs) ≡ count_by is_open fs
 open_count-stack fs = let h = open_count-stacked fs [] in omega arith
 
 -- one more frame, where it may be opened
 pub opened_below : (fs all : List code_frame.Frame) (f : code_frame.Frame) (used : ℕ)
-    → all ≡ fs ++ f ∷ [] → machine.open_count (stack_of fs) < 64
-    → machine.opened limits (stack_of fs)
-    (machine.Goes (frame_of f ∷ stack_of fs) used machine.Wants)
-    ≡ machine.Goes (stack_of all) used machine.Wants
+    → all ≡ fs ++ f ∷ [] → machine.open_count (condition_stack_of fs) < 64
+    → machine.condition_opened condition_limits (condition_stack_of fs)
+    (machine.Goes (frame_of f ∷ condition_stack_of fs) used machine.Wants)
+    ≡ machine.Goes (condition_stack_of all) used machine.Wants
 opened_below fs all f used e lt =
     ap
-    (λ (x : Bool). if x then machine.Goes (frame_of f ∷ stack_of fs) used machine.Wants
+    (λ (x : Bool). if x then machine.Goes (frame_of f ∷ condition_stack_of fs) used machine.Wants
     else machine.Refuses)
     (lt-ltb _ _ lt)
     ∙ ap (λ (gs : List machine.ConditionFrame). machine.Goes gs used machine.Wants)
-    (sym (ap stack_of e ∙ stack_of-push fs f))
+    (sym (ap condition_stack_of e ∙ stack_of-push fs f))
 
 -- an operand behind the word `not`
 pub not_result : (threads : ℕ) (fs all : List code_frame.Frame) (used : ℕ) (t : Token)
     (r : Result code_step.PropositionStep StepError) → machine.is_equals t ≡ false
-    → all ≡ fs ++ frames.Prefix ∷ [] → machine.open_count (stack_of fs) < 64
-    → StepsTo r (machine.operand limits threads (stack_of all) used t)
-    → StepsTo r (machine.after_not limits threads (stack_of fs) used t)
+    → all ≡ fs ++ frames.Prefix ∷ [] → machine.open_count (condition_stack_of fs) < 64
+    → StepsCondition r (machine.operand condition_limits threads (condition_stack_of all) used t)
+    → StepsCondition r (machine.after_not condition_limits threads (condition_stack_of fs) used t)
 not_result threads fs all used t r other e lt h =
-    let here = machine.operand limits threads (machine.InPrefix ∷ stack_of fs) used t in
-    let same : machine.after_not limits threads (stack_of fs) used t ≡ machine.operand limits threads (stack_of all) used t
+    let here = machine.operand condition_limits threads (machine.InPrefix ∷ condition_stack_of fs) used t in
+    let same : machine.after_not condition_limits threads (condition_stack_of fs) used t ≡ machine.operand condition_limits threads (condition_stack_of all) used t
     =
     ap
-    (λ (x : Bool). if x then machine.Goes (stack_of fs) used
+    (λ (x : Bool). if x then machine.Goes (condition_stack_of fs) used
     (machine.WantsValue (places.Location (codes "not")))
-    else machine.opened limits (stack_of fs) here) other
+    else machine.condition_opened condition_limits (condition_stack_of fs) here) other
     ∙ ap (λ (x : Bool). if x then here else machine.Refuses) (lt-ltb _ _ lt)
-    ∙ ap (λ (gs : List machine.ConditionFrame). machine.operand limits threads gs used t)
-    (sym (ap stack_of e ∙ stack_of-push fs frames.Prefix)) in
-    subst (StepsTo r) (sym same) h
+    ∙ ap (λ (gs : List machine.ConditionFrame). machine.operand condition_limits threads gs used t)
+    (sym (ap condition_stack_of e ∙ stack_of-push fs frames.Prefix)) in
+    subst (StepsCondition r) (sym same) h
 
 -- an operator with its left operand, once what binds tighter is joined
 pub joins_below : (fs middle all : List code_frame.Frame) (op : Connective) (n used : ℕ)
     (v : Formula) (left : Proposition) → n ≡ level op
-    → machine.fold_to (n + 1) (stack_of fs) v ≡ (stack_of middle, formula_of left)
+    → machine.fold_to (n + 1) (condition_stack_of fs) v ≡ (condition_stack_of middle, formula_of left)
     → all ≡ middle ++ frames.Left op left ∷ [] → used < 1024
-    → machine.joins limits (stack_of fs) used v op
-    ≡ machine.Goes (stack_of all) (used + 1) machine.Wants
+    → machine.joins condition_limits (condition_stack_of fs) used v op
+    ≡ machine.Goes (condition_stack_of all) (used + 1) machine.Wants
 joins_below fs middle all op n used v left same folded e lt =
     ap
     (λ (x : Bool). if x then machine.Goes
-    (machine.left_frames op (machine.fold_to (level op + 1) (stack_of fs) v)) (used + 1)
+    (machine.left_frames op (machine.fold_to (level op + 1) (condition_stack_of fs) v)) (used + 1)
     machine.Wants
     else machine.Refuses)
     (lt-ltb _ _ lt)
     ∙ ap
-    (λ (k : ℕ). machine.Goes (machine.left_frames op (machine.fold_to (k + 1) (stack_of fs) v))
+    (λ (k : ℕ). machine.Goes (machine.left_frames op (machine.fold_to (k + 1) (condition_stack_of fs) v))
     (used + 1) machine.Wants)
     (sym same)
     ∙ ap
     (λ (p : List machine.ConditionFrame × Formula).
     machine.Goes (machine.left_frames op p) (used + 1) machine.Wants) folded
     ∙ ap (λ (gs : List machine.ConditionFrame). machine.Goes gs (used + 1) machine.Wants)
-    (sym (ap stack_of e ∙ stack_of-push middle (frames.Left op left)))
+    (sym (ap condition_stack_of e ∙ stack_of-push middle (frames.Left op left)))
 
 -- the outermost of what is open, once everything is joined
 pub popped_of : (p : List machine.ConditionFrame × Formula) (all rest : List code_frame.Frame)
-    (f : code_frame.Frame) (v : Formula) → p ≡ (stack_of all, v) → all ≡ rest ++ f ∷ []
-    → p ≡ (frame_of f ∷ stack_of rest, v)
+    (f : code_frame.Frame) (v : Formula) → p ≡ (condition_stack_of all, v) → all ≡ rest ++ f ∷ []
+    → p ≡ (frame_of f ∷ condition_stack_of rest, v)
 popped_of p all rest f v e split =
-    e ∙ ap (λ (fs : List machine.ConditionFrame). (fs, v)) (ap stack_of split ∙ stack_of-push rest f)
+    e ∙ ap (λ (fs : List machine.ConditionFrame). (fs, v)) (ap condition_stack_of split ∙ stack_of-push rest f)
 
 -- a proposition does not end where something is open
 pub refused_of : (p : List machine.ConditionFrame × Formula) (all rest : List code_frame.Frame)
-    (f : code_frame.Frame) (v : Formula) → p ≡ (stack_of all, v) → all ≡ rest ++ f ∷ []
-    → machine.ended p ≡ machine.Refuses
-refused_of p all rest f v e split = ap machine.ended (popped_of p all rest f v e split)
+    (f : code_frame.Frame) (v : Formula) → p ≡ (condition_stack_of all, v) → all ≡ rest ++ f ∷ []
+    → machine.condition_ended p ≡ machine.Refuses
+refused_of p all rest f v e split = ap machine.condition_ended (popped_of p all rest f v e split)

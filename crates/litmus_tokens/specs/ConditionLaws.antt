@@ -20,10 +20,10 @@ takes_on later ts (Ends v) = are_none ts
 takes_on later ts Refuses = false
 
 -- whether each of these tokens is taken, one after another
-abbrev pub takes : Limits → ℕ → List ConditionFrame → ℕ → ConditionExpectation → List Token → Bool
-takes most threads fs used expected [] = true
-takes most threads fs used expected (t ∷ ts) =
-    takes_on (λ gs u h. takes most threads gs u h ts) ts
+abbrev pub takes_tokens : Limits → ℕ → List ConditionFrame → ℕ → ConditionExpectation → List Token → Bool
+takes_tokens most threads fs used expected [] = true
+takes_tokens most threads fs used expected (t ∷ ts) =
+    takes_on (λ gs u h. takes_tokens most threads gs u h ts) ts
     (proposition_step most threads fs used expected t)
 
 -- these tokens are a proposition, in a test of so many threads, and the end
@@ -36,4 +36,4 @@ pub record IsPropositionText (most : Limits) (threads : ℕ) (ts : List Token) :
 abbrev pub TakesWhatBegins : Limits → ℕ → Type 0
 TakesWhatBegins most threads =
     (ts : List Token)
-    → (takes most threads [] 0 Wants ts ≡ true) ↔ Begins (IsPropositionText most threads) ts
+    → (takes_tokens most threads [] 0 Wants ts ≡ true) ↔ Begins (IsPropositionText most threads) ts

@@ -56,8 +56,8 @@ fold_to l (LeftOf op a ∷ fs) v =
     if nat_le l (level op) then fold_to l fs (Join op a v) else (LeftOf op a ∷ fs, v)
 
 -- goes on where one more may be open
-abbrev pub opened : Limits → List ConditionFrame → ConditionStepResult → ConditionStepResult
-opened most fs next = if nat_lt (open_count fs) most.nesting then next else Refuses
+abbrev pub condition_opened : Limits → List ConditionFrame → ConditionStepResult → ConditionStepResult
+condition_opened most fs next = if nat_lt (open_count fs) most.nesting then next else Refuses
 
 abbrev pub expected_after_word : List ℕ → ConditionExpectation
 expected_after_word w =
@@ -81,9 +81,9 @@ place_result fs used within t = in_place fs used (expected_after_place (place_st
 abbrev pub operand : Limits → ℕ → List ConditionFrame → ℕ → Token → ConditionStepResult
 operand most threads fs used (tokens.Word w) = Goes fs used (expected_after_word w)
 operand most threads fs used (tokens.Mark marks.Tilde) =
-    opened most fs (Goes (InPrefix ∷ fs) used Wants)
+    condition_opened most fs (Goes (InPrefix ∷ fs) used Wants)
 operand most threads fs used (tokens.Mark marks.Open) =
-    opened most fs (Goes (InGroup ∷ fs) used Wants)
+    condition_opened most fs (Goes (InGroup ∷ fs) used Wants)
 operand most threads fs used (tokens.Mark marks.OpenBracket) = Goes fs used (InPlace WantsName)
 operand most threads fs used (tokens.Number false t) =
     if nat_lt (decimal t) threads then Goes fs used (InPlace (WantsColon t)) else Refuses
@@ -98,22 +98,22 @@ joins most fs used v op =
     (used + 1) Wants
     else Refuses
 
-abbrev pub closed : ℕ → List ConditionFrame × Formula → ConditionStepResult
-closed used (InGroup ∷ fs, v) = Goes fs used (Has v)
-closed used (fs, v) = Refuses
+abbrev pub condition_closed : ℕ → List ConditionFrame × Formula → ConditionStepResult
+condition_closed used (InGroup ∷ fs, v) = Goes fs used (Has v)
+condition_closed used (fs, v) = Refuses
 
-abbrev pub ended : List ConditionFrame × Formula → ConditionStepResult
-ended ([], v) = Ends v
-ended (f ∷ fs, v) = Refuses
+abbrev pub condition_ended : List ConditionFrame × Formula → ConditionStepResult
+condition_ended ([], v) = Ends v
+condition_ended (f ∷ fs, v) = Refuses
 
 -- a token behind an operand
-abbrev pub behind : Limits → List ConditionFrame → ℕ → Formula → Token → ConditionStepResult
-behind most fs used v (tokens.Mark marks.And) = joins most fs used v connectives.And
-behind most fs used v (tokens.Mark marks.Or) = joins most fs used v connectives.Or
-behind most fs used v (tokens.Mark marks.Implies) = joins most fs used v connectives.Implies
-behind most fs used v (tokens.Mark marks.Close) = closed used (fold_to 0 fs v)
-behind most fs used v tokens.End = ended (fold_to 0 fs v)
-behind most fs used v t = Refuses
+abbrev pub behind_operand : Limits → List ConditionFrame → ℕ → Formula → Token → ConditionStepResult
+behind_operand most fs used v (tokens.Mark marks.And) = joins most fs used v connectives.And
+behind_operand most fs used v (tokens.Mark marks.Or) = joins most fs used v connectives.Or
+behind_operand most fs used v (tokens.Mark marks.Implies) = joins most fs used v connectives.Implies
+behind_operand most fs used v (tokens.Mark marks.Close) = condition_closed used (fold_to 0 fs v)
+behind_operand most fs used v tokens.End = condition_ended (fold_to 0 fs v)
+behind_operand most fs used v t = Refuses
 
 abbrev pub is_equals : Token → Bool
 is_equals (tokens.Mark marks.Equals) = true
@@ -123,13 +123,13 @@ is_equals t = false
 abbrev pub after_constant : Limits → List ConditionFrame → ℕ → Bool → Token → ConditionStepResult
 after_constant most fs used b t =
     if is_equals t then Goes fs used (WantsValue (places.Location (constant_word b)))
-    else behind most fs used (Constant b) t
+    else behind_operand most fs used (Constant b) t
 
 -- a token behind the word `not`
 abbrev pub after_not : Limits → ℕ → List ConditionFrame → ℕ → Token → ConditionStepResult
 after_not most threads fs used t =
     if is_equals t then Goes fs used (WantsValue (places.Location (codes "not")))
-    else opened most fs (operand most threads (InPrefix ∷ fs) used t)
+    else condition_opened most fs (operand most threads (InPrefix ∷ fs) used t)
 
 abbrev pub after_place : List ConditionFrame → ℕ → Place → Token → ConditionStepResult
 after_place fs used p t = if is_equals t then Goes fs used (WantsValue p) else Refuses
@@ -146,7 +146,7 @@ proposition_step most threads fs used HasNot t = after_not most threads fs used 
 proposition_step most threads fs used (InPlace within) t = place_result fs used within t
 proposition_step most threads fs used (WantsEquals p) t = after_place fs used p t
 proposition_step most threads fs used (WantsValue p) t = atom_read fs used p (value_read t)
-proposition_step most threads fs used (Has v) t = behind most fs used v t
+proposition_step most threads fs used (Has v) t = behind_operand most fs used v t
 
 abbrev pub whole_at : Formula → List Token → Option Formula
 whole_at v [] = Some v

@@ -21,30 +21,30 @@ abbrev pub stacked : List code_frame.Frame → List machine.ConditionFrame → L
 stacked [] below = below
 stacked (f ∷ fs) below = stacked fs (frame_of f ∷ below)
 
-abbrev pub stack_of : List code_frame.Frame → List machine.ConditionFrame
-stack_of fs = stacked fs []
+abbrev pub condition_stack_of : List code_frame.Frame → List machine.ConditionFrame
+condition_stack_of fs = stacked fs []
 
-abbrev pub expectation_of : code_expectation.Expectation → machine.ConditionExpectation
-expectation_of expectations.Wants = machine.Wants
-expectation_of (expectations.HasConstant b) = machine.HasConstant b
-expectation_of expectations.HasNot = machine.HasNot
-expectation_of (expectations.InPlace within) = machine.InPlace within
-expectation_of (expectations.WantsEquals p) = machine.WantsEquals p
-expectation_of (expectations.WantsValue p) = machine.WantsValue p
-expectation_of (expectations.Has a) = machine.Has (formula_of a)
+abbrev pub condition_expectation_of : code_expectation.Expectation → machine.ConditionExpectation
+condition_expectation_of expectations.Wants = machine.Wants
+condition_expectation_of (expectations.HasConstant b) = machine.HasConstant b
+condition_expectation_of expectations.HasNot = machine.HasNot
+condition_expectation_of (expectations.InPlace within) = machine.InPlace within
+condition_expectation_of (expectations.WantsEquals p) = machine.WantsEquals p
+condition_expectation_of (expectations.WantsValue p) = machine.WantsValue p
+condition_expectation_of (expectations.Has a) = machine.Has (formula_of a)
 
 -- what a token did is what the machine does, unless memory ran out
-abbrev pub StepsTo : Result code_step.PropositionStep StepError → machine.ConditionStepResult → Type 0
-StepsTo (Ok (code_steps.Goes fs used expected)) made =
-    made ≡ machine.Goes (stack_of fs.items) used (expectation_of expected)
-StepsTo (Ok (code_steps.Ends v)) made = made ≡ machine.Ends (formula_of v)
-StepsTo (Err errors.OutOfMemory) made = Unit {0}
-StepsTo (Err errors.Refused) made = made ≡ machine.Refuses
+abbrev pub StepsCondition : Result code_step.PropositionStep StepError → machine.ConditionStepResult → Type 0
+StepsCondition (Ok (code_steps.Goes fs used expected)) made =
+    made ≡ machine.Goes (condition_stack_of fs.items) used (condition_expectation_of expected)
+StepsCondition (Ok (code_steps.Ends v)) made = made ≡ machine.Ends (formula_of v)
+StepsCondition (Err errors.OutOfMemory) made = Unit {0}
+StepsCondition (Err errors.Refused) made = made ≡ machine.Refuses
 
 -- a part of a place was read, or the token refused
 abbrev pub ReadsPlace : Result code_expectation.Expectation StepError → Option machine.ConditionExpectation
     → Type 0
-ReadsPlace (Ok expected) made = made ≡ Some (expectation_of expected)
+ReadsPlace (Ok expected) made = made ≡ Some (condition_expectation_of expected)
 ReadsPlace (Err errors.OutOfMemory) made = ⊥
 ReadsPlace (Err errors.Refused) made = made ≡ None
 

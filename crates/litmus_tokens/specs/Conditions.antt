@@ -99,12 +99,12 @@ spelled (Pair op a b) rest = spelled a (connective_token op ∷ spelled b rest)
 spelled (Group a) rest = tokens.Mark Open ∷ spelled a (tokens.Mark Close ∷ rest)
 
 -- what it means: the parentheses are gone
-abbrev pub formula_meaning : FormulaTree → Formula
-formula_meaning (Word b) = Constant b
-formula_meaning (Atom p v) = Holds (place_meaning p) (value_meaning v)
-formula_meaning (Prefix tilde a) = Not (formula_meaning a)
-formula_meaning (Pair op a b) = Join op (formula_meaning a) (formula_meaning b)
-formula_meaning (Group a) = formula_meaning a
+abbrev pub tree_formula : FormulaTree → Formula
+tree_formula (Word b) = Constant b
+tree_formula (Atom p v) = Holds (place_meaning p) (value_meaning v)
+tree_formula (Prefix tilde a) = Not (tree_formula a)
+tree_formula (Pair op a b) = Join op (tree_formula a) (tree_formula b)
+tree_formula (Group a) = tree_formula a
 
 abbrev pub tightness : FormulaTree → ℕ
 tightness (Word b) = 5
@@ -152,8 +152,8 @@ pub record Limits : Type 0 where
   pub operators : ℕ
 
 -- the limits of the format
-abbrev pub limits : Limits
-limits = record { nesting = 64; operators = 1024 }
+abbrev pub condition_limits : Limits
+condition_limits = record { nesting = 64; operators = 1024 }
 
 pub record IsFormulaTree (most : Limits) (threads : ℕ) (t : FormulaTree) : Type 0 where
   pub grouped : IsGrouped t
@@ -167,7 +167,7 @@ pub record IsProposition (most : Limits) (threads : ℕ) (ts : List Token) (v : 
   pub tree : FormulaTree
   pub fine : IsFormulaTree most threads tree
   pub whole : ts ≡ spelled tree (tokens.End ∷ [])
-  pub meant : formula_meaning tree ≡ v
+  pub meant : tree_formula tree ≡ v
 
 abbrev pub spelled_quantifier : Quantifier → List Token → List Token
 spelled_quantifier Exists rest = tokens.Word (codes "exists") ∷ rest

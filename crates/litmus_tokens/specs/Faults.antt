@@ -10,7 +10,7 @@ use Rattle.litmus_tokens.specs.declared.token.Token.{Token}
 use Rattle.litmus_tokens.specs.declared.token.Token.TheVariants as tokens
 use Rattle.litmus_tokens.specs.declared.token.Mark.TheVariants.{Semicolon, Bar}
 use Rattle.litmus_tokens.specs.Stage.{part_rule}
-use Rattle.litmus_tokens.specs.Texts.{TokenAt, tokens_of, stage_after}
+use Rattle.litmus_tokens.specs.Texts.{TokenAt, test_tokens_of, stage_after}
 use Rattle.litmus_tokens.specs.Words.{is_filter, is_int}
 
 -- some text begins with these tokens
@@ -68,9 +68,9 @@ pub record IsFault (IsText : List Token → Type 0) (start : Stage) (ps : List T
   pub here : TokenAt
   pub behind : List TokenAt
   pub split : ps ≡ before ++ here ∷ behind
-  pub begins : Begins IsText (tokens_of before)
-  pub ends : CanFollow IsText (tokens_of before) here.token → ⊥
+  pub begins : Begins IsText (test_tokens_of before)
+  pub ends : CanFollow IsText (test_tokens_of before) here.token → ⊥
   pub at_place : here.offset ≡ offset
   pub number :
-      let s = stage_after start (tokens_of before) in
-      RulingSays (CanFollow IsText (tokens_of before)) s (ruling s here.token) rule
+      let s = stage_after start (test_tokens_of before) in
+      RulingSays (CanFollow IsText (test_tokens_of before)) s (ruling s here.token) rule

@@ -27,24 +27,24 @@ after_brace true = Init true false
 after_brace false = Header 8
 
 -- each part ends at a token of its own
-abbrev pub after : Stage → Token → Stage
-after Magic t = Title
-after Title t = TitleEnd
-after TitleEnd t = Head
-after Head (tokens.Mark marks.OpenBrace) = Init false false
-after Head t = Head
-after (Init alone after_word) (tokens.Mark marks.CloseBrace) = after_brace alone
-after (Init alone after_word) (tokens.Word w) = Init alone true
-after (Init alone after_word) t = Init alone false
-after (Header left) (tokens.Mark marks.Bar) = Header (left - 1)
-after (Header left) (tokens.Mark marks.Semicolon) = CellBegins
-after (Header left) t = Header left
-after CellBegins (tokens.Word w) = if ends_table w then Tail else InCell
-after CellBegins (tokens.Mark marks.Tilde) = Tail
-after CellBegins (tokens.Mark marks.Bar) = CellBegins
-after CellBegins (tokens.Mark marks.Semicolon) = CellBegins
-after CellBegins t = InCell
-after InCell (tokens.Mark marks.Bar) = CellBegins
-after InCell (tokens.Mark marks.Semicolon) = CellBegins
-after InCell t = InCell
-after Tail t = Tail
+abbrev pub next_stage : Stage → Token → Stage
+next_stage Magic t = Title
+next_stage Title t = TitleEnd
+next_stage TitleEnd t = Head
+next_stage Head (tokens.Mark marks.OpenBrace) = Init false false
+next_stage Head t = Head
+next_stage (Init alone after_word) (tokens.Mark marks.CloseBrace) = after_brace alone
+next_stage (Init alone after_word) (tokens.Word w) = Init alone true
+next_stage (Init alone after_word) t = Init alone false
+next_stage (Header left) (tokens.Mark marks.Bar) = Header (left - 1)
+next_stage (Header left) (tokens.Mark marks.Semicolon) = CellBegins
+next_stage (Header left) t = Header left
+next_stage CellBegins (tokens.Word w) = if ends_table w then Tail else InCell
+next_stage CellBegins (tokens.Mark marks.Tilde) = Tail
+next_stage CellBegins (tokens.Mark marks.Bar) = CellBegins
+next_stage CellBegins (tokens.Mark marks.Semicolon) = CellBegins
+next_stage CellBegins t = InCell
+next_stage InCell (tokens.Mark marks.Bar) = CellBegins
+next_stage InCell (tokens.Mark marks.Semicolon) = CellBegins
+next_stage InCell t = InCell
+next_stage Tail t = Tail

@@ -7,7 +7,7 @@ use Rattle.litmus_tokens.specs.declared.token.Token.TheVariants as tokens
 use Rattle.litmus_tokens.specs.declared.lexer.NextLexeme.{NextLexeme}
 use Rattle.litmus_tokens.specs.declared.lexer.NextLexeme.TheVariants.{Layout, Lexeme}
 use Rattle.litmus_tokens.specs.Lexer.{first_lexeme}
-use Rattle.litmus_tokens.specs.Stage.{after}
+use Rattle.litmus_tokens.specs.Stage.{next_stage}
 use Rattle.litmus_tokens.specs.declared.token.Mark.TheVariants.{Tilde}
 use Rattle.litmus_tokens.specs.Words.{ends_table}
 
@@ -16,14 +16,14 @@ pub record TokenAt : Type 0 where
   pub token : Token
   pub offset : ℕ
 
-abbrev pub tokens_of : List TokenAt → List Token
-tokens_of [] = []
-tokens_of (p ∷ ps) = p.token ∷ tokens_of ps
+abbrev pub test_tokens_of : List TokenAt → List Token
+test_tokens_of [] = []
+test_tokens_of (p ∷ ps) = p.token ∷ test_tokens_of ps
 
 -- the part that the token behind these stands in
 abbrev pub stage_after : Stage → List Token → Stage
 stage_after s [] = s
-stage_after s (t ∷ ts) = stage_after (after s t) ts
+stage_after s (t ∷ ts) = stage_after (next_stage s t) ts
 
 abbrev pub are_none : List Token → Bool
 are_none [] = true
@@ -52,7 +52,7 @@ abbrev pub after_lexeme : Stage → Bool → ℕ → ℕ → NextLexeme → (Sta
     → List TokenAt
 after_lexeme s fresh offset b (Layout n) later = later s (fresh_after fresh b) (n - 1)
 after_lexeme s fresh offset b (Lexeme t n) later =
-    record { token = t; offset = offset } ∷ later (after s t) (ends_line t) (n - 1)
+    record { token = t; offset = offset } ∷ later (next_stage s t) (ends_line t) (n - 1)
 
 -- the tokens of a text that begins in a part, at an offset, once skip bytes are passed over, and
 -- its end
@@ -63,8 +63,8 @@ tokens_from s fresh zero offset (b ∷ bs) =
     after_lexeme s fresh offset b (first_lexeme s fresh (b ∷ bs)) (λ s' fresh' skip.
     tokens_from s' fresh' skip (offset + 1) bs)
 
-abbrev pub lexing : Stage → List ℕ → List TokenAt
-lexing s bytes = tokens_from s false 0 0 bytes
+abbrev pub test_lexing : Stage → List ℕ → List TokenAt
+test_lexing s bytes = tokens_from s false 0 0 bytes
 
 -- the token behind these stands at this offset
 pub record StandsAt (ps : List TokenAt) (ts : List Token) (offset : ℕ) : Type 0 where
@@ -72,5 +72,5 @@ pub record StandsAt (ps : List TokenAt) (ts : List Token) (offset : ℕ) : Type 
   pub here : TokenAt
   pub behind : List TokenAt
   pub split : ps ≡ before ++ here ∷ behind
-  pub same : tokens_of before ≡ ts
+  pub same : test_tokens_of before ≡ ts
   pub at_place : here.offset ≡ offset

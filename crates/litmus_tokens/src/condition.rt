@@ -2,10 +2,10 @@
 
 ghost use Rattle.std.specs.Prelude.{◌≡◌, ◌∷◌, IfOk};
 ghost use Rattle.text_values.specs.TestValue.{formula_of};
-ghost use Rattle.litmus_tokens.specs.Conditions.{limits, constant_word};
+ghost use Rattle.litmus_tokens.specs.Conditions.{condition_limits, constant_word};
 ghost use Rattle.litmus_tokens.specs.PlaceMachine.{place_step};
-ghost use Rattle.litmus_tokens.specs.ConditionMachine.{Goes, Wants, open_count, opened, fold_to, expected_after_word, expected_after_place, operand, joins, closed, ended, behind, is_equals, after_constant, after_not, after_place, proposition_step};
-ghost use Rattle.litmus_tokens.specs.ConditionReading.{frame_of, stack_of, expectation_of, StepsTo, ReadsPlace};
+ghost use Rattle.litmus_tokens.specs.ConditionMachine.{Goes, Wants, open_count, condition_opened, fold_to, expected_after_word, expected_after_place, operand, joins, condition_closed, condition_ended, behind_operand, is_equals, after_constant, after_not, after_place, proposition_step};
+ghost use Rattle.litmus_tokens.specs.ConditionReading.{frame_of, condition_stack_of, condition_expectation_of, StepsCondition, ReadsPlace};
 
 use crate::place::{PlaceExpectation, PlaceStep, place_step, value_read};
 use crate::step::StepError;
@@ -83,8 +83,9 @@ fn joined(
     frames: &mut Vec<Frame>,
     operand: Proposition,
 ) -> Result<Proposition, AllocError>
-    ensures { IfOk result (λ v. fold_to level (stack_of frames.old.items) (formula_of operand)
-        ≡ (stack_of frames.new.items, formula_of v)) }
+    ensures { IfOk result (λ v. fold_to level (condition_stack_of frames.old.items)
+        (formula_of operand)
+        ≡ (condition_stack_of frames.new.items, formula_of v)) }
 {
     let mut operand = operand;
     while let Some(frame) = frames.pop() {
@@ -110,15 +111,16 @@ fn joined(
 
 // How many parentheses and prefixes are open.
 fn open_frames(frames: &[Frame]) -> usize
-    ensures { result ≡ open_count (stack_of frames.now) }
+    ensures { result ≡ open_count (condition_stack_of frames.now) }
 {
     frames.iter().filter(|f| f.is_open()).count()
 }
 
 // Opens a parenthesis or a prefix.
 fn opened(frames: Vec<Frame>, operators: usize, frame: Frame) -> Result<PropositionStep, StepError>
-    ensures { StepsTo result (opened limits (stack_of frames.items) (Goes
-        (frame_of frame ∷ stack_of frames.items) operators Wants)) }
+    ensures { StepsCondition result (condition_opened condition_limits
+        (condition_stack_of frames.items) (Goes
+        (frame_of frame ∷ condition_stack_of frames.items) operators Wants)) }
 {
     let mut frames = frames;
     if open_frames(&frames) >= MAX_NESTING {
@@ -135,7 +137,8 @@ fn operand(
     operators: usize,
     token: Token,
 ) -> Result<PropositionStep, StepError>
-    ensures { StepsTo result (operand limits threads (stack_of frames.items) operators token) }
+    ensures { StepsCondition result (operand condition_limits threads
+        (condition_stack_of frames.items) operators token) }
 {
     match token {
         Token::Word(name) => Ok(PropositionStep::Goes(
@@ -162,7 +165,7 @@ fn operand(
 
 // What a word may begin.
 fn expected_after_word(name: Name) -> Expectation
-    ensures { expectation_of result ≡ expected_after_word name }
+    ensures { condition_expectation_of result ≡ expected_after_word name }
 {
     let word = name.as_bytes();
     if word == b"true".as_slice() {
@@ -196,7 +199,8 @@ fn joins(
     left: Proposition,
     connective: Connective,
 ) -> Result<PropositionStep, StepError>
-    ensures { StepsTo result (joins limits (stack_of frames.items) operators (formula_of left)
+    ensures { StepsCondition result (joins condition_limits
+        (condition_stack_of frames.items) operators (formula_of left)
         connective) }
 {
     let mut frames = frames;
@@ -215,8 +219,8 @@ fn closed(
     operators: usize,
     operand: Proposition,
 ) -> Result<PropositionStep, StepError>
-    ensures { StepsTo result (closed operators
-        (fold_to 0 (stack_of frames.items) (formula_of operand))) }
+    ensures { StepsCondition result (condition_closed operators
+        (fold_to 0 (condition_stack_of frames.items) (formula_of operand))) }
 {
     let mut frames = frames;
     let operand = joined(alloc, 0, &mut frames, operand)?;
@@ -238,7 +242,8 @@ fn ended(
     frames: Vec<Frame>,
     operand: Proposition,
 ) -> Result<PropositionStep, StepError>
-    ensures { StepsTo result (ended (fold_to 0 (stack_of frames.items) (formula_of operand))) }
+    ensures { StepsCondition result (condition_ended (fold_to 0 (condition_stack_of frames.items)
+        (formula_of operand))) }
 {
     let mut frames = frames;
     let operand = joined(alloc, 0, &mut frames, operand)?;
@@ -256,7 +261,8 @@ fn behind(
     operand: Proposition,
     token: Token,
 ) -> Result<PropositionStep, StepError>
-    ensures { StepsTo result (behind limits (stack_of frames.items) operators (formula_of operand)
+    ensures { StepsCondition result (behind_operand condition_limits
+        (condition_stack_of frames.items) operators (formula_of operand)
         token) }
 {
     match token {
@@ -292,7 +298,8 @@ fn after_constant(
     value: bool,
     token: Token,
 ) -> Result<PropositionStep, StepError>
-    ensures { StepsTo result (after_constant limits (stack_of frames.items) operators value token) }
+    ensures { StepsCondition result (after_constant condition_limits
+        (condition_stack_of frames.items) operators value token) }
 {
     if is_equals(&token) {
         let place = Place::Location(constant_name(alloc, value)?);
@@ -315,7 +322,8 @@ fn after_not(
     operators: usize,
     token: Token,
 ) -> Result<PropositionStep, StepError>
-    ensures { StepsTo result (after_not limits threads (stack_of frames.items) operators token) }
+    ensures { StepsCondition result (after_not condition_limits threads
+        (condition_stack_of frames.items) operators token) }
 {
     if is_equals(&token) {
         let place = Place::Location(Name::new(alloc, b"not")?);
@@ -336,7 +344,8 @@ fn after_place(
     place: Place,
     token: Token,
 ) -> Result<PropositionStep, StepError>
-    ensures { StepsTo result (after_place (stack_of frames.items) operators place token) }
+    ensures { StepsCondition result (after_place (condition_stack_of frames.items) operators place
+        token) }
 {
     if is_equals(&token) {
         Ok(PropositionStep::Goes(frames, operators, Expectation::WantsValue(place)))
@@ -356,8 +365,9 @@ pub fn proposition_step(
     expected: Expectation,
     token: Token,
 ) -> Result<PropositionStep, StepError>
-    ensures { StepsTo result (proposition_step limits threads (stack_of frames.items) operators
-        (expectation_of expected) token) }
+    ensures { StepsCondition result (proposition_step condition_limits threads
+        (condition_stack_of frames.items) operators
+        (condition_expectation_of expected) token) }
 {
     match expected {
         Expectation::Wants => operand(threads, frames, operators, token),

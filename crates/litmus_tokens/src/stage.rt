@@ -1,7 +1,7 @@
 //! The stages of a text: the parts that its tokens stand in.
 
 ghost use Rattle.std.specs.Prelude.{◌≡◌, Bool};
-ghost use Rattle.litmus_tokens.specs.Stage.{part_rule, after};
+ghost use Rattle.litmus_tokens.specs.Stage.{part_rule, next_stage};
 ghost use Rattle.litmus_tokens.specs.declared.stage.Stage.TheVariants.{Init, Header, CellBegins};
 
 use crate::rule::LitmusRule;
@@ -55,7 +55,7 @@ impl Stage {
 
     /// The stage behind this token. Each stage ends at a token of its own.
     pub fn after(self, token: &Token) -> Stage
-        ensures { result ≡ after self token.now }
+        ensures { result ≡ next_stage self token.now }
     {
         match self {
             Stage::Magic => Stage::Title,
@@ -79,7 +79,7 @@ impl Stage {
 }
 
 fn init_after(alone: bool, token: &Token) -> Stage
-    ensures { (word : Bool) → result ≡ after (Init alone word) token.now }
+    ensures { (word : Bool) → result ≡ next_stage (Init alone word) token.now }
 {
     match token {
         Token::Mark(Mark::CloseBrace) => {
@@ -95,7 +95,7 @@ fn init_after(alone: bool, token: &Token) -> Stage
 }
 
 fn header_after(left: usize, token: &Token) -> Stage
-    ensures { result ≡ after (Header left) token.now }
+    ensures { result ≡ next_stage (Header left) token.now }
 {
     match token {
         Token::Mark(Mark::Bar) => Stage::Header(left.saturating_sub(1)),
@@ -105,7 +105,7 @@ fn header_after(left: usize, token: &Token) -> Stage
 }
 
 fn cell_after(token: &Token) -> Stage
-    ensures { result ≡ after CellBegins token.now }
+    ensures { result ≡ next_stage CellBegins token.now }
 {
     match token {
         Token::Word(word) => {

@@ -89,9 +89,9 @@ pub faults_first : (names : of.Scope) (items more : List Clause)
     × (of.faults_from names (items ++ more) ≡ of.faults_from names items ++ rest)
 faults_first names [] more = (of.faults_from names more, refl)
 faults_first names (c ∷ cs) more =
-    let behind : _ = faults_first (of.names_after names c) cs more in (
+    let behind : _ = faults_first (of.known_after names c) cs more in (
       behind.0,
       ap (λ (fs : List of.ModelFault). of.faults_of_item names c ++ fs) behind.1
           ∙ sym (append_assoc (of.faults_of_item names c)
-          (of.faults_from (of.names_after names c) cs) behind.0),
+          (of.faults_from (of.known_after names c) cs) behind.0),
     )

@@ -5,7 +5,7 @@ use Rattle.std.specs.List.{AllZip}
 use Rattle.meaning.specs.Sets.{Set, Path, IsOnce, IsListOf, HasCount, HasOver}
 use Rattle.meaning.specs.Names.{Name}
 use Rattle.meaning.specs.Machine.{Value, Number, is_load}
-use Rattle.meaning.specs.Runs.{Run, IsRun, initial_state, lines_of}
+use Rattle.meaning.specs.Runs.{Run, IsRun, initial_state, lines_of_thread}
 use Rattle.meaning.specs.Domain.{InDomain, InRound, IsInitialValue, FreeRun, IsFreeRun, free_run_of}
 use Rattle.meaning.specs.Executions.{Event, Initial, Does, Execution, NeedOrReads, instructions_of, IsStoreOf, AreRuns, IsExecution, IsOrder, MayRead}
 use Rattle.meaning.specs.Refusals.{Refusal, TooManyEvents, TooManyValues, TooManyRuns, TooManyCandidates, AddressFault, TooManyCombinations, IsRefusedAt, HasFault, IsAccepted}
@@ -192,7 +192,7 @@ abbrev free_run : List Bool → List Value → Run → FreeRun
 free_run bs vs r = record { choices = bs; values = vs; run = r }
 
 free_parts : (bs : List Bool) (vs : List Value) (r : Run)
-    → free_run_of (lines_of store_test 0) None (initial_state store_test 0) bs vs ≡ Some r
+    → free_run_of (lines_of_thread store_test 0) None (initial_state store_test 0) bs vs ≡ Some r
     → free_run [] [] the_run ≡ free_run bs vs r
 free_parts [] [] r eq = ap (free_run [] []) (some_is_one the_run r eq)
 free_parts [] (v ∷ vs) r eq = absurd (no_none r eq)

@@ -9,7 +9,7 @@ use Rattle.text_values.specs.TestValue.{Content}
 use Rattle.meaning.specs.Sets.{Set}
 use Rattle.meaning.specs.Names.{Name, locations}
 use Rattle.meaning.specs.Machine.{Value, NoValue, State, is_load, is_branch, stored_values}
-use Rattle.meaning.specs.Runs.{Instance, Run, end_of_run, run_from, label_after, initial_value, initial_state, lines_of}
+use Rattle.meaning.specs.Runs.{Instance, Run, end_of_run, run_from, label_after, initial_value, initial_state, lines_of_thread}
 
 -- What the lines from one on do in a free run: a function of the choices that are left too.
 abbrev pub FreeRest : Type 0
@@ -49,7 +49,7 @@ pub record FreeRun : Type 0 where
 abbrev pub IsFreeRun : Content → Set Value → ℕ → FreeRun → Type 0
 IsFreeRun t V thread f =
     All V f.values
-    × (free_run_of (lines_of t thread) None (initial_state t thread) f.choices f.values
+    × (free_run_of (lines_of_thread t thread) None (initial_state t thread) f.choices f.values
     ≡ Some f.run)
 
 -- The run stores the value somewhere.

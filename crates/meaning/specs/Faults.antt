@@ -32,7 +32,7 @@ pub data KindOf : Type 0 where
 
 -- A set or a relation that has a name: its kind, its size, and whether the name is one of a
 -- recursive group in that group, and so must not stand under `~` or right of `\`.
-pub record Value : Type 0 where
+pub record KnownName : Type 0 where
   pub kind : KindOf
   pub size : ℕ
   pub recursive : Bool
@@ -47,8 +47,8 @@ pub record Finding : Type 0 where
 -- What a name is: a set or a relation, or a function of so many arguments. What is found in the
 -- body of a function depends on the arguments.
 pub data Known : Type 0 where
-  AsValue : (value : Value) → Known
-  AsFunction : (arity : ℕ) (body : List Value → Finding) → Known
+  AsValue : (value : KnownName) → Known
+  AsFunction : (arity : ℕ) (body : List KnownName → Finding) → Known
 
 -- The names that an expression sees, the latest first.
 abbrev pub Scope : Type 0
@@ -122,22 +122,22 @@ is_monotone_fault NotMonotone = true
 is_monotone_fault k = false
 
 -- a value of a kind and a size
-abbrev pub value_with : KindOf → ℕ → Bool → Value
+abbrev pub value_with : KindOf → ℕ → Bool → KnownName
 value_with kind size recursive = record { kind = kind; size = size; recursive = recursive }
 
 -- a finding of a kind and a size with faults
-abbrev pub found : KindOf → ℕ → List ModelFault → Finding
-found kind size faults = record { kind = kind; size = size; faults = faults }
+abbrev pub finding_of : KindOf → ℕ → List ModelFault → Finding
+finding_of kind size faults = record { kind = kind; size = size; faults = faults }
 
 -- what is found in a name without arguments, where what must not grow is asked for or not
 abbrev pub in_name : Bool → Option Known → Finding
-in_name falling None = found OfAny 1 (Unbound ∷ [])
+in_name falling None = finding_of OfAny 1 (Unbound ∷ [])
 in_name falling (Some (AsValue v)) =
-    found v.kind v.size (fault_if (v.recursive && falling) NotMonotone)
-in_name falling (Some (AsFunction arity body)) = found OfAny 1 (Arity ∷ [])
+    finding_of v.kind v.size (fault_if (v.recursive && falling) NotMonotone)
+in_name falling (Some (AsFunction arity body)) = finding_of OfAny 1 (Arity ∷ [])
 
 -- The parameter of that index stands under `~` or right of `\` in the body of the function.
-abbrev pub is_falling_parameter : (List Value → Finding) → ℕ → Bool
+abbrev pub is_falling_parameter : (List KnownName → Finding) → ℕ → Bool
 is_falling_parameter body i =
     list_any is_monotone_fault
     (body (replicate i (value_with OfAny 1 false) ++ value_with OfAny 1 true ∷ [])).faults
@@ -152,13 +152,13 @@ abbrev pub in_application : Bool → Finding → List Finding → Finding
 in_application inside body arguments =
     let large = not inside && nat_lt 4096 body.size in
     let unknown = large || list_any (λ a. is_set a.kind && is_relation a.kind) arguments in
-    found (if unknown then OfAny else body.kind) body.size
+    finding_of (if unknown then OfAny else body.kind) body.size
     (fault_if large TooLarge
     ++ (fault_if (list_any is_kind_fault body.faults) Kind ++ faults_in arguments))
 
 -- what is found in an application of what is no function of so many arguments
 abbrev pub in_wrong_application : ModelFault → ((ℕ → Bool) → List Finding) → Finding
-in_wrong_application k arguments = found OfAny 1 (k ∷ faults_in (arguments (λ i. false)))
+in_wrong_application k arguments = finding_of OfAny 1 (k ∷ faults_in (arguments (λ i. false)))
 
 -- What is found in a name with arguments. What is found in the arguments depends on which of them
 -- must not grow.
@@ -175,23 +175,23 @@ in_use inside (Some (AsFunction arity body)) arguments =
 -- what is found in two operands with an operator between them
 abbrev pub in_infix : Infix → Finding → Finding → Finding
 in_infix op a b =
-    found (kind_of_infix op a.kind b.kind) (a.size + b.size + 1)
+    finding_of (kind_of_infix op a.kind b.kind) (a.size + b.size + 1)
     (a.faults ++ (fault_if (not (takes op a.kind b.kind)) Kind ++ b.faults))
 
 -- what is found in an operand with a postfix operator behind it
 abbrev pub in_postfix : Finding → Finding
 in_postfix a =
-    found (kind_of_postfix a.kind) (a.size + 1)
+    finding_of (kind_of_postfix a.kind) (a.size + 1)
     (a.faults ++ fault_if (not (is_relation a.kind)) Kind)
 
 -- what is found in an operand with `~` before it
 abbrev pub in_complement : Finding → Finding
-in_complement a = found a.kind (a.size + 1) a.faults
+in_complement a = finding_of a.kind (a.size + 1) a.faults
 
 -- what is found in an operand in `[` and `]`
 abbrev pub in_identity : Finding → Finding
 in_identity a =
-    found (kind_of_identity a.kind) (a.size + 1)
+    finding_of (kind_of_identity a.kind) (a.size + 1)
     (fault_if (not (is_set a.kind)) Kind ++ a.faults)
 
 abbrev mutual
@@ -199,9 +199,9 @@ abbrev mutual
   -- must not grow or may.
   pub in_term : Bool → Scope → Bool → Term → Finding
   in_term inside names falling (Atom n) = in_name falling (known_as names n)
-  in_term inside names falling AllEvents = found OfSet 1 []
-  in_term inside names falling EmptyRelation = found OfRelation 1 []
-  in_term inside names falling EmptySet = found OfSet 1 []
+  in_term inside names falling AllEvents = finding_of OfSet 1 []
+  in_term inside names falling EmptyRelation = finding_of OfRelation 1 []
+  in_term inside names falling EmptySet = finding_of OfSet 1 []
   in_term inside names falling (Join op a b) =
       in_infix op (in_term inside names falling a)
       (in_term inside names (is_falling_right op falling) b)
@@ -219,14 +219,14 @@ abbrev mutual
       in_term inside names (is_falling i) a ∷ in_terms inside names is_falling (suc i) ts
 
 -- the names with the parameters, which are as the arguments; those without one are of any kind
-abbrev pub with_parameters : List Name → List Value → Scope → Scope
+abbrev pub with_parameters : List Name → List KnownName → Scope → Scope
 with_parameters [] vs names = names
 with_parameters (p ∷ ps) [] names =
     with_parameters ps [] ((p, AsValue (value_with OfAny 1 false)) ∷ names)
 with_parameters (p ∷ ps) (v ∷ vs) names = with_parameters ps vs ((p, AsValue v) ∷ names)
 
 -- what is found in the body of a function, from its arguments
-abbrev pub in_body : Scope → List Name → Term → List Value → Finding
+abbrev pub in_body : Scope → List Name → Term → List KnownName → Finding
 in_body names ps body vs = in_term true (with_parameters ps vs names) false body
 
 -- It is M1 or M6, which alone are looked for in the body of a function where it stands.
@@ -263,19 +263,19 @@ with_group inside (b ∷ bs) names =
     with_group inside bs ((b.0, AsValue (value_with OfRelation 1 inside)) ∷ names)
 
 -- the names with those of another group, whose bodies see the outer names
-abbrev pub with_bodies : Scope → List (Name × Term) → Scope → Scope
-with_bodies outer [] names = names
-with_bodies outer (b ∷ bs) names =
-    with_bodies outer bs
+abbrev pub scope_with_bodies : Scope → List (Name × Term) → Scope → Scope
+scope_with_bodies outer [] names = names
+scope_with_bodies outer (b ∷ bs) names =
+    scope_with_bodies outer bs
     ((b.0, AsValue (value_with (in_term false outer false b.1).kind 1 false)) ∷ names)
 
 -- the names that are seen after an item
-abbrev pub names_after : Scope → Clause → Scope
-names_after names (Binding true group) = with_group false group names
-names_after names (Binding false group) = with_bodies names group names
-names_after names (Function n ps body) =
+abbrev pub known_after : Scope → Clause → Scope
+known_after names (Binding true group) = with_group false group names
+known_after names (Binding false group) = scope_with_bodies names group names
+known_after names (Function n ps body) =
     (n, AsFunction (length ps) (in_body names ps body)) ∷ names
-names_after names _ = names
+known_after names _ = names
 
 -- the faults of a check or a flag
 abbrev pub faults_of_check : Scope → Checked → List ModelFault
@@ -297,7 +297,7 @@ faults_of_item names _ = []
 -- the faults of items that see these names
 abbrev pub faults_from : Scope → List Clause → List ModelFault
 faults_from names [] = []
-faults_from names (c ∷ cs) = faults_of_item names c ++ faults_from (names_after names c) cs
+faults_from names (c ∷ cs) = faults_of_item names c ++ faults_from (known_after names c) cs
 
 -- what a predefined name is
 abbrev pub predefined_known : Predefined → Known
@@ -305,10 +305,10 @@ predefined_known p =
     AsValue (value_with (if predefined.is_set p then OfSet else OfRelation) 1 false)
 
 -- the names that the first item sees
-abbrev pub outermost : Scope
-outermost = reverse (map (λ p. (predefined.spelling p, predefined_known p)) predefined_names)
+abbrev pub outermost_scope : Scope
+outermost_scope = reverse (map (λ p. (predefined.spelling p, predefined_known p)) predefined_names)
 
 -- The faults of a model, in the order of its text. Behind the first the list says nothing more of
 -- the model: what is found of an expression with a fault serves to blame no other.
 abbrev pub faults : List Clause → List ModelFault
-faults items = faults_from outermost items
+faults items = faults_from outermost_scope items

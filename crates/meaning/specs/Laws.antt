@@ -190,9 +190,9 @@ LeastBehind t x items group =
     Least (IsEvent t x) (names_behind (IsEvent t x) (outermost t x) items) group
 
 -- what a body gives there, where the names of the group stand for these relations
-abbrev pub Gives : Content → Execution → List Clause → List (Name × Term) → (Name → Relation Event)
+abbrev pub GivenByBody : Content → Execution → List Clause → List (Name × Term) → (Name → Relation Event)
     → Term → Relation Event
-Gives t x items group R body =
+GivenByBody t x items group R body =
     let names : Names Event = names_behind (IsEvent t x) (outermost t x) items in
     HasPair (meaning_of (IsEvent t x) (with_group R group names) body)
 
@@ -201,14 +201,14 @@ Gives t x items group R body =
 pub record Solves (t : Content) (x : Execution) (items : List Clause) (group : List (Name × Term))
     : Type 0 where
   pub closed : (b : Name × Term) → Contains group b → (a c : Event)
-      → Gives t x items group (LeastBehind t x items group) b.1 a c
+      → GivenByBody t x items group (LeastBehind t x items group) b.1 a c
       → LeastBehind t x items group b.0 a c
   pub exact : (choice : Choice Event) → ((b : Name × Term) → Contains group b → (a c : Event)
       → IsChosen choice b.0 a c
-      ↔ Gives t x items group (LeastBehind t x items group) b.1 a c)
+      ↔ GivenByBody t x items group (LeastBehind t x items group) b.1 a c)
       → (b : Name × Term) → Contains group b → (a c : Event)
       → LeastBehind t x items group b.0 a c
-      → Gives t x items group (LeastBehind t x items group) b.1 a c
+      → GivenByBody t x items group (LeastBehind t x items group) b.1 a c
 
 -- `let rec` solves its equations where its bodies rise.
 abbrev pub LetRecSolves : Type 0

@@ -86,11 +86,11 @@ abbrev pub initial_state : Content → ℕ → State
 initial_state t thread = record { registers = initial_registers t thread; compared = Equal }
 
 -- the lines of a thread
-abbrev pub lines_of : Content → ℕ → List Step
-lines_of t thread = slice_index_or t.threads thread []
+abbrev pub lines_of_thread : Content → ℕ → List Step
+lines_of_thread t thread = slice_index_or t.threads thread []
 
 -- It is a run of the thread, whose loads take values of the set.
 abbrev pub IsRun : Content → (Value → Type 0) → ℕ → Run → Type 0
 IsRun t V thread r =
     (vs : List Value) × All V vs
-    × (run_of (lines_of t thread) None (initial_state t thread) vs ≡ Some r)
+    × (run_of (lines_of_thread t thread) None (initial_state t thread) vs ≡ Some r)

@@ -10,7 +10,7 @@ use Rattle.binding_kinds.specs.declared.fault.ModelFault.{ModelFault}
 use Rattle.binding_kinds.specs.declared.kinds.Kind.{Kind}
 use Rattle.binding_kinds.specs.declared.kinds.Kind.TheVariants.{OfSet, OfRelation, OfAny}
 use Rattle.binding_kinds.specs.declared.scope.Used.{Used}
-use Rattle.binding_kinds.specs.Value.{Naming, BareItem, Group, bare_item, bound_of}
+use Rattle.binding_kinds.specs.Value.{Naming, BareItem, Group, bare_item, bound_value_of}
 use Rattle.binding_kinds.specs.Faults.{with_own, names_after, senses_after, IsFaultOfItem}
 use Rattle.binding_kinds.specs.First.{first_of_item}
 use Rattle.binding_kinds.specs.Functions.{formula_in}
@@ -20,7 +20,7 @@ use Rattle.binding_graph.specs.declared.resolved.Source.{Source}
 use Rattle.binding_graph.specs.Meaning.{set_tree, rel_tree}
 use Rattle.binding_graph.specs.Trees.{RelTree}
 use Rattle.cat_eval.specs.Least.{IsLeast, body}
-use Rattle.cat_eval.specs.Meaning.{MeansSet, Means}
+use Rattle.cat_eval.specs.Meaning.{MeansSet, MeansRelation}
 use Rattle.cat_eval.specs.Named.{OwnPairs, WithOwn}
 use Rattle.meaning.specs.Cat as cat
 use Rattle.meaning.specs.Cat.{Meaning, Nothing, Bound, ToFunction, Names, choice_of, of_application, HasPair, meaning_of, meanings_of, with_arguments, with_group, Least}
@@ -87,7 +87,7 @@ binds n S R items faultless at item none f ps body is ts fine sets rels us from 
     (no_item_fault (senses_of items) (namings_of items) at (bare_item item) none)) in
     applied_as (kind_in ss names (Apply f ts))
     (MeansSet n (Passing sets) (set_tree us from (formula_in ss names [] (Apply f ts))))
-    (Means n (Passing sets) (PairsPassing rels)
+    (MeansRelation n (Passing sets) (PairsPassing rels)
     (rel_tree us from (formula_in ss names [] (Apply f ts)))) (bytes_eq f f) (length ps)
     (λ ms. meaning_of (λ a. a < n) (with_arguments ps ms outer) body) (cat.bound_of outer f)
     (meanings_of (λ a. a < n) bound ts) ((bytes_eq-Decides f f).1 refl)
@@ -99,14 +99,14 @@ binds n S R items faultless at item none f ps body is ts fine sets rels us from 
 
 module _ (n : ℕ) (ss : List Sense) (names : List Naming) (N : Names ℕ)
     (sound : AreSound (λ a. a < n) ss names N) (at : ℕ) (bs : List code_binding.Binding)
-    (none : first_of_item ss names at (Group true (map bound_of bs)) ≡ None)
+    (none : first_of_item ss names at (Group true (map bound_value_of bs)) ≡ None)
     (sets : Source → ℕ → Type 0) (outer : Source → ℕ → ℕ → Type 0) (us : ℕ → List Used)
     (trees : List RelTree)
-    (made : AreTrees ss (with_own names at 0 (map bound_of bs)) (length names) us bs trees)
+    (made : AreTrees ss (with_own names at 0 (map bound_value_of bs)) (length names) us bs trees)
     (has : (j : ℕ) → j < length bs → HasOuterSources (value_at N) sets outer (us j) (length names)
-    (formula_in ss (with_own names at 0 (map bound_of bs)) [] (term_at (map binding_of bs) j))) where
-  fine : AreFaultless ss (with_own names at 0 (map bound_of bs)) (length names) [] bs
-  fine = faultless_group ss (with_own names at 0 (map bound_of bs)) (length names) [] bs none
+    (formula_in ss (with_own names at 0 (map bound_value_of bs)) [] (term_at (map binding_of bs) j))) where
+  fine : AreFaultless ss (with_own names at 0 (map bound_value_of bs)) (length names) [] bs
+  fine = faultless_group ss (with_own names at 0 (map bound_value_of bs)) (length names) [] bs none
 
   bodies_given : HasBodies n N (map binding_of bs) sets outer trees
   bodies_given R P same j lt a b =
@@ -114,7 +114,7 @@ module _ (n : ℕ) (ss : List Sense) (names : List Naming) (N : Names ℕ)
       subst
       (λ (t : RelTree). HasPair (meaning_of (λ a. a < n) (with_group R (map binding_of bs) N)
       (term_at (map binding_of bs) j)) a b
-      ↔ Means n sets (WithOwn outer P) t a b) (sym (made.each j (omega (arith, lt, long))))
+      ↔ MeansRelation n sets (WithOwn outer P) t a b) (sym (made.each j (omega (arith, lt, long))))
       (body_as n ss names N sound at bs sets outer R P
       (λ k below c d. same k (omega (arith, below, long)) c d) (us j)
       (term_at (map binding_of bs) j) (fine.no_fault j (omega (arith, lt, long)))
@@ -134,5 +134,5 @@ rec_is_least n S R items faultless at bs none sets outer us trees made has value
     group_least n (senses_of items) (namings_of items)
     (bound_of_items (λ a. a < n) (tested S R) items)
     (model_sound (λ a. a < n) (tested S R) items faultless) at bs
-    (no_item_fault (senses_of items) (namings_of items) at (Group true (map bound_of bs)) none)
+    (no_item_fault (senses_of items) (namings_of items) at (Group true (map bound_value_of bs)) none)
     (Passing sets) (PairsPassing outer) us trees made has values least j lt a b

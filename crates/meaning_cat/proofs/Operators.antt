@@ -7,12 +7,12 @@ use Rattle.text_values.specs.declared.model.Postfix.TheVariants as postfixes
 use Rattle.bit_relations.specs.Pairs as pairs
 use Rattle.binding_kinds.specs.declared.kinds.Kind.{Kind}
 use Rattle.binding_kinds.specs.declared.kinds.Kind.TheVariants.{OfSet, OfRelation, OfAny}
-use Rattle.binding_kinds.specs.Kinds.{takes, joined, marked, narrowed, is_relation, is_set}
+use Rattle.binding_kinds.specs.Kinds.{takes, joined_kind, marked, narrowed, is_relation, is_set_kind}
 use Rattle.binding_graph.specs.declared.resolved.Blend.TheVariants as blends
 use Rattle.binding_graph.specs.declared.resolved.Source.{Source}
 use Rattle.binding_graph.specs.Trees.{SetTree, RelTree}
 use Rattle.binding_graph.specs.Meaning.{joined_sets, joined_relations}
-use Rattle.cat_eval.specs.Meaning.{BlendedSets, Blended, Closed, Others, MeansSet, Means}
+use Rattle.cat_eval.specs.Meaning.{BlendedSets, Blended, Closed, Others, MeansSet, MeansRelation}
 use Rattle.meaning.specs.Sets as meant
 use Rattle.meaning.specs.Cat.{Meaning, ASet, ARelation, Nothing, of_infix, of_postfix, of_complement, of_identity}
 use Rattle.meaning_cat.specs.Alike.{IsAs}
@@ -49,7 +49,7 @@ either f g (inr b) = inr (g b)
 
 union_like : (k l : Kind) (m o : Meaning ℕ) (T V : ℕ → Type 0) (R W : ℕ → ℕ → Type 0)
     → IsTrue (takes infixes.Union k l) → Like k m T R → Like l o V W
-    → Like (joined infixes.Union k l) (of_infix infixes.Union m o) (BlendedSets blends.Union T V)
+    → Like (joined_kind infixes.Union k l) (of_infix infixes.Union m o) (BlendedSets blends.Union T V)
     (Blended blends.Union R W)
 union_like _ _ _ _ _ _ _ _ t (of_set S T R h) (of_set U V W g) =
     of_set _ _ _ (λ a. (either (h a).0 (g a).0, either (h a).1 (g a).1))
@@ -60,7 +60,7 @@ union_like _ _ _ _ _ _ _ _ t (of_relation T Q R h) (of_set U V W g) = cc
 
 intersection_like : (k l : Kind) (m o : Meaning ℕ) (T V : ℕ → Type 0) (R W : ℕ → ℕ → Type 0)
     → IsTrue (takes infixes.Intersection k l) → Like k m T R → Like l o V W
-    → Like (joined infixes.Intersection k l) (of_infix infixes.Intersection m o)
+    → Like (joined_kind infixes.Intersection k l) (of_infix infixes.Intersection m o)
     (BlendedSets blends.Intersection T V) (Blended blends.Intersection R W)
 intersection_like _ _ _ _ _ _ _ _ t (of_set S T R h) (of_set U V W g) =
     of_set _ _ _
@@ -73,7 +73,7 @@ intersection_like _ _ _ _ _ _ _ _ t (of_relation T Q R h) (of_set U V W g) = cc
 
 difference_like : (k l : Kind) (m o : Meaning ℕ) (T V : ℕ → Type 0) (R W : ℕ → ℕ → Type 0)
     → IsTrue (takes infixes.Difference k l) → Like k m T R → Like l o V W
-    → Like (joined infixes.Difference k l) (of_infix infixes.Difference m o)
+    → Like (joined_kind infixes.Difference k l) (of_infix infixes.Difference m o)
     (BlendedSets blends.Difference T V) (Blended blends.Difference R W)
 difference_like _ _ _ _ _ _ _ _ t (of_set S T R h) (of_set U V W g) =
     of_set _ _ _
@@ -89,7 +89,7 @@ difference_like _ _ _ _ _ _ _ _ t (of_relation T Q R h) (of_set U V W g) = cc
 
 sequence_like : (k l : Kind) (m o : Meaning ℕ) (T V X : ℕ → Type 0) (R W : ℕ → ℕ → Type 0)
     → IsTrue (takes infixes.Sequence k l) → Like k m T R → Like l o V W
-    → Like (joined infixes.Sequence k l) (of_infix infixes.Sequence m o) X
+    → Like (joined_kind infixes.Sequence k l) (of_infix infixes.Sequence m o) X
     (pairs.Composite R W)
 sequence_like _ _ _ _ _ _ X _ _ t (of_relation T Q R h) (of_relation V U W g) =
     of_relation X _ _ (λ a b. (
@@ -102,7 +102,7 @@ sequence_like _ _ _ _ _ _ X _ _ t (of_relation T Q R h) (of_set U V W g) = cc
 
 product_like : (k l : Kind) (m o : Meaning ℕ) (T V X : ℕ → Type 0) (R W : ℕ → ℕ → Type 0)
     → IsTrue (takes infixes.Product k l) → Like k m T R → Like l o V W
-    → Like (joined infixes.Product k l) (of_infix infixes.Product m o) X (pairs.Product T V)
+    → Like (joined_kind infixes.Product k l) (of_infix infixes.Product m o) X (pairs.Product T V)
 product_like _ _ _ _ _ _ X _ _ t (of_set S T R h) (of_set U V W g) =
     of_relation X _ _
     (λ a b. (λ x. ((h a).0 x.0, (g b).0 x.1), λ x. ((h a).1 x.0, (g b).1 x.1)))
@@ -112,10 +112,10 @@ product_like _ _ _ _ _ _ X _ _ t (of_relation T Q R h) (of_set U V W g) = cc
 
 pub joined_like : (op : Infix) (n : ℕ) (sets : Source → ℕ → Type 0)
     (rels : Source → ℕ → ℕ → Type 0) (k l : Kind) (m o : Meaning ℕ) (s t : SetTree)
-    (e f : RelTree) → IsTrue (takes op k l) → Like k m (MeansSet n sets s) (Means n sets rels e)
-    → Like l o (MeansSet n sets t) (Means n sets rels f)
-    → Like (joined op k l) (of_infix op m o) (MeansSet n sets (joined_sets op s t))
-    (Means n sets rels (joined_relations op e f s t))
+    (e f : RelTree) → IsTrue (takes op k l) → Like k m (MeansSet n sets s) (MeansRelation n sets rels e)
+    → Like l o (MeansSet n sets t) (MeansRelation n sets rels f)
+    → Like (joined_kind op k l) (of_infix op m o) (MeansSet n sets (joined_sets op s t))
+    (MeansRelation n sets rels (joined_relations op e f s t))
 joined_like infixes.Union n sets rels k l m o s t e f take h g =
     union_like k l m o _ _ _ _ take h g
 joined_like infixes.Intersection n sets rels k l m o s t e f take h g =
@@ -173,7 +173,7 @@ complement_like n _ _ _ _ (of_relation T Q R h) =
     ))
 
 pub identity_like : (k : Kind) (m : Meaning ℕ) (T X : ℕ → Type 0) (R : ℕ → ℕ → Type 0)
-    → IsTrue (is_set k) → Like k m T R → Like (narrowed k) (of_identity m) X (pairs.On T)
+    → IsTrue (is_set_kind k) → Like k m T R → Like (narrowed k) (of_identity m) X (pairs.On T)
 identity_like _ _ _ X _ t (of_set S T R h) =
     of_relation X _ _ (λ a b. (λ x. ((h a).0 x.0, x.1), λ x. ((h a).1 x.0, x.1)))
 identity_like _ _ _ X _ t (of_relation T Q R h) = cc

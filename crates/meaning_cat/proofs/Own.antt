@@ -13,7 +13,7 @@ use Rattle.binding_kinds.specs.declared.scope.Binder.{Binder}
 use Rattle.binding_kinds.specs.declared.scope.Binder.TheVariants as binders
 use Rattle.binding_kinds.specs.declared.scope.Found.{Found}
 use Rattle.binding_kinds.specs.declared.scope.Used.{Used}
-use Rattle.binding_kinds.specs.Value.{Naming, bound_of}
+use Rattle.binding_kinds.specs.Value.{Naming, bound_value_of}
 use Rattle.binding_kinds.specs.Value as values
 use Rattle.binding_kinds.specs.Kinds.{found}
 use Rattle.binding_kinds.specs.Faults.{naming_at, with_own}
@@ -28,7 +28,7 @@ use Rattle.binding_graph.specs.declared.resolved.Source.{Source}
 use Rattle.binding_graph.specs.declared.resolved.Source.TheVariants as sources
 use Rattle.binding_graph.specs.Meaning.{source_of, source_of_binder, set_tree, rel_tree}
 use Rattle.cat_eval.specs.Least.{body}
-use Rattle.cat_eval.specs.Meaning.{MeansSet, Means}
+use Rattle.cat_eval.specs.Meaning.{MeansSet, MeansRelation}
 use Rattle.cat_eval.specs.Named.{WithOwn}
 use Rattle.meaning.specs.Sets.{Relation}
 use Rattle.meaning.specs.Names.{Name}
@@ -165,7 +165,7 @@ long_bindings [] = refl
 long_bindings (b ∷ bs) = ap suc (long_bindings bs)
 
 pub faultless_group : (ss : List Sense) (own : List Naming) (from : ℕ) (earlier : List Name)
-    (bs : List code_binding.Binding) → first_in ss own from true earlier (map bound_of bs) ≡ None
+    (bs : List code_binding.Binding) → first_in ss own from true earlier (map bound_value_of bs) ≡ None
     → AreFaultless ss own from earlier bs
 faultless_group ss own from earlier [] none = record {
   unseen = λ j lt. absurd (omega (arith, lt));
@@ -174,7 +174,7 @@ faultless_group ss own from earlier [] none = record {
   apart = tt;
 }
 faultless_group ss own from earlier (b ∷ bs) none =
-    let one = none_first (let_fault ss own true earlier (bound_of b)) _ none in
+    let one = none_first (let_fault ss own true earlier (bound_value_of b)) _ none in
     let two = none_first (term_fault ss own from false (term_of b.body)) _ one.1 in
     let rest = faultless_group ss own from (b.name ∷ earlier) bs two.1 in
     let here = let_right (is_seen earlier b.name) (is_of_set (kind_in ss own (term_of b.body))) one.0 in
@@ -235,9 +235,9 @@ module _ (n : ℕ) (ss : List Sense) (names : List Naming) (N : Names ℕ)
     (sound : AreSound (λ a. a < n) ss names N) (item : ℕ) (bs : List code_binding.Binding)
     (sets : Source → ℕ → Type 0) (outer : Source → ℕ → ℕ → Type 0) where
   abbrev own : List Naming
-  own = with_own names item 0 (map bound_of bs)
+  own = with_own names item 0 (map bound_value_of bs)
 
-  long_bounds : (cs : List code_binding.Binding) → length (map bound_of cs) ≡ length cs
+  long_bounds : (cs : List code_binding.Binding) → length (map bound_value_of cs) ≡ length cs
   long_bounds [] = refl
   long_bounds (b ∷ cs) = ap suc (long_bounds cs)
 
@@ -248,31 +248,31 @@ module _ (n : ℕ) (ss : List Sense) (names : List Naming) (N : Names ℕ)
     own_sound : AreSound (λ a. a < n) ss own (with_group R (map binding_of bs) N)
     own_sound = record {
       same = group_same (λ a. a < n) ss R item 0 bs names N sound.same;
-      known = known_own names item 0 (map bound_of bs) sound.known;
+      known = known_own names item 0 (map bound_value_of bs) sound.known;
       sound = sound.sound;
     }
 
     abbrev IsKnownName : Found → Type 0
     IsKnownName g =
-        (g.slot < length names) ⊎ IsOwnName item (length names) 0 (length (map bound_of bs)) g
+        (g.slot < length names) ⊎ IsOwnName item (length names) 0 (length (map bound_value_of bs)) g
 
     known_names : (t : Term) → HasNames IsKnownName (formula_in ss own [] t)
     known_names t = formula_names IsKnownName ss own [] at_name at_sense t
       where
         at_place : (x : Name) (g : Found) → (found names x ≡ Some g)
-            ⊎ IsOwnName item (length names) 0 (length (map bound_of bs)) g → IsKnownName g
+            ⊎ IsOwnName item (length names) 0 (length (map bound_value_of bs)) g → IsKnownName g
         at_place x g (inl e) = inl (found_below names x g e)
         at_place x g (inr h) = inr h
 
         at_name : (x : Name) (g : Found) → found own x ≡ Some g → IsValue g.binder → IsKnownName g
-        at_name x g e is = at_place x g (own_found item 0 (map bound_of bs) names x g e)
+        at_name x g e is = at_place x g (own_found item 0 (map bound_value_of bs) names x g e)
 
         at_sense : (count : ℕ) (x : Name) (s : Sense) → IsSeen ss own [] count x s
             → HasNames IsKnownName s.formula
         at_sense count x s h =
             names_more (λ g. g.slot < h.found_so.slot) IsKnownName
             (λ g lt. at_function (at_place x h.found_so
-            (own_found item 0 (map bound_of bs) names x h.found_so h.is_found)) g lt)
+            (own_found item 0 (map bound_value_of bs) names x h.found_so h.is_found)) g lt)
             s.formula
             (sense_names (λ a. a < n) ss (value_at (with_group R (map binding_of bs) N)) own
             (with_group R (map binding_of bs) N) own_sound.same.1 [] count x s h)
@@ -322,7 +322,7 @@ module _ (n : ℕ) (ss : List Sense) (names : List Naming) (N : Names ℕ)
         → HasOuterSources (value_at N) sets outer us (length names) (formula_in ss own [] t)
         → (a b : ℕ)
         → HasPair (meaning_of (λ a. a < n) (with_group R (map binding_of bs) N) t) a b
-        ↔ Means n sets (WithOwn outer P) (rel_tree us (length names) (formula_in ss own [] t)) a b
+        ↔ MeansRelation n sets (WithOwn outer P) (rel_tree us (length names) (formula_in ss own [] t)) a b
     body_as us t none off has a b =
         let f : Formula = formula_in ss own [] t in
         let k = known_relation (kind_in ss own t)
@@ -330,11 +330,11 @@ module _ (n : ℕ) (ss : List Sense) (names : List Naming) (N : Names ℕ)
         (fit ss own (length names) false t own_sound.known none)) off in
         pair_as (meaning_of (λ a. a < n) (with_group R (map binding_of bs) N) t)
         (MeansSet n sets (set_tree us (length names) f))
-        (Means n sets (WithOwn outer P) (rel_tree us (length names) f))
+        (MeansRelation n sets (WithOwn outer P) (rel_tree us (length names) f))
         (subst
         (λ (kind : Kind). IsAs kind (meaning_of (λ a. a < n) (with_group R (map binding_of bs) N) t)
         (MeansSet n sets (set_tree us (length names) f))
-        (Means n sets (WithOwn outer P) (rel_tree us (length names) f))) k
+        (MeansRelation n sets (WithOwn outer P) (rel_tree us (length names) f))) k
         (term_as n ss own (with_group R (map binding_of bs) N) own_sound (length names) t none sets
         (WithOwn outer P) us (length names)
         (names_more

@@ -11,7 +11,7 @@ use Rattle.binding_kinds.specs.Senses.{Sense, kind_in, term_fault}
 use Rattle.binding_kinds.proofs.Fitted.{fit, fit_typed}
 use Rattle.binding_graph.specs.declared.resolved.Source.{Source}
 use Rattle.binding_graph.specs.Meaning.{set_tree, rel_tree}
-use Rattle.cat_eval.specs.Meaning.{MeansSet, Means}
+use Rattle.cat_eval.specs.Meaning.{MeansSet, MeansRelation}
 use Rattle.meaning.specs.Cat.{Meaning, Names, meaning_of}
 use Rattle.meaning_terms.specs.Bound.{value_at}
 use Rattle.meaning_cat.specs.Alike.{IsAs, HasSources}
@@ -26,15 +26,15 @@ pub term_as : (n : ℕ) (ss : List Sense) (names : List Naming) (N : Names ℕ)
     → HasSources (value_at N) sets rels us base (formula_in ss names [] t)
     → IsAs (kind_in ss names t) (meaning_of (λ a. a < n) N t)
     (MeansSet n sets (set_tree us base (formula_in ss names [] t)))
-    (Means n sets rels (rel_tree us base (formula_in ss names [] t)))
+    (MeansRelation n sets rels (rel_tree us base (formula_in ss names [] t)))
 term_as n ss names N h from t none sets rels us base has =
     let f : Formula = formula_in ss names [] t in
     let typed = fit_typed ss names t h.sound (fit ss names from false t h.known none) in
     subst
     (λ (k : Kind). IsAs k (meaning_of (λ a. a < n) N t) (MeansSet n sets (set_tree us base f))
-    (Means n sets rels (rel_tree us base f))) typed.1
+    (MeansRelation n sets rels (rel_tree us base f))) typed.1
     (subst
     (λ (m : Meaning ℕ). IsAs (kind_of [] f) m (MeansSet n sets (set_tree us base f))
-    (Means n sets rels (rel_tree us base f)))
+    (MeansRelation n sets rels (rel_tree us base f)))
     (sym (term_means (λ a. a < n) ss names N h from t none))
     (tree_as n (value_at N) sets rels us base f typed.0 has))

@@ -5,7 +5,7 @@ use Rattle.binding_kinds.specs.Formula.{Formula, Value, Parameter, Everything, N
 use Rattle.binding_kinds.specs.Fits.{kind_of, IsTyped}
 use Rattle.binding_graph.specs.declared.resolved.Source.{Source}
 use Rattle.binding_graph.specs.Meaning.{source_of, set_tree, rel_tree}
-use Rattle.cat_eval.specs.Meaning.{MeansSet, Means}
+use Rattle.cat_eval.specs.Meaning.{MeansSet, MeansRelation}
 use Rattle.meaning.specs.Cat.{Meaning}
 use Rattle.meaning_terms.specs.Formulas.{formula_meaning}
 use Rattle.meaning_cat.specs.Alike.{IsAs, HasSources}
@@ -18,7 +18,7 @@ pub tree_like : (n : ℕ) (value : ℕ → Meaning ℕ) (sets : Source → ℕ �
     (rels : Source → ℕ → ℕ → Type 0) (us : List Used) (from : ℕ) (f : Formula) → IsTyped [] f
     → HasSources value sets rels us from f
     → Like (kind_of [] f) (formula_meaning (λ a. a < n) value [] f)
-    (MeansSet n sets (set_tree us from f)) (Means n sets rels (rel_tree us from f))
+    (MeansSet n sets (set_tree us from f)) (MeansRelation n sets rels (rel_tree us from f))
 tree_like n value sets rels us from (Value f) typed has =
     as_like f.kind (value f.slot) (sets (source_of us from f)) (rels (source_of us from f)) has
 tree_like n value sets rels us from (Parameter i) typed has = absurd typed
@@ -45,8 +45,8 @@ pub tree_as : (n : ℕ) (value : ℕ → Meaning ℕ) (sets : Source → ℕ →
     (rels : Source → ℕ → ℕ → Type 0) (us : List Used) (from : ℕ) (f : Formula) → IsTyped [] f
     → HasSources value sets rels us from f
     → IsAs (kind_of [] f) (formula_meaning (λ a. a < n) value [] f)
-    (MeansSet n sets (set_tree us from f)) (Means n sets rels (rel_tree us from f))
+    (MeansSet n sets (set_tree us from f)) (MeansRelation n sets rels (rel_tree us from f))
 tree_as n value sets rels us from f typed has =
     like_as (kind_of [] f) (formula_meaning (λ a. a < n) value [] f)
-    (MeansSet n sets (set_tree us from f)) (Means n sets rels (rel_tree us from f))
+    (MeansSet n sets (set_tree us from f)) (MeansRelation n sets rels (rel_tree us from f))
     (tree_like n value sets rels us from f typed has)

@@ -4,7 +4,7 @@ use Rattle.text_values.specs.ModelValue.{Term, AllEvents}
 use Rattle.binding_graph.specs.declared.resolved.Source.{Source}
 use Rattle.binding_graph.specs.Trees.{RelTree}
 use Rattle.cat_eval.specs.Least.{body}
-use Rattle.cat_eval.specs.Meaning.{Means}
+use Rattle.cat_eval.specs.Meaning.{MeansRelation}
 use Rattle.cat_eval.specs.Named.{WithOwn}
 use Rattle.meaning.specs.Sets.{Relation}
 use Rattle.meaning.specs.Names.{Name}
@@ -35,4 +35,4 @@ HasBodies n N group sets outer trees =
     → ((j : ℕ) → j < length group → (a b : ℕ) → R (name_at group j) a b ↔ P j a b)
     → (j : ℕ) → j < length group → (a b : ℕ)
     → HasPair (meaning_of (λ a. a < n) (with_group R group N) (term_at group j)) a b
-    ↔ Means n sets (WithOwn outer P) (body trees j) a b
+    ↔ MeansRelation n sets (WithOwn outer P) (body trees j) a b

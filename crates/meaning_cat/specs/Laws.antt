@@ -9,7 +9,7 @@ use Rattle.text_values.specs.ModelValues.{binding_of, clause_of}
 use Rattle.bit_relations.specs.Relation.{Relation}
 use Rattle.binding_kinds.specs.declared.fault.ModelFault.{ModelFault}
 use Rattle.binding_kinds.specs.declared.scope.Used.{Used}
-use Rattle.binding_kinds.specs.Value.{Naming, Group, bare_item, bound_of}
+use Rattle.binding_kinds.specs.Value.{Naming, Group, bare_item, bound_value_of}
 use Rattle.binding_kinds.specs.Faults.{with_own, names_after, senses_after, IsFaultOfItem}
 use Rattle.binding_kinds.specs.Fits.{kind_of, IsTyped}
 use Rattle.binding_kinds.specs.Formula.{Formula}
@@ -19,7 +19,7 @@ use Rattle.binding_graph.specs.declared.resolved.Source.{Source}
 use Rattle.binding_graph.specs.Meaning.{set_tree, rel_tree}
 use Rattle.binding_graph.specs.Trees.{RelTree}
 use Rattle.cat_eval.specs.Least.{IsLeast, body}
-use Rattle.cat_eval.specs.Meaning.{MeansSet, Means}
+use Rattle.cat_eval.specs.Meaning.{MeansSet, MeansRelation}
 use Rattle.cat_eval.specs.Named.{OwnPairs}
 use Rattle.meaning.specs.Cat as cat
 use Rattle.meaning.specs.Cat.{Meaning, ASet, ARelation, Names, choice_of, meaning_of, meanings_of, with_arguments, Least}
@@ -61,7 +61,7 @@ OperatorsMeanTheSame =
     → HasSources (slot_tested is_set S R) (Passing sets) (PairsPassing rels) us from f
     → IsAs (kind_of [] f) (formula_meaning (λ a. a < n) (slot_tested is_set S R) [] f)
     (MeansSet n (Passing sets) (set_tree us from f))
-    (Means n (Passing sets) (PairsPassing rels) (rel_tree us from f))
+    (MeansRelation n (Passing sets) (PairsPassing rels) (rel_tree us from f))
 
 -- The item has no fault behind those items, whatever its number.
 abbrev pub IsFaultlessBehind : List Item → ℕ → Item → Type 0
@@ -76,7 +76,7 @@ IsMeantByTrees n ss names bound e m =
     → HasSources (value_at bound) (Passing sets) (PairsPassing rels) us from (formula_in ss names [] e)
     → IsAs (kind_in ss names e) m
     (MeansSet n (Passing sets) (set_tree us from (formula_in ss names [] e)))
-    (Means n (Passing sets) (PairsPassing rels) (rel_tree us from (formula_in ss names [] e)))
+    (MeansRelation n (Passing sets) (PairsPassing rels) (rel_tree us from (formula_in ss names [] e)))
 
 -- An expression without fault behind items without fault means what its trees mean.
 abbrev pub TermsMeanTheSame : Type 0
@@ -116,9 +116,9 @@ LetRecIsLeast =
     (n : ℕ) (S : Predefined → ℕ → Bool) (R : Predefined → ℕ → ℕ → Bool) (items : List Item)
     → AreFaultless items → (at : ℕ) (bs : List code_binding.Binding)
     → ((index : ℕ) (k : ModelFault) → IsFaultOfItem (senses_of items) (namings_of items) at
-    (Group true (map bound_of bs)) index k → ⊥)
+    (Group true (map bound_value_of bs)) index k → ⊥)
     → let from = length (namings_of items) in
-    let own = with_own (namings_of items) at 0 (map bound_of bs) in
+    let own = with_own (namings_of items) at 0 (map bound_value_of bs) in
     let bound : Names ℕ = bound_of_items (λ a. a < n) (tested S R) items in
     (sets : SetTests) (outer : PairTests) (us : ℕ → List Used) (trees : List RelTree)
     → AreTrees (senses_of items) own from us bs trees

@@ -7,7 +7,7 @@ use Rattle.text_values.specs.ModelValue.{Term}
 use Rattle.text_values.specs.ModelValues.{term_of, binding_of}
 use Rattle.binding_kinds.specs.declared.kinds.Kind.{Kind}
 use Rattle.binding_kinds.specs.declared.scope.Used.{Used}
-use Rattle.binding_kinds.specs.Value.{Naming, bound_of}
+use Rattle.binding_kinds.specs.Value.{Naming, bound_value_of}
 use Rattle.binding_kinds.specs.Fits.{IsKnown}
 use Rattle.binding_kinds.specs.Functions.{formula_in}
 use Rattle.binding_kinds.specs.Senses.{Sense, kind_in, term_fault}
@@ -27,7 +27,7 @@ use Rattle.cat_eval.specs.declared.column.Column.{Column}
 use Rattle.cat_eval.specs.Columns.{HasColumnValue, HaveValues}
 use Rattle.cat_eval.specs.Executions.{events_of, EventsAt, PairsAt}
 use Rattle.cat_eval.specs.Least.{body}
-use Rattle.cat_eval.specs.Meaning.{MeansSet, Means}
+use Rattle.cat_eval.specs.Meaning.{MeansSet, MeansRelation}
 use Rattle.cat_eval.specs.Named.{ColumnEvents, ColumnPairs, OwnPairs, WithOwn}
 use Rattle.cat_eval.specs.Running.{BuildsTrees, sets_after, rels_after}
 use Rattle.cat_eval.specs.Values.{IsFor, IsMeaning}
@@ -54,7 +54,7 @@ used_at us names from vs (b ∷ bs) (suc j) =
     used_at us names from (with_values us names [] from (term_of b.body) vs) bs j
 
 all_extend : (us : List Usage) (names : List Naming) (from : ℕ) (bs : List code_binding.Binding)
-    (vs : List Used) → Extends vs (with_all_values us names from (map bound_of bs) vs)
+    (vs : List Used) → Extends vs (with_all_values us names from (map bound_value_of bs) vs)
 all_extend us names from [] vs s i e = e
 all_extend us names from (b ∷ bs) vs s i e =
     all_extend us names from bs (with_values us names [] from (term_of b.body) vs) s i
@@ -62,7 +62,7 @@ all_extend us names from (b ∷ bs) vs s i e =
 
 pub at_extends : (us : List Usage) (names : List Naming) (from : ℕ)
     (bs : List code_binding.Binding) (vs : List Used) (j : ℕ) → j < length bs
-    → Extends (used_at us names from vs bs j) (with_all_values us names from (map bound_of bs) vs)
+    → Extends (used_at us names from vs bs j) (with_all_values us names from (map bound_value_of bs) vs)
 at_extends us names from [] vs j lt = absurd (omega (arith, lt))
 at_extends us names from (b ∷ bs) vs zero lt =
     all_extend us names from bs (with_values us names [] from (term_of b.body) vs)
@@ -85,7 +85,7 @@ at_covered us ss names from all (b ∷ bs) vs (suc j) lt =
 -- the code of the body at a position
 pub code_at : (ss : List Sense) (us : List Usage) (names : List Naming) (from : ℕ)
     (bs : List code_binding.Binding) (vs : List Used) (bodies : List Body)
-    → AreBodies ss us names from vs (map bound_of bs) bodies → (j : ℕ) → j < length bs
+    → AreBodies ss us names from vs (map bound_value_of bs) bodies → (j : ℕ) → j < length bs
     → (b : Body) × ((d : Body) → slice_index_or bodies j d ≡ b)
     × IsCode ss names (used_at us names from vs bs j) from (term_at (map binding_of bs) j) b.code
 code_at ss us names from [] vs bodies h j lt = absurd (omega (arith, lt))
@@ -97,7 +97,7 @@ code_at ss us names from (b ∷ bs) vs (r ∷ rs) h (suc j) lt =
 
 pub as_many_bodies : (ss : List Sense) (us : List Usage) (names : List Naming) (from : ℕ)
     (bs : List code_binding.Binding) (vs : List Used) (bodies : List Body)
-    → AreBodies ss us names from vs (map bound_of bs) bodies → length bodies ≡ length bs
+    → AreBodies ss us names from vs (map bound_value_of bs) bodies → length bodies ≡ length bs
 as_many_bodies ss us names from [] vs [] h = refl
 as_many_bodies ss us names from [] vs (r ∷ rs) h = absurd h
 as_many_bodies ss us names from (b ∷ bs) vs [] h = absurd h
@@ -148,7 +148,7 @@ module _ (space : Space) (rs : List ResolvedItem) (k : ℕ) (one : Candidate) (s
       → Extends vs us
       → IsAs (kind_in ss names t) (meaning_of (λ a. a < events_of one) N t)
       (MeansSet (events_of one) sets (set_tree vs (length names) (formula_in ss names [] t)))
-      (Means (events_of one) sets (WithOwn outer (OwnPairs (events_of one) []))
+      (MeansRelation (events_of one) sets (WithOwn outer (OwnPairs (events_of one) []))
       (rel_tree vs (length names) (formula_in ss names [] t)))
   used_as t none vs prev is more =
       seen_as space rs k one ss names N sound meant us named inputs given t none vs more
@@ -164,8 +164,8 @@ module _ (space : Space) (rs : List ResolvedItem) (k : ℕ) (one : Candidate) (s
 
   -- the column of a name of a group that is not recursive
   pub plain_column : (bs : List code_binding.Binding)
-      → us ≡ with_all_values usages names (length names) (map bound_of bs) []
-      → (bodies : List Body) → AreBodies ss usages names (length names) [] (map bound_of bs) bodies
+      → us ≡ with_all_values usages names (length names) (map bound_value_of bs) []
+      → (bodies : List Body) → AreBodies ss usages names (length names) [] (map bound_value_of bs) bodies
       → (cs : List Column)
       → ((j : ℕ) → j < length bodies → (b : Body) (c : Column)
       → IsFor (slice_index_or bodies j b).code.kind (slice_index_or cs j c))

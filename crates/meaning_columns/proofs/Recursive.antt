@@ -11,7 +11,7 @@ use Rattle.binding_kinds.specs.declared.kinds.Kind.{Kind}
 use Rattle.binding_kinds.specs.declared.kinds.Kind.TheVariants as kinds
 use Rattle.binding_kinds.specs.declared.scope.Used.{Used}
 use Rattle.binding_kinds.specs.Value as values
-use Rattle.binding_kinds.specs.Value.{Naming, Group, bound_of}
+use Rattle.binding_kinds.specs.Value.{Naming, Group, bound_value_of}
 use Rattle.binding_kinds.specs.Faults.{naming_at, with_own}
 use Rattle.binding_kinds.specs.First.{first_of_item}
 use Rattle.binding_kinds.specs.Functions.{formula_in}
@@ -115,12 +115,12 @@ module _ (space : Space) (rs : List ResolvedItem) (k : ℕ) (one : Candidate) (s
     (senses : AreNamedSenses names ss) (covers : AllCover usages ss)
     (meant : AreSlotsMeant space rs k one names N) (item : ℕ)
     (bs : List code_binding.Binding)
-    (none : first_of_item ss names item (Group true (map bound_of bs)) ≡ None)
-    (us : List Used) (named : AreUsedNames (with_own names item 0 (map bound_of bs)) us)
+    (none : first_of_item ss names item (Group true (map bound_value_of bs)) ≡ None)
+    (us : List Used) (named : AreUsedNames (with_own names item 0 (map bound_value_of bs)) us)
     (inputs : List (Bor Column))
     (given : AreNamedColumns (λ j ds. AreItemColumns space rs j ds) (inputs_of us) inputs) where
   abbrev own : List Naming
-  own = with_own names item 0 (map bound_of bs)
+  own = with_own names item 0 (map bound_value_of bs)
 
   abbrev sets : Source → ℕ → Type 0
   sets = EventsAt (events_of one) one inputs k
@@ -129,12 +129,12 @@ module _ (space : Space) (rs : List ResolvedItem) (k : ℕ) (one : Candidate) (s
   outer = PairsAt (events_of one) one inputs k
 
   own_senses : AreNamedSenses own ss
-  own_senses = senses_grown names own (own_grows item 0 (map bound_of bs) names) ss senses
+  own_senses = senses_grown names own (own_grows item 0 (map bound_value_of bs) names) ss senses
 
   abbrev used : ℕ → List Used
   used = used_at usages own (length names) [] bs
 
-  sources_given : us ≡ with_all_values usages own (length names) (map bound_of bs) []
+  sources_given : us ≡ with_all_values usages own (length names) (map bound_value_of bs) []
       → (j : ℕ) → j < length bs
       → HasOuterSources (value_at N) sets outer (used j) (length names)
       (formula_in ss own [] (term_at (map binding_of bs) j))
@@ -147,7 +147,7 @@ module _ (space : Space) (rs : List ResolvedItem) (k : ℕ) (one : Candidate) (s
       (λ g. g.slot < length names
       → HasSource (value_at N) sets outer (used j) (length names) g)
       (λ g h below. source_meant space rs k one own (value_at N) (length names)
-      (λ slot n lower there. meant slot n (own_older item 0 (map bound_of bs) names slot n lower there))
+      (λ slot n lower there. meant slot n (own_older item 0 (map bound_value_of bs) names slot n lower there))
       us named inputs given (used j) more g h.0 h.1 below)
       (formula_in ss own [] t)
       (names_both (IsNamed own) (IsCovered (length names) (used j)) (formula_in ss own [] t)
@@ -156,7 +156,7 @@ module _ (space : Space) (rs : List ResolvedItem) (k : ℕ) (one : Candidate) (s
       (sym prev.1) (covered usages ss own [] (length names) covers t prev.0)))
 
   trees_made : (bodies : List Body)
-      → AreBodies ss usages own (length names) [] (map bound_of bs) bodies
+      → AreBodies ss usages own (length names) [] (map bound_value_of bs) bodies
       → ((j : ℕ) → j < length bs → kind_in ss own (term_at (map binding_of bs) j) ≡ kinds.OfRelation)
       → (trees : List RelTree) → AreCodes trees bodies
       → AreTrees ss own (length names) used bs trees
@@ -177,9 +177,9 @@ module _ (space : Space) (rs : List ResolvedItem) (k : ℕ) (one : Candidate) (s
             (rel_tree (used j) (length names) (formula_in ss own [] t))) (kind j lt))));
       }
 
-  pub own_column : us ≡ with_all_values usages own (length names) (map bound_of bs) []
+  pub own_column : us ≡ with_all_values usages own (length names) (map bound_value_of bs) []
       → (bodies : List Body)
-      → AreBodies ss usages own (length names) [] (map bound_of bs) bodies
+      → AreBodies ss usages own (length names) [] (map bound_value_of bs) bodies
       → ((j : ℕ) → j < length bs → kind_in ss own (term_at (map binding_of bs) j) ≡ kinds.OfRelation)
       → (trees : List RelTree) → AreCodes trees bodies → (cs : List Column)
       → ((j : ℕ) → j < length bodies → (b : Body) (c : Column)

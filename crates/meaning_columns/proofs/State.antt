@@ -8,7 +8,7 @@ use Rattle.binding_kinds.specs.declared.kinds.Kind.TheVariants as kinds
 use Rattle.binding_kinds.specs.declared.scope.Binder.TheVariants as binders
 use Rattle.binding_kinds.specs.declared.scope.Input.{Input}
 use Rattle.binding_kinds.specs.declared.scope.Used.{Used}
-use Rattle.binding_kinds.specs.Value.{Naming, bound_of}
+use Rattle.binding_kinds.specs.Value.{Naming, bound_value_of}
 use Rattle.binding_kinds.specs.Faults.{naming_at, with_own, with_all}
 use Rattle.binding_kinds.specs.Functions.{formula_in, sense_of_function}
 use Rattle.binding_kinds.specs.Senses.{Sense, kind_in}
@@ -45,12 +45,12 @@ pub record IsState (space : Space) (k : ℕ) (one : Candidate) (ss : List Sense)
 
 pub all_grow : (ss : List Sense) (outer : List Naming) (item at : ℕ)
     (bs : List code_binding.Binding) (names : List Naming)
-    → Grows names (with_all ss outer names item at (map bound_of bs))
+    → Grows names (with_all ss outer names item at (map bound_value_of bs))
 all_grow ss outer item at [] names slot n e = e
 all_grow ss outer item at (b ∷ bs) names slot n e =
     all_grow ss outer item (suc at) bs
-    (naming_at item at (bound_of b) (kind_in ss outer (term_of b.body)) ∷ names) slot n
-    (naming_more names (naming_at item at (bound_of b) (kind_in ss outer (term_of b.body))) slot n e)
+    (naming_at item at (bound_value_of b) (kind_in ss outer (term_of b.body)) ∷ names) slot n
+    (naming_more names (naming_at item at (bound_value_of b) (kind_in ss outer (term_of b.body))) slot n e)
 
 module _ (space : Space) (rs : List ResolvedItem) (k : ℕ) (one : Candidate) where
   pub group_meant : (R : Name → Relation ℕ) (item at : ℕ) (bs : List code_binding.Binding)
@@ -59,14 +59,14 @@ module _ (space : Space) (rs : List ResolvedItem) (k : ℕ) (one : Candidate) wh
       → ((j : ℕ) → j < length bs → IsSlotMeant space rs k one kinds.OfRelation
       (ARelation (R (name_at (map binding_of bs) j)))
       (binders.Bound (record { item = item; position = at + j })))
-      → AreSlotsMeant space rs k one (with_own names item at (map bound_of bs))
+      → AreSlotsMeant space rs k one (with_own names item at (map bound_value_of bs))
       (with_group R (map binding_of bs) N)
   group_meant R item at [] names N same h new = h
   group_meant R item at (b ∷ bs) names N same h new =
       let here : at + 0 ≡ at = omega arith in
-      group_meant R item (suc at) bs (naming_at item at (bound_of b) kinds.OfRelation ∷ names)
+      group_meant R item (suc at) bs (naming_at item at (bound_value_of b) kinds.OfRelation ∷ names)
       ((b.name, ToMeaning (ARelation (R b.name))) ∷ N) (ap suc same)
-      (slots_more space rs k one names N same h (naming_at item at (bound_of b) kinds.OfRelation)
+      (slots_more space rs k one names N same h (naming_at item at (bound_value_of b) kinds.OfRelation)
       (b.name, ToMeaning (ARelation (R b.name)))
       (subst
       (λ (p : ℕ). IsSlotMeant space rs k one kinds.OfRelation (ARelation (R b.name))
@@ -86,17 +86,17 @@ module _ (space : Space) (rs : List ResolvedItem) (k : ℕ) (one : Candidate) wh
       (kind_in ss outer (term_at (map binding_of bs) j))
       (meaning_of (λ a. a < events_of one) O (term_at (map binding_of bs) j))
       (binders.Bound (record { item = item; position = at + j })))
-      → AreSlotsMeant space rs k one (with_all ss outer names item at (map bound_of bs))
+      → AreSlotsMeant space rs k one (with_all ss outer names item at (map bound_value_of bs))
       (with_bodies (λ a. a < events_of one) O (map binding_of bs) N)
   bodies_meant ss outer O item at [] names N same h new = h
   bodies_meant ss outer O item at (b ∷ bs) names N same h new =
       let here : at + 0 ≡ at = omega arith in
       let t : Term = term_of b.body in
       bodies_meant ss outer O item (suc at) bs
-      (naming_at item at (bound_of b) (kind_in ss outer t) ∷ names)
+      (naming_at item at (bound_value_of b) (kind_in ss outer t) ∷ names)
       ((b.name, ToMeaning (meaning_of (λ a. a < events_of one) O t)) ∷ N) (ap suc same)
       (slots_more space rs k one names N same h
-      (naming_at item at (bound_of b) (kind_in ss outer t))
+      (naming_at item at (bound_value_of b) (kind_in ss outer t))
       (b.name, ToMeaning (meaning_of (λ a. a < events_of one) O t))
       (subst
       (λ (p : ℕ). IsSlotMeant space rs k one (kind_in ss outer t)

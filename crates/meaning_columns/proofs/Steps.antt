@@ -12,7 +12,7 @@ use Rattle.binding_kinds.specs.declared.kinds.Kind.TheVariants as kinds
 use Rattle.binding_kinds.specs.declared.scope.Binder.TheVariants as binders
 use Rattle.binding_kinds.specs.declared.scope.Input.{Input}
 use Rattle.binding_kinds.specs.declared.scope.Used.{Used}
-use Rattle.binding_kinds.specs.Value.{Naming, Group, bound_of, bare_item}
+use Rattle.binding_kinds.specs.Value.{Naming, Group, bound_value_of, bare_item}
 use Rattle.binding_kinds.specs.Faults.{with_own, with_all, names_after, senses_after}
 use Rattle.binding_kinds.specs.First.{first_of_item, first_in, let_fault}
 use Rattle.binding_kinds.specs.Verdict.{is_of_set}
@@ -50,7 +50,7 @@ use Rattle.meaning_columns.proofs.State.{IsState, all_grow, group_meant, bodies_
 -- the names that the bodies of a group use
 group_named : (us : List Usage) (names : List Naming) (from : ℕ) → AreNamedUsages names us
     → (bs : List code_binding.Binding) (vs : List Used) → AreUsedNames names vs
-    → AreUsedNames names (with_all_values us names from (map bound_of bs) vs)
+    → AreUsedNames names (with_all_values us names from (map bound_value_of bs) vs)
 group_named us names from closed [] vs h = h
 group_named us names from closed (b ∷ bs) vs h =
     group_named us names from closed bs (with_values us names [] from (term_of b.body) vs)
@@ -59,14 +59,14 @@ group_named us names from closed (b ∷ bs) vs h =
 -- the bodies of a group that is not recursive have no fault
 bodies_fine : (ss : List Sense) (names : List Naming) (from : ℕ) (earlier : List Name)
     (bs : List code_binding.Binding)
-    → first_in ss names from false earlier (map bound_of bs) ≡ None → (j : ℕ) → j < length bs
+    → first_in ss names from false earlier (map bound_value_of bs) ≡ None → (j : ℕ) → j < length bs
     → term_fault ss names from false (term_at (map binding_of bs) j) ≡ None
 bodies_fine ss names from earlier [] none j lt = absurd (omega (arith, lt))
 bodies_fine ss names from earlier (b ∷ bs) none zero lt =
-    let one = none_first (let_fault ss names false earlier (bound_of b)) _ none in
+    let one = none_first (let_fault ss names false earlier (bound_value_of b)) _ none in
     (none_first (term_fault ss names from false (term_of b.body)) _ one.1).0
 bodies_fine ss names from earlier (b ∷ bs) none (suc j) lt =
-    let one = none_first (let_fault ss names false earlier (bound_of b)) _ none in
+    let one = none_first (let_fault ss names false earlier (bound_value_of b)) _ none in
     let two = none_first (term_fault ss names from false (term_of b.body)) _ one.1 in
     bodies_fine ss names from (b.name ∷ earlier) bs two.1 j (omega (arith, lt))
 
@@ -100,11 +100,11 @@ module _ (space : Space) (k : ℕ) (one : Candidate)
 
   -- the columns of a group that is not recursive
   plain_role : (bs : List code_binding.Binding)
-      → first_in ss names (length names) false [] (map bound_of bs) ≡ None → (role : Role)
-      → IsGroupRole ss usages names (length names) false (map bound_of bs) role
+      → first_in ss names (length names) false [] (map bound_value_of bs) ≡ None → (role : Role)
+      → IsGroupRole ss usages names (length names) false (map bound_value_of bs) role
       → (inputs : List (Bor Column))
       → AreNamedColumns (λ i ds. AreItemColumns space rs i ds)
-      (inputs_of (with_all_values usages names (length names) (map bound_of bs) [])) inputs
+      (inputs_of (with_all_values usages names (length names) (map bound_value_of bs) [])) inputs
       → (cs : List Column) → ColumnsOf role inputs space cs → (j : ℕ) → j < length bs
       → (c : Column) → slice_get cs j ≡ Some c
       → IsAs (kind_in ss names (term_at (map binding_of bs) j))
@@ -116,7 +116,7 @@ module _ (space : Space) (k : ℕ) (one : Candidate)
       (λ (b : Bool). AreGroupColumns b bodies.items inputs (candidates_in space.combinations.items) cs)
       made.0 columns in
       plain_column space rs k one ss usages names N state.sound state.senses state.covers state.meant
-      (with_all_values usages names (length names) (map bound_of bs) [])
+      (with_all_values usages names (length names) (map bound_value_of bs) [])
       (group_named usages names (length names) state.named bs [] tt) inputs given bs refl bodies.items
       made.1 cs group.suited (group.values k one there) j lt
       (bodies_fine ss names (length names) [] bs none j lt) c at
@@ -125,12 +125,12 @@ module _ (space : Space) (k : ℕ) (one : Candidate)
 
   -- the columns of a recursive group
   own_role : (bs : List code_binding.Binding)
-      → first_of_item ss names item (Group true (map bound_of bs)) ≡ None → (role : Role)
-      → IsGroupRole ss usages (with_own names item 0 (map bound_of bs)) (length names) true
-      (map bound_of bs) role → (inputs : List (Bor Column))
+      → first_of_item ss names item (Group true (map bound_value_of bs)) ≡ None → (role : Role)
+      → IsGroupRole ss usages (with_own names item 0 (map bound_value_of bs)) (length names) true
+      (map bound_value_of bs) role → (inputs : List (Bor Column))
       → AreNamedColumns (λ i ds. AreItemColumns space rs i ds)
-      (inputs_of (with_all_values usages (with_own names item 0 (map bound_of bs)) (length names)
-      (map bound_of bs) [])) inputs → (cs : List Column) → ColumnsOf role inputs space cs
+      (inputs_of (with_all_values usages (with_own names item 0 (map bound_value_of bs)) (length names)
+      (map bound_value_of bs) [])) inputs → (cs : List Column) → ColumnsOf role inputs space cs
       → LeastOf role inputs space cs → (j : ℕ) → j < length bs → (c : Column)
       → slice_get cs j ≡ Some c
       → IsAs kinds.OfRelation
@@ -138,7 +138,7 @@ module _ (space : Space) (k : ℕ) (one : Candidate)
       (name_at (map binding_of bs) j)))
       (ColumnEvents c k (events_of one)) (ColumnPairs c k (events_of one))
   own_role bs none (roles.Group recursive bodies) made inputs given cs columns least j lt c at =
-      let own : List Naming = with_own names item 0 (map bound_of bs) in
+      let own : List Naming = with_own names item 0 (map bound_value_of bs) in
       let group : AreGroupColumns true bodies.items inputs (candidates_in space.combinations.items) cs =
       subst
       (λ (b : Bool). AreGroupColumns b bodies.items inputs (candidates_in space.combinations.items) cs)
@@ -151,14 +151,14 @@ module _ (space : Space) (k : ℕ) (one : Candidate)
       let fine : AreFaultless ss own (length names) [] bs =
       faultless_group ss own (length names) [] bs none in
       own_column space rs k one ss usages names N state.sound state.senses state.covers state.meant
-      item bs none (with_all_values usages own (length names) (map bound_of bs) [])
+      item bs none (with_all_values usages own (length names) (map bound_value_of bs) [])
       (group_named usages own (length names)
-      (usages_grown names own (own_grows item 0 (map bound_of bs) names) usages state.named) bs [] tt)
+      (usages_grown names own (own_grows item 0 (map bound_value_of bs) names) usages state.named) bs [] tt)
       inputs given refl bodies.items made.1
       (λ i below. known_relation (kind_in ss own (term_at (map binding_of bs) i))
       (fit_known ss own (term_at (map binding_of bs) i) state.sound.sound
       (fit ss own (length names) false (term_at (map binding_of bs) i)
-      (known_own names item 0 (map bound_of bs) state.sound.known) (fine.no_fault i below)))
+      (known_own names item 0 (map bound_value_of bs) state.sound.known) (fine.no_fault i below)))
       (fine.no_set i below))
       solved.0 solved.1 cs group.suited values.0 values.1 values.2 j lt c at
   own_role bs none (roles.Check check) made inputs given cs columns least j lt c at = absurd made
@@ -183,8 +183,8 @@ module _ (space : Space) (k : ℕ) (one : Candidate)
       (cat.names_after (λ a. a < events_of one) N (clause_of i)) (r ∷ rs)
   item_state (items.Let true group) none made =
       let bs : List code_binding.Binding = group.items in
-      let own : List Naming = with_own names item 0 (map bound_of bs) in
-      let grow : Grows names own = own_grows item 0 (map bound_of bs) names in
+      let own : List Naming = with_own names item 0 (map bound_value_of bs) in
+      let grow : Grows names own = own_grows item 0 (map bound_value_of bs) names in
       record {
         sound = item_sound (λ a. a < events_of one) ss names N state.sound item (items.Let true group) none;
         senses = senses_grown names own grow ss state.senses;
@@ -203,7 +203,7 @@ module _ (space : Space) (k : ℕ) (one : Candidate)
       }
   item_state (items.Let false group) none made =
       let bs : List code_binding.Binding = group.items in
-      let all : List Naming = with_all ss names names item 0 (map bound_of bs) in
+      let all : List Naming = with_all ss names names item 0 (map bound_value_of bs) in
       let grow : Grows names all = all_grow ss names item 0 bs names in
       record {
         sound = item_sound (λ a. a < events_of one) ss names N state.sound item (items.Let false group) none;

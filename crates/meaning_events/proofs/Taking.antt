@@ -8,7 +8,7 @@ use Rattle.text_values.specs.declared.instruction.Instruction as text
 use Rattle.text_values.specs.TestValue.{Content}
 use Rattle.meaning.specs.Names.{Name}
 use Rattle.meaning.specs.Machine.{Value, NoValue, State, is_load, is_fault, is_taken_in}
-use Rattle.meaning.specs.Runs.{Instance, Run, Rest, end_of_run, run_from, run_of, with_instance, label_after, lines_of, initial_state}
+use Rattle.meaning.specs.Runs.{Instance, Run, Rest, end_of_run, run_from, run_of, with_instance, label_after, lines_of_thread, initial_state}
 
 -- the values that the loads among these instances load
 abbrev pub loaded_values : List Instance → List Value
@@ -82,5 +82,5 @@ took (Instruction i ∷ xs) None s vs q e =
 
 -- so it is for the run of a thread
 pub thread_took : (t : Content) (thread : ℕ) (vs : List Value) (q : Run)
-    → run_of (lines_of t thread) None (initial_state t thread) vs ≡ Some q → Took vs q.instances
-thread_took t thread vs q e = took (lines_of t thread) None (initial_state t thread) vs q e
+    → run_of (lines_of_thread t thread) None (initial_state t thread) vs ≡ Some q → Took vs q.instances
+thread_took t thread vs q e = took (lines_of_thread t thread) None (initial_state t thread) vs q e

@@ -4,14 +4,14 @@ use Rattle.text_values.specs.TestValue.{Content}
 use Rattle.thread_runs.specs.Runs as by_number
 use Rattle.ppc_semantics.specs.Lowering.{AreNamesOf, labels_in}
 use Rattle.meaning.specs.Names.{Name, locations}
-use Rattle.meaning.specs.Runs.{Run, lines_of}
+use Rattle.meaning.specs.Runs.{Run, lines_of_thread}
 use Rattle.meaning_runs.specs.Runs.{IsSameRun}
 
 -- The runs of the thread are the same. Its labels are numbered in their order.
 pub record IsSameThreadRun (t : Content) (thread : ℕ) (r : by_number.Run) (q : Run)
     : Type 0 where
   pub labels : List Name
-  pub numbered : AreNamesOf (flat_map labels_in (lines_of t thread)) labels
+  pub numbered : AreNamesOf (flat_map labels_in (lines_of_thread t thread)) labels
   pub same : IsSameRun (locations t) labels r.outcome q
 
 -- The runs are the same one by one, the first two being of this thread.

@@ -16,7 +16,7 @@ use Rattle.ppc_semantics.specs.Lowering.{IsProgram}
 use Rattle.candidates.specs.Executions as candidates
 use Rattle.meaning.specs.Names.{Name, locations}
 use Rattle.meaning.specs.Machine.{Value, is_load}
-use Rattle.meaning.specs.Runs.{Instance, Run, IsRun, run_of, lines_of, initial_state}
+use Rattle.meaning.specs.Runs.{Instance, Run, IsRun, run_of, lines_of_thread, initial_state}
 use Rattle.meaning.specs.Domain.{InDomain}
 use Rattle.meaning.specs.Executions.{Event, Execution}
 use Rattle.meaning_runs.specs.Values as values
@@ -93,7 +93,7 @@ module _ (t : Content) (thread : ℕ) (r : by_number.Run) (q s : Run) where
       let same : vs ≡ ws =
       (thread_took t thread vs q is).values ∙ same_loads h g ∙ sym (thread_took t thread ws s of).values in
       same_Some _ _ (sym is
-      ∙ ap (λ (us : List Value). run_of (lines_of t thread) None (initial_state t thread) us) same
+      ∙ ap (λ (us : List Value). run_of (lines_of_thread t thread) None (initial_state t thread) us) same
       ∙ of)
 
 module _ (t : Test) (p : Program) (of : IsProgram t p) where
@@ -129,7 +129,7 @@ module _ (t : Test) (p : Program) (of : IsProgram t p) where
         same_Some _ _ (sym first.1
         ∙ ap (λ (vs : List numbered_value.Value). by_number.run_of (thread_of p thread).lines (thread_of p thread).first vs) same
         ∙ second.1) in
-        ap₂ (λ (vs : List numbered_value.Value) (o : by_number.Outcome). record { values = vs; outcome = o })
+        ap₂ (λ (vs : List numbered_value.Value) (o : by_number.RunOutcome). record { values = vs; outcome = o })
         same ends
 
 -- two lists with the same elements are one

@@ -9,7 +9,7 @@ use Rattle.ppc_semantics.specs.Domain.{threads_of}
 use Rattle.ppc_semantics.specs.Lowering.{AreNamesOf, labels_in}
 use Rattle.candidates.specs.Executions as numbered
 use Rattle.meaning.specs.Names.{Name, locations}
-use Rattle.meaning.specs.Runs.{Run, lines_of}
+use Rattle.meaning.specs.Runs.{Run, lines_of_thread}
 use Rattle.meaning.specs.Executions.{Execution, IsExecution}
 use Rattle.meaning_runs.specs.Runs.{IsSameRun}
 use Rattle.meaning_events.specs.Runs.{AreSameThreadRuns}

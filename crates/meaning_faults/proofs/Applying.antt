@@ -23,7 +23,7 @@ long_terms inside S g i NoTerm = refl
 long_terms inside S g i (OneMore a ts) = ap suc (long_terms inside S g (suc i) ts)
 
 pub right_use : (inside : Bool) (o : Option Known) (count : ℕ)
-    (body : List meant.Value → Finding) (arguments : (ℕ → Bool) → List Finding)
+    (body : List meant.KnownName → Finding) (arguments : (ℕ → Bool) → List Finding)
     → o ≡ Some (AsFunction count body) → length (arguments (λ i. false)) ≡ count
     → in_use inside o arguments
     ≡ in_application inside (body (values_of (arguments (λ i. false))))
@@ -38,7 +38,7 @@ choice true k = refl
 choice false k = refl
 
 -- the kind of an application that is not too large
-pub application_kind : (s : Sense) (inside : Bool) (count : ℕ) (body : List meant.Value → Finding)
+pub application_kind : (s : Sense) (inside : Bool) (count : ℕ) (body : List meant.KnownName → Finding)
     (ks : List code_kind.Kind) (plain arguments : List Finding) → IsSense s count body
     → length plain ≡ count → ks ≡ kinds_of plain → ks ≡ kinds_of arguments
     → (not inside && nat_lt 4096 (body (values_of plain)).size) ≡ false
@@ -57,14 +57,14 @@ application_kind s inside count body ks plain arguments same long is also small 
     ∙ sym (ap (λ (b : Bool). kind_to (if b || list_any (λ f. is_set f.kind && is_relation f.kind) arguments
     then OfAny else (body (values_of plain)).kind)) small))))
 
-pub application_size : (s : Sense) (count : ℕ) (body : List meant.Value → Finding)
+pub application_size : (s : Sense) (count : ℕ) (body : List meant.KnownName → Finding)
     (ns : List ℕ) (plain : List Finding) → IsSense s count body → length plain ≡ count
     → ns ≡ sizes_of plain → size_with s ns ≡ (body (values_of plain)).size
 application_size s count body ns plain same long is =
     ap (size_with s) (is ∙ sym (sizes_of_values plain))
     ∙ same.size (values_of plain) (length-map plain _ ∙ long)
 
-pub application_clash : (s : Sense) (count : ℕ) (body : List meant.Value → Finding)
+pub application_clash : (s : Sense) (count : ℕ) (body : List meant.KnownName → Finding)
     (ks : List code_kind.Kind) (plain : List Finding) → IsSense s count body
     → length plain ≡ count → ks ≡ kinds_of plain
     → s.clashes ks ≡ list_any is_kind_fault (body (values_of plain)).faults

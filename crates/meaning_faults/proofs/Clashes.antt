@@ -18,7 +18,7 @@ use Rattle.binding_kinds.specs.Senses.{Sense, count_of}
 use Rattle.binding_kinds.specs.Functions.{clash_of_sense, kind_of_body, kinds_of_body, clashes_in, clash_among}
 use Rattle.binding_kinds.specs.First.{fault_inside, first_of_body, first_of_bodies}
 use Rattle.meaning.specs.Names.{Name}
-use Rattle.meaning.specs.Faults.{ModelFault, Kind, NotMonotone, Finding, Value, Known, AsValue, AsFunction, Scope, known_as, takes, is_set, is_relation, is_falling_right, fault_if, is_kind_fault, in_name, is_falling_parameter, faults_in, with_parameters, is_body_fault}
+use Rattle.meaning.specs.Faults.{ModelFault, Kind, NotMonotone, Finding, KnownName, Known, AsValue, AsFunction, Scope, known_as, takes, is_set, is_relation, is_falling_right, fault_if, is_kind_fault, in_name, is_falling_parameter, faults_in, with_parameters, is_body_fault}
 use Rattle.meaning_faults.specs.Laws.{fault_of, head_of}
 use Rattle.meaning_faults.proofs.Likeness.{value_kinds, values_of, set_same, relation_same, head_append, or_parts}
 use Rattle.meaning_faults.proofs.Scopes.{IsKnownAs, IsFoundAs, AreTied, found_tied, plain_value, known_inside, known_parameter}
@@ -81,7 +81,7 @@ name_fault ss from u (Some f) (Some k) h = at_binder f.binder k h
     at_binder (binders.Applicable g) (AsFunction n body) h = refl
 
 atom_fault : (ss : List Sense) (from : ℕ) (names : List Naming) (ps : List Name)
-    (vs : List Value) (S : Scope) (u : Bool) (x : Name) → AreTied ss from names S
+    (vs : List KnownName) (S : Scope) (u : Bool) (x : Name) → AreTied ss from names S
     → body_head (in_name u (known_as (with_parameters ps vs S) x)).faults
     ≡ fault_inside (parameter_of (reverse ps) x) (found names x)
 atom_fault ss from names ps vs S u x tied =
@@ -106,7 +106,7 @@ or_some k o q r e = rw e refl
 
 mutual
   pub fault_inside_body : (ss : List Sense) (from : ℕ) (names : List Naming) (ps : List Name)
-      (vs : List Value) (S : Scope) → AreTied ss from names S → (u : Bool) (t : Term)
+      (vs : List KnownName) (S : Scope) → AreTied ss from names S → (u : Bool) (t : Term)
       → body_head (look ps vs S u t).faults ≡ first_of_body ss names ps t
   fault_inside_body ss from names ps vs S tied u (Atom x) =
       atom_fault ss from names ps vs S u x tied
@@ -150,7 +150,7 @@ mutual
       ]
 
   faults_inside_bodies : (ss : List Sense) (from : ℕ) (names : List Naming) (ps : List Name)
-      (vs : List Value) (S : Scope) → AreTied ss from names S → (g : ℕ → Bool) (i : ℕ)
+      (vs : List KnownName) (S : Scope) → AreTied ss from names S → (g : ℕ → Bool) (i : ℕ)
       (ts : Terms)
       → body_head (faults_in (looks ps vs S g i ts)) ≡ first_of_bodies ss names ps ts
   faults_inside_bodies ss from names ps vs S tied g i NoTerm = refl
@@ -223,7 +223,7 @@ either_same x y v w d e = rw (d, e) (turn v w)
 
 mutual
   pub clash_inside : (ss : List Sense) (from : ℕ) (names : List Naming) (ps : List Name)
-      (vs : List Value) (S : Scope) → AreTied ss from names S → length vs ≡ length ps
+      (vs : List KnownName) (S : Scope) → AreTied ss from names S → length vs ≡ length ps
       → (u : Bool) (t : Term) → first_of_body ss names ps t ≡ None
       → clashes_in ss names ps (value_kinds vs) t
       ≡ list_any is_kind_fault (look ps vs S u t).faults
@@ -261,7 +261,7 @@ mutual
       clash_inside ss from names ps vs S tied long true a none
   clash_inside ss from names ps vs S tied long u (On a) none =
       ap (λ (z : Bool). clashes_in ss names ps (value_kinds vs) a || not z)
-      (ap of_program.is_set (kind_inside ss from names ps vs S tied long u a)
+      (ap of_program.is_set_kind (kind_inside ss from names ps vs S tied long u a)
       ∙ set_same (look ps vs S u a).kind)
       ∙ clash_begins (clashes_in ss names ps (value_kinds vs) a)
       (not (is_set (look ps vs S u a).kind)) (look ps vs S u a).faults
@@ -297,7 +297,7 @@ mutual
       ]
 
   clash_inside_all : (ss : List Sense) (from : ℕ) (names : List Naming) (ps : List Name)
-      (vs : List Value) (S : Scope) → AreTied ss from names S → length vs ≡ length ps
+      (vs : List KnownName) (S : Scope) → AreTied ss from names S → length vs ≡ length ps
       → (g : ℕ → Bool) (i : ℕ) (ts : Terms) → first_of_bodies ss names ps ts ≡ None
       → clash_among ss names ps (value_kinds vs) ts
       ≡ list_any is_kind_fault (faults_in (looks ps vs S g i ts))

@@ -15,7 +15,7 @@ use Rattle.binding_kinds.specs.Functions.{under_at, is_at, is_under_in, is_under
 use Rattle.binding_kinds.specs.First.{first_of_body, first_of_bodies}
 use Rattle.binding_functions.proofs.Filling.{formula_within}
 use Rattle.meaning.specs.Names.{Name}
-use Rattle.meaning.specs.Faults.{OfAny, ModelFault, Kind, NotMonotone, Finding, Value, Known, AsValue, AsFunction, Scope, known_as, takes, is_set, is_relation, is_falling_right, fault_if, is_monotone_fault, value_with, in_name, is_falling_parameter, faults_in, with_parameters, in_body}
+use Rattle.meaning.specs.Faults.{OfAny, ModelFault, Kind, NotMonotone, Finding, KnownName, Known, AsValue, AsFunction, Scope, known_as, takes, is_set, is_relation, is_falling_right, fault_if, is_monotone_fault, value_with, in_name, is_falling_parameter, faults_in, with_parameters, in_body}
 use Rattle.meaning_faults.specs.Laws.{fault_of}
 use Rattle.meaning_faults.proofs.Likeness.{value_kinds, values_of, turned_same}
 use Rattle.meaning_faults.proofs.Scopes.{IsSense, AreTied, IsPlain, plain_tied, plain_value, known_inside, known_parameter}
@@ -24,7 +24,7 @@ use Rattle.meaning_faults.proofs.Inside.{answer_at, use_inside, look, looks, arg
 use Rattle.meaning_faults.proofs.Clashes.{none_first, clash_inside}
 
 -- the arguments, of which the one at that index is recursive
-abbrev pub one_recursive : ℕ → List Value
+abbrev pub one_recursive : ℕ → List KnownName
 one_recursive j = replicate j plain_value ++ value_with OfAny 1 true ∷ []
 
 recursive_there : (j : ℕ) → (get_or (one_recursive j) j plain_value).recursive ≡ true

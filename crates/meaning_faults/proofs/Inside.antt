@@ -23,7 +23,7 @@ use Rattle.binding_kinds.specs.First.{apply_fault}
 use Rattle.binding_kinds.proofs.Sizes.{args_both}
 use Rattle.binding_kinds.proofs.Tables.{parameter_kind, other_kind, parameter_below}
 use Rattle.meaning.specs.Names.{Name}
-use Rattle.meaning.specs.Faults.{KindOf, ModelFault, Arity, Finding, Value, Known, AsValue, AsFunction, Scope, known_as, takes, kind_of_infix, is_falling_right, in_name, is_falling_parameter, in_use, in_wrong_application, in_term, in_terms, with_parameters, is_body_fault}
+use Rattle.meaning.specs.Faults.{KindOf, ModelFault, Arity, Finding, KnownName, Known, AsValue, AsFunction, Scope, known_as, takes, kind_of_infix, is_falling_right, in_name, is_falling_parameter, in_use, in_wrong_application, in_term, in_terms, with_parameters, is_body_fault}
 use Rattle.meaning_faults.specs.Laws.{fault_of}
 use Rattle.meaning_faults.proofs.Likeness.{kind_to, kinds_of, sizes_of, value_kinds, value_sizes, marked_same, narrowed_same, takes_same, joined_same}
 use Rattle.meaning_faults.proofs.Scopes.{IsSense, IsKnownAs, IsFoundAs, AreTied, found_tied, plain_value, known_inside, known_parameter, use_of}
@@ -46,7 +46,7 @@ pub record IsWrongInside (q : Option Sense) (a : Option program.ModelFault) (o :
 pub record IsRightInside (q : Option Sense) (a : Option program.ModelFault) (o : Option Known)
     (count : ℕ) : Type 0 where
   pub sense : Sense
-  pub body : List Value → Finding
+  pub body : List KnownName → Finding
   pub some : q ≡ Some sense
   pub no_fault : a ≡ None
   pub known : o ≡ Some (AsFunction count body)
@@ -58,7 +58,7 @@ answer_at ss names ps count x =
     apply_fault (parameter_of (reverse ps) x) (sense_of ss count (found names x))
 
 pub use_inside : (ss : List Sense) (from : ℕ) (names : List Naming) (ps : List Name)
-    (vs : List Value) (S : Scope) (count : ℕ) (x : Name) → AreTied ss from names S
+    (vs : List KnownName) (S : Scope) (count : ℕ) (x : Name) → AreTied ss from names S
     → IsWrongInside (sense_seen ss names ps count x) (answer_at ss names ps count x)
     (known_as (with_parameters ps vs S) x) count
     ⊎ IsRightInside (sense_seen ss names ps count x) (answer_at ss names ps count x)
@@ -106,14 +106,14 @@ use_inside ss from names ps vs S count x tied =
         ]
 
 -- what is found in a term of the body, and in arguments there
-abbrev pub look : List Name → List Value → Scope → Bool → Term → Finding
+abbrev pub look : List Name → List KnownName → Scope → Bool → Term → Finding
 look ps vs S u t = in_term true (with_parameters ps vs S) u t
 
-abbrev pub looks : List Name → List Value → Scope → (ℕ → Bool) → ℕ → Terms → List Finding
+abbrev pub looks : List Name → List KnownName → Scope → (ℕ → Bool) → ℕ → Terms → List Finding
 looks ps vs S g i ts = in_terms true (with_parameters ps vs S) g i ts
 
 -- what is found in the arguments of an application
-abbrev pub argued : List Name → List Value → Scope → Bool → Terms → (ℕ → Bool) → List Finding
+abbrev pub argued : List Name → List KnownName → Scope → Bool → Terms → (ℕ → Bool) → List Finding
 argued ps vs S u ts = λ g. in_terms true (with_parameters ps vs S) (λ i. u || g i) 0 ts
 
 -- ---- kinds
@@ -134,14 +134,14 @@ name_kind ss from u (Some f) (Some k) h = at_binder f.binder k h
     at_binder (binders.Applicable g) (AsValue v) h = absurd h
     at_binder (binders.Applicable g) (AsFunction n body) h = h.kind
 
-kind_at : (vs : List Value) (i : ℕ)
+kind_at : (vs : List KnownName) (i : ℕ)
     → get_or (value_kinds vs) i kinds.OfAny ≡ kind_to (get_or vs i plain_value).kind
 kind_at [] i = refl
 kind_at (v ∷ vs) zero = refl
 kind_at (v ∷ vs) (suc i) = kind_at vs i
 
 atom_kind : (ss : List Sense) (from : ℕ) (names : List Naming) (ps : List Name)
-    (vs : List Value) (S : Scope) (u : Bool) (x : Name) → AreTied ss from names S
+    (vs : List KnownName) (S : Scope) (u : Bool) (x : Name) → AreTied ss from names S
     → length vs ≡ length ps
     → kind_found (found (functions.with_parameters ps (value_kinds vs) names) x)
     ≡ kind_to (in_name u (known_as (with_parameters ps vs S) x)).kind
@@ -160,10 +160,10 @@ atom_kind ss from names ps vs S u x tied long =
         ∙ name_kind ss from u (found names x) (known_as S x) (found_tied ss from names S x tied)
 
 pub joined_parts : (op : Infix) (k l : code_kind.Kind) (m n : KindOf) → k ≡ kind_to m
-    → l ≡ kind_to n → of_program.joined op k l ≡ kind_to (kind_of_infix op m n)
+    → l ≡ kind_to n → of_program.joined_kind op k l ≡ kind_to (kind_of_infix op m n)
 joined_parts op k l m n d e =
-    ap (λ (j : code_kind.Kind). of_program.joined op j l) d
-    ∙ (ap (λ (j : code_kind.Kind). of_program.joined op (kind_to m) j) e ∙ joined_same op m n)
+    ap (λ (j : code_kind.Kind). of_program.joined_kind op j l) d
+    ∙ (ap (λ (j : code_kind.Kind). of_program.joined_kind op (kind_to m) j) e ∙ joined_same op m n)
 
 pub taken_parts : (op : Infix) (k l : code_kind.Kind) (m n : KindOf) → k ≡ kind_to m
     → l ≡ kind_to n → of_program.takes op k l ≡ takes op m n
@@ -177,7 +177,7 @@ more_kinds k l ks ls d e = cc
 
 mutual
   pub kind_inside : (ss : List Sense) (from : ℕ) (names : List Naming) (ps : List Name)
-      (vs : List Value) (S : Scope) → AreTied ss from names S → length vs ≡ length ps
+      (vs : List KnownName) (S : Scope) → AreTied ss from names S → length vs ≡ length ps
       → (u : Bool) (t : Term)
       → kind_of_body ss names ps (value_kinds vs) t ≡ kind_to (look ps vs S u t).kind
   kind_inside ss from names ps vs S tied long u (Atom x) =
@@ -221,7 +221,7 @@ mutual
       ]
 
   pub kinds_inside : (ss : List Sense) (from : ℕ) (names : List Naming) (ps : List Name)
-      (vs : List Value) (S : Scope) → AreTied ss from names S → length vs ≡ length ps
+      (vs : List KnownName) (S : Scope) → AreTied ss from names S → length vs ≡ length ps
       → (g : ℕ → Bool) (i : ℕ) (ts : Terms)
       → kinds_of_body ss names ps (value_kinds vs) ts ≡ kinds_of (looks ps vs S g i ts)
   kinds_inside ss from names ps vs S tied long g i NoTerm = refl
@@ -251,14 +251,14 @@ name_size ss from u ns (Some f) (Some k) h = at_binder f.binder k h
     at_binder (binders.Applicable g) (AsFunction n body) h =
         let e = no_arguments 0 ns in omega (arith, e)
 
-size_of_value : (vs : List Value) (i : ℕ) → i < length vs
+size_of_value : (vs : List KnownName) (i : ℕ) → i < length vs
     → get_or (value_sizes vs) i 0 ≡ (get_or vs i plain_value).size
 size_of_value [] i lt = absurd (omega (arith, lt))
 size_of_value (v ∷ vs) zero lt = refl
 size_of_value (v ∷ vs) (suc i) lt = size_of_value vs i (omega (arith, lt))
 
 atom_size : (ss : List Sense) (from : ℕ) (names : List Naming) (ps : List Name)
-    (vs : List Value) (S : Scope) (u : Bool) (x : Name) → AreTied ss from names S
+    (vs : List KnownName) (S : Scope) (u : Bool) (x : Name) → AreTied ss from names S
     → length vs ≡ length ps
     → size_at (value_sizes vs) (named_formula (parameter_of (reverse ps) x) (found names x))
     ≡ (in_name u (known_as (with_parameters ps vs S) x)).size
@@ -272,7 +272,7 @@ atom_size ss from names ps vs S u x tied long =
     at_parameter (Some i) is =
         let lt = parameter_below ps x i (sym is) in
         let below : i < length vs = omega (arith, lt, long) in
-        let many = length-map vs (λ (v : Value). v.size) in
+        let many = length-map vs (λ (v : KnownName). v.size) in
         let e = argument_at i i 0 (value_sizes vs) (omega arith) (omega (arith, below, many)) in
         let d = size_of_value vs i below in omega (arith, d, e)
     at_parameter None is =
@@ -289,7 +289,7 @@ more_sizes k l ks ls d e = cc
 
 mutual
   pub size_inside : (ss : List Sense) (from : ℕ) (names : List Naming) (ps : List Name)
-      (vs : List Value) (S : Scope) → AreTied ss from names S → length vs ≡ length ps
+      (vs : List KnownName) (S : Scope) → AreTied ss from names S → length vs ≡ length ps
       → (u : Bool) (t : Term)
       → size_at (value_sizes vs) (formula_in ss names ps t) ≡ (look ps vs S u t).size
   size_inside ss from names ps vs S tied long u (Atom x) =
@@ -340,7 +340,7 @@ mutual
       one ns = let e = no_arguments 0 ns in omega (arith, e)
 
   pub sizes_inside : (ss : List Sense) (from : ℕ) (names : List Naming) (ps : List Name)
-      (vs : List Value) (S : Scope) → AreTied ss from names S → length vs ≡ length ps
+      (vs : List KnownName) (S : Scope) → AreTied ss from names S → length vs ≡ length ps
       → (g : ℕ → Bool) (i : ℕ) (ts : Terms)
       → map (size_at (value_sizes vs)) (formulas_in ss names ps ts)
       ≡ sizes_of (looks ps vs S g i ts)

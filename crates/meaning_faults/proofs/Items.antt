@@ -16,7 +16,7 @@ use Rattle.binding_kinds.specs.Faults.{naming_at, with_own, with_all, senses_aft
 use Rattle.binding_kinds.specs.First.{let_fault, first_in, first_of_body, first_of_item, first}
 use Rattle.meaning.specs.Names.{Name}
 use Rattle.meaning.specs.Faults as meant
-use Rattle.meaning.specs.Faults.{KindOf, OfSet, OfRelation, OfAny, ModelFault, Kind, Duplicate, SetInRec, TooLarge, Scope, is_relation, takes_body, fault_if, in_term, in_body, is_body_fault, is_among, faults_of_parameters, faults_of_group, with_group, with_bodies, faults_of_check, faults_of_item, faults_from}
+use Rattle.meaning.specs.Faults.{KindOf, OfSet, OfRelation, OfAny, ModelFault, Kind, Duplicate, SetInRec, TooLarge, Scope, is_relation, takes_body, fault_if, in_term, in_body, is_body_fault, is_among, faults_of_parameters, faults_of_group, with_group, scope_with_bodies, faults_of_check, faults_of_item, faults_from}
 use Rattle.meaning_faults.specs.Laws.{head_of}
 use Rattle.meaning_faults.proofs.Likeness.{kind_to, body_same, head_append, or_parts}
 use Rattle.meaning_faults.proofs.Scopes.{AreTied, not_before, tied_again, tied_more, last_sense}
@@ -161,7 +161,7 @@ long_own names item at (b ∷ bs) =
 all_behind : (ss : List Sense) (base : ℕ) (outer : List Naming) (O : Scope)
     → AreTied ss base outer O → (from : ℕ) (names : List Naming) (S : Scope) (item at : ℕ)
     (bs : List (Name × Term)) → AreTied ss from names S → length names + length bs ≤ from
-    → AreTied ss from (with_all ss outer names item at (map bound_from bs)) (with_bodies O bs S)
+    → AreTied ss from (with_all ss outer names item at (map bound_from bs)) (scope_with_bodies O bs S)
 all_behind ss base outer O around from names S item at [] tied le = tied
 all_behind ss base outer O around from names S item at (b ∷ bs) tied le =
     all_behind ss base outer O around from
@@ -226,7 +226,7 @@ pub names_same : (ss : List Sense) (names : List Naming) (S : Scope)
     → first_of_item ss names item (bare_of c) ≡ None
     → AreTied (senses_after ss names (bare_of c))
     (length (of_items.names_after ss names item (bare_of c)))
-    (of_items.names_after ss names item (bare_of c)) (meant.names_after S c)
+    (of_items.names_after ss names item (bare_of c)) (meant.known_after S c)
 names_same ss names S tied item (Binding true group) none =
     let long = long_own names item 0 group in
     own_behind ss (length (with_own names item 0 (map bound_from group))) names S item 0 group
@@ -264,19 +264,19 @@ pub items_same : (ss : List Sense) (names : List Naming) (S : Scope)
     → head_of (faults_from S cs) ≡ first ss names item (map bare_of cs)
 items_same ss names S tied item [] = refl
 items_same ss names S tied item (c ∷ cs) =
-    head_append (faults_of_item S c) (faults_from (meant.names_after S c) cs)
+    head_append (faults_of_item S c) (faults_from (meant.known_after S c) cs)
     ∙ (ap (λ (o : Option program.ModelFault). or_else o
-    (head_of (faults_from (meant.names_after S c) cs))) (item_same ss names S tied item c)
+    (head_of (faults_from (meant.known_after S c) cs))) (item_same ss names S tied item c)
     ∙ at_fault (first_of_item ss names item (bare_of c)) (λ none.
     items_same (senses_after ss names (bare_of c))
-    (of_items.names_after ss names item (bare_of c)) (meant.names_after S c)
+    (of_items.names_after ss names item (bare_of c)) (meant.known_after S c)
     (names_same ss names S tied item c none) (item + 1) cs))
   where
     at_fault : (o : Option program.ModelFault)
-        → (o ≡ None → head_of (faults_from (meant.names_after S c) cs)
+        → (o ≡ None → head_of (faults_from (meant.known_after S c) cs)
         ≡ first (senses_after ss names (bare_of c))
         (of_items.names_after ss names item (bare_of c)) (item + 1) (map bare_of cs))
-        → or_else o (head_of (faults_from (meant.names_after S c) cs))
+        → or_else o (head_of (faults_from (meant.known_after S c) cs))
         ≡ or_else o (first (senses_after ss names (bare_of c))
         (of_items.names_after ss names item (bare_of c)) (item + 1) (map bare_of cs))
     at_fault None rest = rest refl

@@ -12,7 +12,7 @@ use Rattle.binding_kinds.specs.declared.kinds.Kind.TheVariants as kinds
 use Rattle.binding_kinds.specs.Kinds as of_program
 use Rattle.binding_kinds.specs.Combinations.{has_any}
 use Rattle.binding_kinds.specs.Verdict.{or_else, unless}
-use Rattle.meaning.specs.Faults.{KindOf, OfSet, OfRelation, OfAny, ModelFault, Finding, Value, is_set, is_relation, takes, kind_of_infix, kind_of_postfix, kind_of_identity, takes_body, is_falling_right, fault_if, value_with}
+use Rattle.meaning.specs.Faults.{KindOf, OfSet, OfRelation, OfAny, ModelFault, Finding, KnownName, is_set, is_relation, takes, kind_of_infix, kind_of_postfix, kind_of_identity, takes_body, is_falling_right, fault_if, value_with}
 use Rattle.meaning_faults.specs.Laws.{fault_of, head_of}
 
 -- ---- kinds
@@ -23,7 +23,7 @@ kind_to OfSet = kinds.OfSet
 kind_to OfRelation = kinds.OfRelation
 kind_to OfAny = kinds.OfAny
 
-pub set_same : (k : KindOf) → of_program.is_set (kind_to k) ≡ is_set k
+pub set_same : (k : KindOf) → of_program.is_set_kind (kind_to k) ≡ is_set k
 set_same OfSet = refl
 set_same OfRelation = refl
 set_same OfAny = refl
@@ -91,7 +91,7 @@ takes_same Product OfAny OfRelation = refl
 takes_same Product OfAny OfAny = refl
 
 pub joined_same : (op : Infix) (k l : KindOf)
-    → of_program.joined op (kind_to k) (kind_to l) ≡ kind_to (kind_of_infix op k l)
+    → of_program.joined_kind op (kind_to k) (kind_to l) ≡ kind_to (kind_of_infix op k l)
 joined_same Union OfSet OfSet = refl
 joined_same Union OfSet OfRelation = refl
 joined_same Union OfSet OfAny = refl
@@ -166,14 +166,14 @@ abbrev pub sizes_of : List Finding → List ℕ
 sizes_of fs = map (λ f. f.size) fs
 
 -- the kinds and the sizes of arguments
-abbrev pub value_kinds : List Value → List Kind
+abbrev pub value_kinds : List KnownName → List Kind
 value_kinds vs = map (λ v. kind_to v.kind) vs
 
-abbrev pub value_sizes : List Value → List ℕ
+abbrev pub value_sizes : List KnownName → List ℕ
 value_sizes vs = map (λ v. v.size) vs
 
 -- the arguments that findings are
-abbrev pub values_of : List Finding → List Value
+abbrev pub values_of : List Finding → List KnownName
 values_of fs = map (λ a. value_with a.kind a.size false) fs
 
 pub kinds_of_values : (fs : List Finding) → value_kinds (values_of fs) ≡ kinds_of fs

@@ -11,13 +11,13 @@ use Rattle.text_values.specs.ModelValues.{binding_of, clause_of, clauses_of}
 use Rattle.binding_kinds.specs.declared.fault.ModelFault as program
 use Rattle.binding_kinds.specs.declared.fault.ModelFault.TheVariants as program_faults
 use Rattle.binding_kinds.specs.declared.kinds.Kind.TheVariants as kinds
-use Rattle.binding_kinds.specs.Value.{Naming, Bound, BareItem, Group, bound_of, bare_item}
+use Rattle.binding_kinds.specs.Value.{Naming, Bound, BareItem, Group, bound_value_of, bare_item}
 use Rattle.binding_kinds.specs.Outermost.{naming_of}
 use Rattle.binding_kinds.specs.Senses.{Sense}
 use Rattle.binding_kinds.specs.Faults.{rank, IsFaultNoLater, FirstFault, HasNoFault}
 use Rattle.binding_kinds.specs.First.{first}
 use Rattle.binding_kinds.proofs.FirstItem.{JudgesItems, judged_items}
-use Rattle.meaning.specs.Faults.{ModelFault, OfSet, OfRelation, predefined_known, outermost, faults}
+use Rattle.meaning.specs.Faults.{ModelFault, OfSet, OfRelation, predefined_known, outermost_scope, faults}
 use Rattle.meaning_faults.specs.Laws.{head_of, outer_namings, FirstFaultIsHead, NoFaultIsNone}
 use Rattle.meaning_faults.proofs.Likeness.{kind_to}
 use Rattle.meaning_faults.proofs.Scopes.{AreTied, not_before}
@@ -48,15 +48,15 @@ predefined_tied from (p ∷ ps) le = (
     at_test true = refl
     at_test false = refl
 
-outer_tied : AreTied [] (length (outer_namings PREDEFINED)) (outer_namings PREDEFINED) outermost
+outer_tied : AreTied [] (length (outer_namings PREDEFINED)) (outer_namings PREDEFINED) outermost_scope
 outer_tied = predefined_tied 33 (reverse PREDEFINED) (omega arith)
 
 -- ---- items of the code
 
 bounds_same : (bs : List code_binding.Binding)
-    → map bound_of bs ≡ map bound_from (map binding_of bs)
+    → map bound_value_of bs ≡ map bound_from (map binding_of bs)
 bounds_same [] = refl
-bounds_same (b ∷ bs) = ap (λ (l : List Bound). bound_of b ∷ l) (bounds_same bs)
+bounds_same (b ∷ bs) = ap (λ (l : List Bound). bound_value_of b ∷ l) (bounds_same bs)
 
 item_bare : (i : Item) → bare_item i ≡ bare_of (clause_of i)
 item_bare (items.Let recursive group) =
@@ -77,7 +77,7 @@ items_bare (i ∷ is) = more (bare_item i) _ _ _ (item_bare i) (items_bare is)
 head_is_first : (is : List Item)
     → head_of (faults (clauses_of is)) ≡ first [] (outer_namings PREDEFINED) 0 (map bare_item is)
 head_is_first is =
-    items_same [] (outer_namings PREDEFINED) outermost outer_tied 0 (clauses_of is)
+    items_same [] (outer_namings PREDEFINED) outermost_scope outer_tied 0 (clauses_of is)
     ∙ ap (first [] (outer_namings PREDEFINED) 0) (sym (items_bare is))
 
 -- ---- there is one first fault

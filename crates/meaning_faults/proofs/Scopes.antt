@@ -17,32 +17,32 @@ use Rattle.binding_kinds.specs.Meanings.{parameter_of}
 use Rattle.binding_kinds.specs.Formula.{HasParameters}
 use Rattle.binding_kinds.specs.Senses.{Sense, size_with, with_arity, sense_of_binder, sense_of}
 use Rattle.meaning.specs.Names.{Name}
-use Rattle.meaning.specs.Faults.{OfAny, ModelFault, Unbound, Arity, Finding, Value, Known, AsValue, AsFunction, Scope, known_as, value_with, is_kind_fault, is_falling_parameter, in_use, in_wrong_application, is_body_fault, with_parameters}
+use Rattle.meaning.specs.Faults.{OfAny, ModelFault, Unbound, Arity, Finding, KnownName, Known, AsValue, AsFunction, Scope, known_as, value_with, is_kind_fault, is_falling_parameter, in_use, in_wrong_application, is_body_fault, with_parameters}
 use Rattle.meaning_faults.specs.Laws.{fault_of}
 use Rattle.meaning_faults.proofs.Likeness.{kind_to, value_kinds, value_sizes}
 
 -- What is found in the body of a function is what the program says of the function.
-pub record IsSense (s : Sense) (n : ℕ) (body : List Value → Finding) : Type 0 where
+pub record IsSense (s : Sense) (n : ℕ) (body : List KnownName → Finding) : Type 0 where
   pub arity : s.arity ≡ n
   pub within : HasParameters n s.formula
-  pub kind : (vs : List Value) → length vs ≡ n
+  pub kind : (vs : List KnownName) → length vs ≡ n
       → s.kind_with (value_kinds vs)
       ≡ (if has_any (value_kinds vs) then kinds.OfAny else kind_to (body vs).kind)
-  pub size : (vs : List Value) → length vs ≡ n
+  pub size : (vs : List KnownName) → length vs ≡ n
       → size_with s (value_sizes vs) ≡ (body vs).size
-  pub clash : (vs : List Value) → length vs ≡ n
+  pub clash : (vs : List KnownName) → length vs ≡ n
       → s.clashes (value_kinds vs) ≡ list_any is_kind_fault (body vs).faults
   pub under : (i : ℕ) → i < n → s.is_under i ≡ is_falling_parameter body i
 
 -- a set or a relation of this kind, which is recursive or not
-pub record IsValueAs (k : code_kind.Kind) (r : Bool) (v : Value) : Type 0 where
+pub record IsValueAs (k : code_kind.Kind) (r : Bool) (v : KnownName) : Type 0 where
   pub kind : k ≡ kind_to v.kind
   pub size : v.size ≡ 1
   pub recursive : v.recursive ≡ r
 
 -- a function that the program knows by this number
 pub record IsFunctionAs (ss : List Sense) (k : code_kind.Kind) (f : ℕ) (n : ℕ)
-    (body : List Value → Finding) : Type 0 where
+    (body : List KnownName → Finding) : Type 0 where
   pub kind : k ≡ kinds.OfAny
   pub sense : Sense
   pub there : slice_get ss f ≡ Some sense
@@ -209,15 +209,15 @@ parameter_before (q ∷ ps) p x = at_test (bytes_eq q x) (parameter_before ps p 
     at_test false h = h
 
 -- an argument that is not there
-abbrev pub plain_value : Value
+abbrev pub plain_value : KnownName
 plain_value = value_with OfAny 1 false
 
 -- a name of a body, which is a parameter or another
-abbrev pub known_inside : List Value → Option ℕ → Option Known → Option Known
+abbrev pub known_inside : List KnownName → Option ℕ → Option Known → Option Known
 known_inside vs None o = o
 known_inside vs (Some i) o = Some (AsValue (get_or vs i plain_value))
 
-pub known_parameter : (ps : List Name) (vs : List Value) (S : Scope) (x : Name)
+pub known_parameter : (ps : List Name) (vs : List KnownName) (S : Scope) (x : Name)
     → known_as (with_parameters ps vs S) x
     ≡ known_inside vs (parameter_of (reverse ps) x) (known_as S x)
 known_parameter [] vs S x = refl
@@ -264,13 +264,13 @@ pub record IsWrongUse (r : Result Sense program.ModelFault) (o : Option Known) (
 pub record IsRightUse (r : Result Sense program.ModelFault) (o : Option Known) (count : ℕ)
     : Type 0 where
   pub sense : Sense
-  pub body : List Value → Finding
+  pub body : List KnownName → Finding
   pub answer : r ≡ Ok sense
   pub known : o ≡ Some (AsFunction count body)
   pub same : IsSense sense count body
 
 at_function : (ss : List Sense) (count : ℕ) (k : code_kind.Kind) (f n : ℕ)
-    (body : List Value → Finding) → IsFunctionAs ss k f n body
+    (body : List KnownName → Finding) → IsFunctionAs ss k f n body
     → IsWrongUse (with_arity count (slice_get ss f)) (Some (AsFunction n body)) count
     ⊎ IsRightUse (with_arity count (slice_get ss f)) (Some (AsFunction n body)) count
 at_function ss count k f n body h = rw h.there (at_test (nat_eq n count) refl)

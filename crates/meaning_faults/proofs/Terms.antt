@@ -15,7 +15,7 @@ use Rattle.binding_kinds.specs.Kinds as of_program
 use Rattle.binding_kinds.specs.Kinds.{found, kind_found}
 use Rattle.binding_kinds.specs.Verdict.{or_else, unless, of_name, of_use}
 use Rattle.binding_kinds.specs.Senses.{Sense, sense_of, count_of, size_with, size_applied, size_in, sizes_in, kind_applied, kind_in, kinds_in, under_of, fault_applied, term_fault, first_among}
-use Rattle.meaning.specs.Faults.{OfAny, ModelFault, Kind, NotMonotone, TooLarge, Finding, Value, Known, AsValue, AsFunction, Scope, known_as, takes, is_set, is_relation, is_falling_right, fault_if, is_kind_fault, in_name, is_falling_parameter, faults_in, in_application, in_term, in_terms}
+use Rattle.meaning.specs.Faults.{OfAny, ModelFault, Kind, NotMonotone, TooLarge, Finding, KnownName, Known, AsValue, AsFunction, Scope, known_as, takes, is_set, is_relation, is_falling_right, fault_if, is_kind_fault, in_name, is_falling_parameter, faults_in, in_application, in_term, in_terms}
 use Rattle.meaning_faults.specs.Laws.{head_of}
 use Rattle.meaning_faults.proofs.Likeness.{kind_to, kinds_of, sizes_of, values_of, set_same, relation_same, marked_same, narrowed_same, turned_same, head_append, head_unless, or_parts}
 use Rattle.meaning_faults.proofs.Scopes.{IsSense, IsKnownAs, IsFoundAs, AreTied, found_tied, IsWrongUse, IsRightUse, use_of}
@@ -98,7 +98,7 @@ mutual
 
 -- ---- kinds
 
-applied_kind : (s : Sense) (count : ℕ) (body : List Value → Finding)
+applied_kind : (s : Sense) (count : ℕ) (body : List KnownName → Finding)
     (ks : List code_kind.Kind) (plain arguments : List Finding) → IsSense s count body
     → length plain ≡ count → ks ≡ kinds_of plain → ks ≡ kinds_of arguments → (b : Bool)
     → nat_lt 4096 (body (values_of plain)).size ≡ b
@@ -263,8 +263,8 @@ mutual
   fault_same ss from names S tied u (On a) =
       head_parts (fault_if (not (is_set (in_term false S u a).kind)) Kind)
       (in_term false S u a).faults _ _
-      (unless_same (of_program.is_set (kind_in ss names a)) _
-      (ap of_program.is_set (kind_same ss from names S tied u a)
+      (unless_same (of_program.is_set_kind (kind_in ss names a)) _
+      (ap of_program.is_set_kind (kind_same ss from names S tied u a)
       ∙ set_same (in_term false S u a).kind)) (fault_same ss from names S tied u a)
   fault_same ss from names S tied u (Apply x ts) =
       elim (use_outside ss from names S (count_of ts) x tied) [

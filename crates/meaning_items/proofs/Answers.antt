@@ -31,7 +31,7 @@ use Rattle.binding_graph.specs.declared.resolved.Role.{Role}
 use Rattle.binding_graph.specs.declared.resolved.Role.TheVariants as roles
 use Rattle.binding_graph.specs.Inputs.{inputs_of}
 use Rattle.binding_graph.specs.Meaning.{set_tree, rel_tree}
-use Rattle.binding_graph.specs.Resolved.{AreResolved, IsCheckRole, IsGroupRole, IsResolvedIn, IsLabelled, IsLabelledAs, AreLabelled}
+use Rattle.binding_graph.specs.Resolved.{AreResolved, IsCheckRole, IsGroupRole, IsResolvedIn, IsLabelled, IsLabelledAs, AreLabelledAs}
 use Rattle.binding_graph.specs.Usages.{Usage, with_values, usages_after}
 use Rattle.candidates.specs.declared.candidate.Space.{Space}
 use Rattle.candidates.specs.Space.{Candidate, candidates_in}
@@ -237,7 +237,7 @@ module _ (space : Space) (k : ℕ) (one : Candidate)
       (rs : List ResolvedItem) → IsState space k one ss usages names N rs → (item : ℕ)
       → item ≡ length rs → (is : List Item) (resolved : List ResolvedItem)
       → first ss names item (map bare_item is) ≡ None
-      → AreResolved ss usages names item (map bare_item is) resolved → AreLabelled is resolved
+      → AreResolved ss usages names item (map bare_item is) resolved → AreLabelledAs is resolved
       → Continues k (events_of one) outer whole N (clauses_of is) (Said rs)
       → (checks : List (List Bool)) (flags : List Flag)
       → AreSaid space (reverse resolved ++ rs) checks flags

@@ -11,7 +11,7 @@ use Rattle.binding_graph.specs.declared.resolved.Source.{Source}
 use Rattle.binding_graph.specs.Meaning.{steps_of}
 use Rattle.binding_graph.specs.Trees.{SetTree, RelTree}
 use Rattle.cat_eval.specs.Checks.{Holds, IsEmptySet}
-use Rattle.cat_eval.specs.Meaning.{MeansSet, Means}
+use Rattle.cat_eval.specs.Meaning.{MeansSet, MeansRelation}
 use Rattle.cat_eval.specs.Named.{OwnPairs, WithOwn}
 use Rattle.cat_eval.specs.Values.{Unless, IsCheckAnswer}
 use Rattle.meaning.specs.Cat.{Meaning, ASet, ARelation, Nothing, HasProperty, NegatedIf}
@@ -51,16 +51,16 @@ pub check_met : (check : CheckCode) (n : ℕ) (sets : Source → ℕ → Type 0)
     (outer : Source → ℕ → ℕ → Type 0) (K : Kind) → IsKnown K → (answer : Bool)
     → IsCheckAnswer check n sets outer K answer → (S : SetTree) (R : RelTree)
     → check.code.steps.items ≡ steps_of K S R → (m : Meaning ℕ)
-    → IsAs K m (MeansSet n sets S) (Means n sets (WithOwn outer (OwnPairs n [])) R)
+    → IsAs K m (MeansSet n sets S) (MeansRelation n sets (WithOwn outer (OwnPairs n [])) R)
     → IsTrue (takes_body check.word K)
     → IsTrue answer ↔ NegatedIf check.negated (HasProperty check.word m)
 check_met check n sets outer kinds.OfSet known answer is S R steps m h takes =
     both_ways _ _ _ (is S steps)
     (negated_same check.negated _ _
-    (set_holds check.word m (MeansSet n sets S) (Means n sets (WithOwn outer (OwnPairs n [])) R) takes h))
+    (set_holds check.word m (MeansSet n sets S) (MeansRelation n sets (WithOwn outer (OwnPairs n [])) R) takes h))
 check_met check n sets outer kinds.OfRelation known answer is S R steps m h takes =
     both_ways _ _ _ (is R steps)
     (negated_same check.negated _ _
     (relation_holds check.word m (MeansSet n sets S)
-    (Means n sets (WithOwn outer (OwnPairs n [])) R) h))
+    (MeansRelation n sets (WithOwn outer (OwnPairs n [])) R) h))
 check_met check n sets outer kinds.OfAny known answer is S R steps m h takes = absurd known

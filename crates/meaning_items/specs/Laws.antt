@@ -7,7 +7,7 @@ use Rattle.text_values.specs.ModelValues.{clauses_of}
 use Rattle.binding_kinds.specs.Outermost.{outermost_names}
 use Rattle.binding_kinds.specs.Value.{bare_item}
 use Rattle.binding_graph.specs.declared.resolved.ResolvedItem.{ResolvedItem}
-use Rattle.binding_graph.specs.Resolved.{AreResolved, AreLabelled}
+use Rattle.binding_graph.specs.Resolved.{AreResolved, AreLabelledAs}
 use Rattle.candidates.specs.declared.candidate.Space.{Space}
 use Rattle.candidates.specs.Space.{Candidate, candidates_in}
 use Rattle.cat_eval.specs.Executions.{events_of}
@@ -38,7 +38,7 @@ AreMeant k all names (c ∷ cs) answers fs = AreMeant k all (names_after all nam
 abbrev pub AnswersAreMeant : Space → List Item → List ResolvedItem → Type 0
 AnswersAreMeant space items resolved =
     AreFaultless items → AreResolved [] [] outermost_names 0 (map bare_item items) resolved
-    → AreLabelled items resolved → (checks : List (List Bool)) (flags : List Flag)
+    → AreLabelledAs items resolved → (checks : List (List Bool)) (flags : List Flag)
     → AreSaid space (reverse resolved) checks flags → (k : ℕ) (one : Candidate)
     → slice_get (candidates_in space.combinations.items) k ≡ Some one
     → AreMeant k (λ a. a < events_of one) (outer_bound (candidate_value one)) (clauses_of items)
@@ -48,7 +48,7 @@ AnswersAreMeant space items resolved =
 abbrev pub KeptAreMet : Space → List Item → List ResolvedItem → Type 0
 KeptAreMet space items resolved =
     AreFaultless items → AreResolved [] [] outermost_names 0 (map bare_item items) resolved
-    → AreLabelled items resolved → (checks : List (List Bool)) (flags : List Flag)
+    → AreLabelledAs items resolved → (checks : List (List Bool)) (flags : List Flag)
     → AreSaid space (reverse resolved) checks flags → (k : ℕ) (one : Candidate)
     → slice_get (candidates_in space.combinations.items) k ≡ Some one
     → IsTrue (is_kept checks k)

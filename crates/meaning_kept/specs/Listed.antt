@@ -7,7 +7,7 @@ use Rattle.text_values.specs.TestValue.{Content, content_of}
 use Rattle.binding_kinds.specs.Outermost.{outermost_names}
 use Rattle.binding_kinds.specs.Value.{bare_item}
 use Rattle.binding_graph.specs.declared.resolved.ResolvedItem.{ResolvedItem}
-use Rattle.binding_graph.specs.Resolved.{AreResolved, AreLabelled}
+use Rattle.binding_graph.specs.Resolved.{AreResolved, AreLabelledAs}
 use Rattle.candidates.specs.declared.candidate.Space.{Space}
 use Rattle.candidates.specs.Listed.{ListsExecutions}
 use Rattle.candidates.specs.Space.{shown_in}
@@ -38,6 +38,6 @@ KeptByName =
     (t : Test) (s : Space) → ListsExecutions t s → (items : List Item)
     (resolved : List ResolvedItem) → AreFaultless items
     → AreResolved [] [] outermost_names 0 (map bare_item items) resolved
-    → AreLabelled items resolved → (checks : List (List Bool)) (flags : List Flag)
+    → AreLabelledAs items resolved → (checks : List (List Bool)) (flags : List Flag)
     → AreSaid s (reverse resolved) checks flags
     → AreKeptByName (content_of t) s items checks flags

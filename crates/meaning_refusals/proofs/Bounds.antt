@@ -20,7 +20,7 @@ use Rattle.candidates.proofs.Sole.{less_apart}
 use Rattle.meaning.specs.Sets.{HasOver}
 use Rattle.meaning.specs.Names.{Name, locations}
 use Rattle.meaning.specs.Machine.{Value}
-use Rattle.meaning.specs.Runs.{Run, lines_of, initial_state}
+use Rattle.meaning.specs.Runs.{Run, lines_of_thread, initial_state}
 use Rattle.meaning.specs.Domain.{FreeRun, InRound, IsFreeRun, free_run_of}
 use Rattle.meaning.specs.Refusals.{Refusal, TooManyEvents, TooManyValues, TooManyRuns, TooManyCandidates, AddressFault, TooManyCombinations, HasManyValues, HasManyFreeRuns, IsRefusedAt}
 use Rattle.meaning_runs.specs.Values.{IsSameValue, AreOneToOne}
@@ -161,12 +161,12 @@ module _ (t : Test) (p : Program) (of : IsProgram t p) (k : ℕ) where
         ∙ ap₂ (λ (bs : List Bool) (vs : List numbered_value.Value). by_number.free_run_of (thread_of p thread).lines (thread_of p thread).first bs vs) choices values
         ∙ i.by_number.1) in
         ap₂
-        (λ (bs : List Bool) (rest : List numbered_value.Value × by_number.Outcome). record {
+        (λ (bs : List Bool) (rest : List numbered_value.Value × by_number.RunOutcome). record {
           choices = bs;
           values = rest.0;
           outcome = rest.1;
         }) choices
-        (ap₂ (λ (vs : List numbered_value.Value) (o : by_number.Outcome). (vs, o)) values ends)
+        (ap₂ (λ (vs : List numbered_value.Value) (o : by_number.RunOutcome). (vs, o)) values ends)
 
     one_name : (f : numbered.FreeRun) (g e : FreeRun) → IsSameFree f g → IsSameFree f e → g ≡ e
     one_name f g e h i =
@@ -177,7 +177,7 @@ module _ (t : Test) (p : Program) (of : IsProgram t p) (k : ℕ) where
         (turned (IsSameValue names) f.values e.values i.values) in
         let ends : g.run ≡ e.run =
         same_Some _ _ (sym h.by_name.1
-        ∙ ap₂ (λ (bs : List Bool) (ws : List Value). free_run_of (lines_of (content_of t) thread) None (initial_state (content_of t) thread) bs ws) choices values
+        ∙ ap₂ (λ (bs : List Bool) (ws : List Value). free_run_of (lines_of_thread (content_of t) thread) None (initial_state (content_of t) thread) bs ws) choices values
         ∙ i.by_name.1) in
         ap₂
         (λ (bs : List Bool) (rest : List Value × Run). record {

@@ -12,7 +12,7 @@ use Rattle.thread_runs.specs.declared.instruction.RunStep.{RunStep}
 use Rattle.thread_runs.specs.declared.instruction.Event as numbered_event
 use Rattle.thread_runs.specs.Machine as numbered
 use Rattle.thread_runs.specs.Runs as numbered_runs
-use Rattle.thread_runs.specs.Runs.{Walk, Outcome, walk_after, walk_past, Continuation, FreeNext, after_line, after_instruction, after_load, after_free_line, after_free_instruction}
+use Rattle.thread_runs.specs.Runs.{Walk, RunOutcome, walk_after, walk_past, Continuation, FreeNext, after_line, after_instruction, after_load, after_free_line, after_free_instruction}
 use Rattle.ppc_semantics.specs.Lowering.{lowered_instruction, lowered_line, name_index}
 use Rattle.meaning.specs.Names.{Name}
 use Rattle.meaning.specs.Machine.{Value, NoValue, State, state_after, is_load, is_branch, is_fault, is_taken_in, target}
@@ -29,7 +29,7 @@ abbrev pub Events : Type 0
 Events = List numbered_event.Event
 
 -- the run by numbers, which has done these steps already, goes on as the run by names
-pub record GoesOn (names labels : List Name) (steps : List RunStep) (events : Events) (o : Outcome)
+pub record GoesOn (names labels : List Name) (steps : List RunStep) (events : Events) (o : RunOutcome)
     (r : Run) : Type 0 where
   pub later : List RunStep
   pub doing : Events
@@ -40,9 +40,9 @@ pub record GoesOn (names labels : List Name) (steps : List RunStep) (events : Ev
   pub faulted : o.faulted ≡ r.faulted
 
 pub data Follows (names labels : List Name) (steps : List RunStep) (events : Events)
-    : Option Outcome → Option Run → Type 0 where
+    : Option RunOutcome → Option Run → Type 0 where
   neither : Follows names labels steps events None None
-  both : {o : Outcome} {r : Run} → GoesOn names labels steps events o r
+  both : {o : RunOutcome} {r : Run} → GoesOn names labels steps events o r
       → Follows names labels steps events (Some o) (Some r)
 
 module _ (names labels : List Name) (are_apart : AreApart names) where
@@ -71,7 +71,7 @@ module _ (names labels : List Name) (are_apart : AreApart names) where
   before : (steps : List RunStep) (events : Events) (s : RunStep) (es : Events) (i : Instance)
       → s.instruction ≡ lowered_instruction labels i.instruction
       → IsSameValue names s.loaded i.loaded → AreEventsOf names i es
-      → {o : Option Outcome} {r : Option Run}
+      → {o : Option RunOutcome} {r : Option Run}
       → Follows names labels (steps ++ s ∷ []) (events ++ es) o r
       → Follows names labels steps events o (option_map (λ q. with_instance i q) r)
   before steps events s es i is loaded does neither = neither
@@ -286,7 +286,7 @@ module _ (names labels : List Name) (are_apart : AreApart names) where
 
   -- ---- The whole run
 
-  whole : {o : Option Outcome} {r : Option Run} → Follows names labels [] [] o r
+  whole : {o : Option RunOutcome} {r : Option Run} → Follows names labels [] [] o r
       → IsSameOutcome names labels o r
   whole neither = told.neither
   whole (both {o = o} {r = r} on) = told.both (record {

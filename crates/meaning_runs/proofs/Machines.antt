@@ -265,7 +265,7 @@ module _ (names : List Name) (are_apart : AreApart names) where
 
   same_result : (o : Operation) {v v' : numbered_value.Value} {w w' : Value}
       → IsSameValue names v w → IsSameValue names v' w'
-      → IsSameValue names (numbered.outcome_of o v v') (named.result_of o w w')
+      → IsSameValue names (numbered.operation_value o v v') (named.result_of o w w')
   same_result operations.Add h g = same_sum h g
   same_result operations.SubtractFrom h g = same_difference h g
   same_result operations.Xor h g = same_exclusive h g
@@ -359,7 +359,7 @@ module _ (names : List Name) (are_apart : AreApart names) where
         subst
         (λ (c : Bool). IsSameValue names
         (if c then numbers.Number 0
-        else numbered.outcome_of o (numbered.register s a) (numbered.register s b))
+        else numbered.operation_value o (numbered.register s a) (numbered.register s b))
         (named.result_in u o a b))
         (sym (cancelled o a b))
         (either (named.cancels o a b) (number 0) (same_result o (at a) (at b)))

@@ -16,7 +16,7 @@ use Rattle.thread_runs.specs.declared.instruction.RunStep.{RunStep}
 use Rattle.thread_runs.specs.declared.instruction.Event as numbered_event
 use Rattle.thread_runs.specs.declared.instruction.Event.TheVariants.{Load, Store, Fence}
 use Rattle.thread_runs.specs.Runs as by_number
-use Rattle.thread_runs.specs.Runs.{Thread, Outcome}
+use Rattle.thread_runs.specs.Runs.{Thread, RunOutcome}
 use Rattle.thread_runs.specs.AllRuns.{thread_of}
 use Rattle.ppc_semantics.specs.Domain.{threads_from, threads_of, InDomainAt}
 use Rattle.ppc_semantics.specs.Lowering.{AreInitial, IsProgram}
@@ -61,16 +61,16 @@ which_thread p (suc n) t h = elim (Contains-push_cases (threads_from p n) (threa
 none_is : {X : Type 0} {x : X} → None ≡ Some x → ⊥
 none_is e = cc
 
-pub run_by_name : (names labels : List Name) {o : Option Outcome} {r : Option Run}
-    → IsSameOutcome names labels o r → (f : Outcome) → o ≡ Some f
+pub run_by_name : (names labels : List Name) {o : Option RunOutcome} {r : Option Run}
+    → IsSameOutcome names labels o r → (f : RunOutcome) → o ≡ Some f
     → (q : Run) × (r ≡ Some q) × IsSameRun names labels f q
 run_by_name names labels runs.neither f e = absurd (none_is e)
 run_by_name names labels (runs.both {o = o} {r = r} same) f e =
-    (r, refl, subst (λ (g : Outcome). IsSameRun names labels g r) (same_Some _ _ e) same)
+    (r, refl, subst (λ (g : RunOutcome). IsSameRun names labels g r) (same_Some _ _ e) same)
 
-pub run_by_number : (names labels : List Name) {o : Option Outcome} {r : Option Run}
+pub run_by_number : (names labels : List Name) {o : Option RunOutcome} {r : Option Run}
     → IsSameOutcome names labels o r → (q : Run) → r ≡ Some q
-    → (f : Outcome) × (o ≡ Some f) × IsSameRun names labels f q
+    → (f : RunOutcome) × (o ≡ Some f) × IsSameRun names labels f q
 run_by_number names labels runs.neither q e = absurd (none_is e)
 run_by_number names labels (runs.both {o = o} {r = r} same) q e =
     (o, refl, subst (λ (g : Run). IsSameRun names labels o g) (same_Some _ _ e) same)

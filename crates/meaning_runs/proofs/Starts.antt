@@ -24,7 +24,7 @@ use Rattle.thread_runs.specs.AllRuns.{thread_of, lines_at}
 use Rattle.ppc_semantics.specs.Lowering.{AreRegisters, IsProgram, LowersTo, Starts, lowered_value, name_index, value_names, place_names}
 use Rattle.meaning.specs.Names.{Name, is_same_observable, locations, locations_of_entry, locations_of_formula, locations_of_observable}
 use Rattle.meaning.specs.Machine.{Value, Number, Address, NoValue, value_of}
-use Rattle.meaning.specs.Runs.{value_given, initial_value, initial_registers, initial_state, lines_of, run_of}
+use Rattle.meaning.specs.Runs.{value_given, initial_value, initial_registers, initial_state, lines_of_thread, run_of}
 use Rattle.meaning.proofs.Counting.{here}
 use Rattle.meaning.proofs.Entries.{same_is, itself, in_order_too}
 use Rattle.meaning.specs.Domain.{free_run_of}
@@ -177,21 +177,21 @@ module _ (t : Test) (p : Program) (of : IsProgram t p) (thread : ℕ)
   abbrev some_lines : Vec Line Global
   some_lines = any p.threads.items thread made_there
 
-  lines_are : (get_or t.threads.items thread some_thread).steps.items ≡ lines_of (content_of t) thread
+  lines_are : (get_or t.threads.items thread some_thread).steps.items ≡ lines_of_thread (content_of t) thread
   lines_are = sym (get_or-map thread_steps t.threads.items thread some_thread [] there)
 
-  lowered : LowersTo (lines_of (content_of t) thread) (thread_of p thread).lines
+  lowered : LowersTo (lines_of_thread (content_of t) thread) (thread_of p thread).lines
   lowered =
-      subst (λ (xs : List Line). LowersTo (lines_of (content_of t) thread) xs)
+      subst (λ (xs : List Line). LowersTo (lines_of_thread (content_of t) thread) xs)
       (sym (ap (λ (o : Option (Vec Line Global)). lines_at o)
       (slice_get-get_or p.threads.items thread some_lines made_there)))
       (subst
       (λ (xs : List Step). LowersTo xs (get_or p.threads.items thread some_lines).items) lines_are
       (of.threads.each thread some_thread some_lines there))
 
-  are_labelled : AreLabelled lowered.0 (lines_of (content_of t) thread)
+  are_labelled : AreLabelled lowered.0 (lines_of_thread (content_of t) thread)
   are_labelled =
-      labelled lowered.0 (lines_of (content_of t) thread) (λ n h. (lowered.1.exact n).1 h)
+      labelled lowered.0 (lines_of_thread (content_of t) thread) (λ n h. (lowered.1.exact n).1 h)
 
   pub runs_alike : RunsAlike (content_of t) p thread
   runs_alike = record {
@@ -201,19 +201,19 @@ module _ (t : Test) (p : Program) (of : IsProgram t p) (thread : ℕ)
         subst
         (λ (xs : List Line). IsSameOutcome names lowered.0
         (numbered.run_of xs (thread_of p thread).first vs)
-        (run_of (lines_of (content_of t) thread) None (initial_state (content_of t) thread) ws))
+        (run_of (lines_of_thread (content_of t) thread) None (initial_state (content_of t) thread) ws))
         (sym lowered.2)
         (same_outcome names lowered.0 (apart names (rises (content_of t)))
-        (lines_of (content_of t) thread) are_labelled (thread_of p thread).first
+        (lines_of_thread (content_of t) thread) are_labelled (thread_of p thread).first
         (initial_state (content_of t) thread) first_alike vs ws hs);
     free_runs = λ bs vs ws hs.
         subst
         (λ (xs : List Line). IsSameOutcome names lowered.0
         (numbered.free_run_of xs (thread_of p thread).first bs vs)
-        (free_run_of (lines_of (content_of t) thread) None (initial_state (content_of t) thread) bs
+        (free_run_of (lines_of_thread (content_of t) thread) None (initial_state (content_of t) thread) bs
         ws))
         (sym lowered.2)
         (same_free_outcome names lowered.0 (apart names (rises (content_of t)))
-        (lines_of (content_of t) thread) are_labelled (thread_of p thread).first
+        (lines_of_thread (content_of t) thread) are_labelled (thread_of p thread).first
         (initial_state (content_of t) thread) first_alike bs vs ws hs);
   }

@@ -4,7 +4,7 @@ use Rattle.text_values.specs.declared.instruction.Instruction as text
 use Rattle.thread_runs.specs.declared.instruction.Instruction as numbered_instruction
 use Rattle.ppc_semantics.specs.Lowering.{lowered_instruction}
 use Rattle.dataflow.specs.Chains as numbered
-use Rattle.thread_runs.specs.Runs.{Outcome, executed}
+use Rattle.thread_runs.specs.Runs.{RunOutcome, executed}
 use Rattle.meaning.specs.Names.{Name}
 use Rattle.meaning.specs.Runs.{Run}
 use Rattle.meaning.specs.Dependencies.{Instructions, IsAddr, IsData, IsCtrl, IsCtrlIsync, IsNeed}
@@ -27,6 +27,6 @@ pub record DependAlike (by_number : numbered.Executed) (at : Instructions) : Typ
 -- other alike.
 abbrev pub RunsDependAlike : Execution → ℕ → Type 0
 RunsDependAlike x thread =
-    (names labels : List Name) (o : Outcome) (r : Run) → slice_get x.runs thread ≡ Some r
+    (names labels : List Name) (o : RunOutcome) (r : Run) → slice_get x.runs thread ≡ Some r
     → IsSameRun names labels o r
     → DependAlike (executed o.walk.steps) (instructions_of x thread)

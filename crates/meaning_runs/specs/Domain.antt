@@ -8,7 +8,7 @@ use Rattle.thread_runs.specs.AllRuns.{thread_of}
 use Rattle.ppc_semantics.specs.Domain.{InDomainAt, load_total}
 use Rattle.ppc_semantics.specs.Lowering.{AreNamesOf, labels_in}
 use Rattle.meaning.specs.Names.{Name, locations}
-use Rattle.meaning.specs.Runs.{Run, IsRun, lines_of}
+use Rattle.meaning.specs.Runs.{Run, IsRun, lines_of_thread}
 use Rattle.meaning.specs.Domain.{InDomain}
 use Rattle.meaning_runs.specs.Runs.{IsSameRun}
 
@@ -20,7 +20,7 @@ IsNumberedRun p thread r = IsThreadRun (thread_of p thread) (InDomainAt p (load_
 -- labels are numbered in their order.
 pub record AreSameRuns (t : Content) (p : Program) (thread : ℕ) : Type 0 where
   pub labels : List Name
-  pub numbered : AreNamesOf (flat_map labels_in (lines_of t thread)) labels
+  pub numbered : AreNamesOf (flat_map labels_in (lines_of_thread t thread)) labels
   pub by_name : (r : by_number.Run) → IsNumberedRun p thread r
       → (q : Run) × IsRun t (InDomain t) thread q
       × IsSameRun (locations t) labels r.outcome q

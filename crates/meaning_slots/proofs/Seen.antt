@@ -30,7 +30,7 @@ use Rattle.cat_eval.specs.declared.column.Column.{Column}
 use Rattle.cat_eval.specs.declared.column.Column.TheVariants as columns
 use Rattle.cat_eval.specs.Columns.{HasColumnValue}
 use Rattle.cat_eval.specs.Executions.{events_of, EventsAt, PairsAt}
-use Rattle.cat_eval.specs.Meaning.{MeansSet, Means}
+use Rattle.cat_eval.specs.Meaning.{MeansSet, MeansRelation}
 use Rattle.base_names.specs.Known.{EventsFound}
 use Rattle.cat_eval.specs.Named.{PairsFound, ColumnEvents, ColumnPairs, InputEvents, InputPairs, OwnPairs, WithOwn}
 use Rattle.cat_eval.specs.Values.{IsFor, IsMeaning}
@@ -159,7 +159,7 @@ pub column_as : (K : Kind) → IsKnown K → (col : Column) → IsFor K col → 
     (r : Relation) → HasColumnValue col k s r → (sets : Source → ℕ → Type 0)
     (outer : Source → ℕ → ℕ → Type 0) (S : SetTree) (R : RelTree)
     → IsMeaning K (steps_of K S R) n sets outer s r → (m : Meaning ℕ)
-    → IsAs K m (MeansSet n sets S) (Means n sets (WithOwn outer (OwnPairs n [])) R)
+    → IsAs K m (MeansSet n sets S) (MeansRelation n sets (WithOwn outer (OwnPairs n [])) R)
     → IsAs K m (ColumnEvents col k n) (ColumnPairs col k n)
 column_as kinds.OfSet known (columns.Sets values) suits k n s r there sets outer S R means m h =
     let e : IsEvents s n (MeansSet n sets S) = means S refl in
@@ -171,11 +171,11 @@ column_as kinds.OfSet known (columns.Relations values) suits k n s r there sets 
 column_as kinds.OfRelation known (columns.Sets values) suits k n s r there sets outer S R means m h =
     absurd suits
 column_as kinds.OfRelation known (columns.Relations values) suits k n s r there sets outer S R means m h =
-    let e : IsRelation r n (Means n sets (WithOwn outer (OwnPairs n [])) R) = means R refl in
-    relation_as m _ _ (Means n sets (WithOwn outer (OwnPairs n [])) R)
+    let e : IsRelation r n (MeansRelation n sets (WithOwn outer (OwnPairs n [])) R) = means R refl in
+    relation_as m _ _ (MeansRelation n sets (WithOwn outer (OwnPairs n [])) R)
     (ColumnPairs (columns.Relations values) k n)
     (λ a b. subst
-    (λ o. Means n sets (WithOwn outer (OwnPairs n [])) R a b ↔ PairsFound o n a b)
+    (λ o. MeansRelation n sets (WithOwn outer (OwnPairs n [])) R a b ↔ PairsFound o n a b)
     (sym there) (λ x. (e.count, (e.pairs a b).1 x), λ x. (e.pairs a b).0 x.1)) h
 column_as kinds.OfAny known col suits k n s r there sets outer S R means m h = absurd known
 
@@ -207,7 +207,7 @@ module _ (space : Space) (rs : List ResolvedItem) (k : ℕ) (one : Candidate) (s
       → IsAs (kind_in ss names t) (meaning_of (λ a. a < events_of one) N t)
       (MeansSet (events_of one) (EventsAt (events_of one) one inputs k)
       (set_tree vs (length names) (formula_in ss names [] t)))
-      (Means (events_of one) (EventsAt (events_of one) one inputs k)
+      (MeansRelation (events_of one) (EventsAt (events_of one) one inputs k)
       (WithOwn (PairsAt (events_of one) one inputs k) (OwnPairs (events_of one) []))
       (rel_tree vs (length names) (formula_in ss names [] t)))
   seen_as t none vs more is covers =

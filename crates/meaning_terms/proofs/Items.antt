@@ -14,7 +14,7 @@ use Rattle.binding_kinds.specs.declared.kinds.Kind.TheVariants.{OfSet, OfRelatio
 use Rattle.binding_kinds.specs.declared.scope.Binder.TheVariants as binders
 use Rattle.binding_kinds.specs.declared.scope.Found.{Found}
 use Rattle.binding_kinds.specs.declared.scope.Binder.{Binder}
-use Rattle.binding_kinds.specs.Value.{Naming, bound_of, bare_item}
+use Rattle.binding_kinds.specs.Value.{Naming, bound_value_of, bare_item}
 use Rattle.binding_kinds.specs.Kinds.{found}
 use Rattle.binding_kinds.specs.Outermost.{naming_of, outermost_names}
 use Rattle.binding_kinds.specs.Senses.{Sense, kind_in}
@@ -40,9 +40,9 @@ use Rattle.meaning_terms.proofs.Slots.{same_below, formula_below, older_values, 
 -- one value more, in the latest slot
 value_more : {E : Type 0} (all : Set E) (ss : List Sense) (names : List Naming) (N : Names E)
     → AreSame all ss names N → (item at : ℕ) (b : code_binding.Binding) (k : _) (m : Meaning E)
-    → AreSame all ss (naming_at item at (bound_of b) k ∷ names) ((b.name, ToMeaning m) ∷ N)
+    → AreSame all ss (naming_at item at (bound_value_of b) k ∷ names) ((b.name, ToMeaning m) ∷ N)
 value_more {E} all ss names N same item at b k m =
-    more_bound all ss names N same (naming_at item at (bound_of b) k) (b.name, ToMeaning m) refl
+    more_bound all ss names N same (naming_at item at (bound_value_of b) k) (b.name, ToMeaning m) refl
     (ap (λ (o : Meaning E). ToMeaning o)
     (sym (latest_value (b.name, ToMeaning m) N (length names) same.0)))
 
@@ -50,10 +50,10 @@ value_more {E} all ss names N same item at b k m =
 pub group_same : {E : Type 0} (all : Set E) (ss : List Sense) (R : Name → Relation E)
     (item at : ℕ) (bs : List code_binding.Binding) (names : List Naming) (N : Names E)
     → AreSame all ss names N
-    → AreSame all ss (with_own names item at (map bound_of bs)) (with_group R (map binding_of bs) N)
+    → AreSame all ss (with_own names item at (map bound_value_of bs)) (with_group R (map binding_of bs) N)
 group_same all ss R item at [] names N same = same
 group_same all ss R item at (b ∷ bs) names N same =
-    group_same all ss R item (suc at) bs (naming_at item at (bound_of b) OfRelation ∷ names)
+    group_same all ss R item (suc at) bs (naming_at item at (bound_value_of b) OfRelation ∷ names)
     ((b.name, ToMeaning (ARelation (R b.name))) ∷ N)
     (value_more all ss names N same item at b OfRelation (ARelation (R b.name)))
 
@@ -61,12 +61,12 @@ group_same all ss R item at (b ∷ bs) names N same =
 bodies_same : {E : Type 0} (all : Set E) (ss : List Sense) (outer : List Naming) (O : Names E)
     (item at : ℕ) (bs : List code_binding.Binding) (names : List Naming) (N : Names E)
     → AreSame all ss names N
-    → AreSame all ss (with_all ss outer names item at (map bound_of bs))
+    → AreSame all ss (with_all ss outer names item at (map bound_value_of bs))
     (with_bodies all O (map binding_of bs) N)
 bodies_same all ss outer O item at [] names N same = same
 bodies_same all ss outer O item at (b ∷ bs) names N same =
     bodies_same all ss outer O item (suc at) bs
-    (naming_at item at (bound_of b) (kind_in ss outer (term_of b.body)) ∷ names)
+    (naming_at item at (bound_value_of b) (kind_in ss outer (term_of b.body)) ∷ names)
     ((b.name, ToMeaning (meaning_of all O (term_of b.body))) ∷ N)
     (value_more all ss names N same item at b (kind_in ss outer (term_of b.body))
     (meaning_of all O (term_of b.body)))

@@ -8,7 +8,7 @@ use Rattle.memo_core.specs.declared.claims.Finish.TheVariants.{Unknown, Stale, S
 use Rattle.memo_core.specs.Graph.{Memo, Net, present_inputs, input_nodes, IsSettled, IsSettledBy, put_memo}
 use Rattle.memo_core.specs.Tests.{is_match, all_nodes}
 use Rattle.memo_core.specs.Step.{OpenClaim, MemoState, Return, Has, claim_of, without_claim, AreClaimsNumbered, Accepts, FinishesReturn, Gives, Loses, Edits}
-use Rattle.memo_core.specs.Run.{Bench, Event, Edit, Claim, NoClaim, Returned, Lose, Renew, Refused, Meaning, state_in, Step, Run, IsNewBench, IsLawfulMeaning, IsFreshFrom, count_unsettled}
+use Rattle.memo_core.specs.Run.{Bench, MemoEvent, Edit, Claim, NoClaim, Returned, Lose, Renew, Refused, TextsMeaning, state_in, Step, MemoRun, IsNewBench, IsLawfulMeaning, IsFreshFrom, count_unsettled}
 use Rattle.memo_core.specs.Laws.{DecidesSettled, Falls, IsUsedClosed}
 use Rattle.memo_core.specs.Work.{IsJobEvent, numbers_given, has_number, is_accepted, accepted_by, accepted_count, ReturnsLowerInRuns, WorkIsBounded, WorkUnsettlesNone, SettledIsDecided, QuietRunIsSettled}
 use Rattle.memo_core.proofs.Tests.{and_true}
@@ -123,8 +123,8 @@ renew_apart : {V G : Type 0} (old new : MemoState V G)
     → new ≡ record { net = old.net; memos = []; claims = []; taken = old.taken } → AreApart new
 renew_apart old new h = rw h (record { fresh = tt; numbered = tt })
 
-module _ {T E V G : Type 0} (means : Meaning T E V G) where
-  step_apart : (old new : Bench T V) (e : Event E V G) → AreApart (state_in means old)
+module _ {T E V G : Type 0} (means : TextsMeaning T E V G) where
+  step_apart : (old new : Bench T V) (e : MemoEvent E V G) → AreApart (state_in means old)
       → Step means old e new → AreApart (state_in means new)
   step_apart old new (Edit e) w h =
       edits_apart (means.keeps new.texts) (state_in means old) (state_in means new) w h.1
@@ -142,8 +142,8 @@ module _ {T E V G : Type 0} (means : Meaning T E V G) where
         numbered = rw (h.claims, h.taken) w.numbered;
       }
 
-  pub run_apart : (es : List (Event E V G)) (old new : Bench T V) → AreApart (state_in means old)
-      → Run means old es new → AreApart (state_in means new)
+  pub run_apart : (es : List (MemoEvent E V G)) (old new : Bench T V) → AreApart (state_in means old)
+      → MemoRun means old es new → AreApart (state_in means new)
   run_apart [] old new w h = rw h w
   run_apart (e ∷ es) old new w h = run_apart es h.0 new (step_apart old h.0 e w h.1) h.2
 
@@ -340,10 +340,10 @@ either_number : (n : ℕ) (m : ℕ) (ms : List ℕ) → has_number n (m ∷ ms) 
 either_number n m ms h =
     elim (cases_Bool (n == m)) [ inl t ↦ inl (eqb-true n m t) | inr f ↦ inr (rw f at h) ]
 
-module _ {T E V G : Type 0} (means : Meaning T E V G) where
+module _ {T E V G : Type 0} (means : TextsMeaning T E V G) where
   -- the claims that a list gives have numbers above those taken before it
-  given_above : (first : ℕ) (es : List (Event E V G)) (old new : Bench T V) → first ≤ old.taken
-      → Run means old es new → (n : ℕ) → has_number n (numbers_given es) ≡ true → first < n
+  given_above : (first : ℕ) (es : List (MemoEvent E V G)) (old new : Bench T V) → first ≤ old.taken
+      → MemoRun means old es new → (n : ℕ) → has_number n (numbers_given es) ≡ true → first < n
   given_above first [] old new low h n has = absurd (false_true has)
   given_above first (Edit e ∷ es) old new low h n has =
       let more = (step_goes means old h.0 (Edit e) h.1).more in
@@ -372,7 +372,7 @@ module _ {T E V G : Type 0} (means : Meaning T E V G) where
       let more = (step_goes means old h.0 Refused h.1).more in
       given_above first es h.0 new (omega (arith, more)) h.2 n has
 
-  step_works : (first : ℕ) (old new : Bench T V) (e : Event E V G) → IsJobEvent e
+  step_works : (first : ℕ) (old new : Bench T V) (e : MemoEvent E V G) → IsJobEvent e
       → IsWorking first (state_in means old) → Step means old e new
       → IsWorking first (state_in means new)
   step_works first old new (Edit e) job w h = absurd job
@@ -390,7 +390,7 @@ module _ {T E V G : Type 0} (means : Meaning T E V G) where
     ready = rw (h.texts.net, h.memos, h.claims) w.ready;
   }
 
-  step_valid : (old new : Bench T V) (e : Event E V G) → IsJobEvent e → means.is_valid old.texts
+  step_valid : (old new : Bench T V) (e : MemoEvent E V G) → IsJobEvent e → means.is_valid old.texts
       → Step means old e new → means.is_valid new.texts
   step_valid old new (Edit e) job valid h = absurd job
   step_valid old new (Claim number n given keys values) job valid h = rw h.0 valid
@@ -400,7 +400,7 @@ module _ {T E V G : Type 0} (means : Meaning T E V G) where
   step_valid old new Renew job valid h = absurd job
   step_valid old new Refused job valid h = h.texts.valid valid
 
-  step_lowers : (first : ℕ) (numbers : List ℕ) (old new : Bench T V) (e : Event E V G)
+  step_lowers : (first : ℕ) (numbers : List ℕ) (old new : Bench T V) (e : MemoEvent E V G)
       (p q : Node → Bool) → ((n : ℕ) → has_number n numbers ≡ true → first < n) → IsJobEvent e
       → IsWorking first (state_in means old) → Step means old e new
       → DecidesSettled (state_in means old) p → DecidesSettled (state_in means new) q
@@ -424,12 +424,12 @@ module _ {T E V G : Type 0} (means : Meaning T E V G) where
       same_lowers (state_in means old) (state_in means new) p q h.texts.net h.memos before after
 
 -- what texts owe: ranks fall, and the input nodes of used nodes are used
-pub record HasRanks {T E V G : Type 0} (means : Meaning T E V G) (rank : T → Node → ℕ)
+pub record HasRanks {T E V G : Type 0} (means : TextsMeaning T E V G) (rank : T → Node → ℕ)
     : Type 0 where
   pub falls : (t : T) → means.is_valid t → Falls (means.net t) (rank t)
   pub used_closed : (t : T) → means.is_valid t → IsUsedClosed (means.net t)
 
-module _ {T E V G : Type 0} (means : Meaning T E V G) (rank : T → Node → ℕ)
+module _ {T E V G : Type 0} (means : TextsMeaning T E V G) (rank : T → Node → ℕ)
     (ranks : HasRanks means rank) where
   abbrev decision : Bench T V → Node → Bool
   decision b n = decided_by (rank b.texts n + 1) (means.net b.texts) b.memos n
@@ -439,10 +439,10 @@ module _ {T E V G : Type 0} (means : Meaning T E V G) (rank : T → Node → ℕ
   decision_is b valid n =
       decides (means.net b.texts) b.memos (rank b.texts) (ranks.falls b.texts valid) n
 
-  run_lowers : (first : ℕ) (numbers : List ℕ) (es : List (Event E V G)) (old new : Bench T V)
+  run_lowers : (first : ℕ) (numbers : List ℕ) (es : List (MemoEvent E V G)) (old new : Bench T V)
       (p q : Node → Bool) → ((n : ℕ) → has_number n numbers ≡ true → first < n)
       → means.is_valid old.texts → Each IsJobEvent es → IsWorking first (state_in means old)
-      → Run means old es new → DecidesSettled (state_in means old) p
+      → MemoRun means old es new → DecidesSettled (state_in means old) p
       → DecidesSettled (state_in means new) q
       → Lowers (accepted_count numbers es) (state_in means old) (state_in means new) p q
   run_lowers first numbers [] old new p q above valid jobs w h before after =
@@ -457,16 +457,16 @@ module _ {T E V G : Type 0} (means : Meaning T E V G) (rank : T → Node → ℕ
       let rest = run_lowers first numbers es mid new (decision mid) q above later jobs.1 (step_works means first old mid e jobs.0 w h.1) h.2 now after in
       record { still = λ n t. rest.still n (one.still n t); fewer = omega (arith, one.fewer, rest.fewer) }
 
-module _ {T E V G : Type 0} (means : Meaning T E V G) (keeps : IsLawfulMeaning means) (rank : T → Node → ℕ)
+module _ {T E V G : Type 0} (means : TextsMeaning T E V G) (keeps : IsLawfulMeaning means) (rank : T → Node → ℕ)
     (ranks : HasRanks means rank) where
-  valid_after : (es : List (Event E V G)) (first end : Bench T V)
-      → IsNewBench means.is_valid means.net first → Run means first es end → means.is_valid end.texts
+  valid_after : (es : List (MemoEvent E V G)) (first end : Bench T V)
+      → IsNewBench means.is_valid means.net first → MemoRun means first es end → means.is_valid end.texts
   valid_after es first end s h =
       (run_since means keeps es first end first.texts
       (s.valid, keeps.since_same first.texts s.valid) h).0
 
-  works_after : (es : List (Event E V G)) (first end : Bench T V)
-      → IsNewBench means.is_valid means.net first → Run means first es end
+  works_after : (es : List (MemoEvent E V G)) (first end : Bench T V)
+      → IsNewBench means.is_valid means.net first → MemoRun means first es end
       → IsWorking end.taken (state_in means end)
   works_after es first end s h =
       let apart = run_apart means es first end (record { fresh = rw s.no_claims tt; numbered = rw s.no_claims tt }) h in
@@ -491,8 +491,8 @@ module _ {T E V G : Type 0} (means : Meaning T E V G) (keeps : IsLawfulMeaning m
       let low = run_lowers means rank ranks start.taken [] es start end (decision means rank ranks start) (decision means rank ranks end) (λ n has. absurd (false_true has)) (valid_after earlier first start s run) jobs (works_after earlier first start s run) more now later in
       (later n).0 (low.still n ((now n).1 settled))
     where
-      run_valid : (es : List (Event E V G)) (old new : Bench T V) → means.is_valid old.texts
-          → Run means old es new → means.is_valid new.texts
+      run_valid : (es : List (MemoEvent E V G)) (old new : Bench T V) → means.is_valid old.texts
+          → MemoRun means old es new → means.is_valid new.texts
       run_valid es old new valid h =
           (run_since means keeps es old new old.texts (valid, keeps.since_same old.texts valid) h).0
 

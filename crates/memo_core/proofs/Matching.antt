@@ -14,7 +14,7 @@ use Rattle.memo_core.specs.Names.{same_node}
 use Rattle.memo_core.specs.Graph.{Memo, Net, memo_of, output_at, stored_output, at, stamp_or_zero, present_inputs, outputs_among, put_memo, IsRestamped}
 use Rattle.memo_core.specs.Right.{ArePresent, AreAsPresent}
 use Rattle.memo_core.specs.Step.{MemoState, Return, Accepts, FinishesReturn, Loses}
-use Rattle.memo_core.specs.Run.{Bench, Event, Edit, Claim, NoClaim, Returned, Lose, Renew, Refused, IsLawfulMeaning, Meaning, Run, Step, state_in}
+use Rattle.memo_core.specs.Run.{Bench, MemoEvent, Edit, Claim, NoClaim, Returned, Lose, Renew, Refused, IsLawfulMeaning, TextsMeaning, MemoRun, Step, state_in}
 use Rattle.memo_core.proofs.Runs.{matching_holds}
 use Rattle.memo_core.proofs.Theory.{memo_found}
 use Rattle.memo_core.specs.Laws.{MatchingIsSolved}
@@ -138,8 +138,8 @@ lose_stamped : {V G : Type 0} (old new : MemoState V G) (n : ℕ) (b : Bool) →
 lose_stamped old new n true all h = rw h.2 all
 lose_stamped old new n false all h = rw h.1 all
 
-module _ {T E V G : Type 0} (means : Meaning T E V G) where
-  step_stamped : (old new : Bench T V) (e : Event E V G) → AreStamped old.memos
+module _ {T E V G : Type 0} (means : TextsMeaning T E V G) where
+  step_stamped : (old new : Bench T V) (e : MemoEvent E V G) → AreStamped old.memos
       → Step means old e new → AreStamped new.memos
   step_stamped old new (Edit e) all h =
       subst (λ (ms : List (Memo V)). AreStamped ms) (sym h.1.memos) (each_filter
@@ -155,8 +155,8 @@ module _ {T E V G : Type 0} (means : Meaning T E V G) where
   step_stamped old new Refused all h =
       subst (λ (ms : List (Memo V)). AreStamped ms) (sym h.memos) all
 
-  run_stamped : (es : List (Event E V G)) (old new : Bench T V) → AreStamped old.memos
-      → Run means old es new → AreStamped new.memos
+  run_stamped : (es : List (MemoEvent E V G)) (old new : Bench T V) → AreStamped old.memos
+      → MemoRun means old es new → AreStamped new.memos
   run_stamped [] old new all h = rw h all
   run_stamped (e ∷ es) old new all h = run_stamped es h.0 new (step_stamped old h.0 e all h.1) h.2
 

@@ -4,13 +4,13 @@ use Rattle.std.specs.Map.Calls.{RetainsPairs}
 use Rattle.std.proofs.lemmas.Option.{same_Some}
 use Rattle.std.proofs.lemmas.Bool.{cases_Bool}
 use Rattle.indexmap.specs.IndexMap.{insert_entry}
-use Rattle.value_store.specs.Tokens.{Shown}
+use Rattle.value_store.specs.Tokens.{TokenShown}
 use Rattle.memo_core.specs.declared.keys.Node.{Node}
 use Rattle.memo_core.specs.declared.table.Kept.{Kept}
 use Rattle.memo_core.specs.Names.{same_node}
 use Rattle.memo_core.specs.Lemmas.Equality.{same_node_exact, same_node_refl}
 use Rattle.memo_core.specs.Graph.{Memo, memo_of, put_memo}
-use Rattle.memo_core.specs.Views.{MemoEntry, as_memo, as_memos, tokens_of}
+use Rattle.memo_core.specs.Views.{MemoEntry, as_memo, as_memos, output_tokens}
 use Rattle.memo_core.specs.Marks.{mark_in, mark_of, with_mark_at, without_mark}
 
 -- what is found at a node is its memo
@@ -30,40 +30,40 @@ mark_found_at n (k ∷ ks) =
     elim (cases_Bool (same_node n k.0)) [ inl t ↦ rw t refl | inr f ↦ rw f (mark_found_at n ks) ]
 
 -- a found share of what is kept shows its memo
-pub found_memo : {V : Type 0} (n : Node) (ks : List (MemoEntry V)) (o : Option (Bor (Kept (Shown V))))
+pub found_memo : {V : Type 0} (n : Node) (ks : List (MemoEntry V)) (o : Option (Bor (Kept (TokenShown V))))
     → option_copied o ≡ lookup (same_node n) ks
     → option_map (λ k. as_memo (n, k.now)) o ≡ memo_of n (as_memos ks)
 found_memo {V} n ks o h =
-    go o ∙ ap (option_map (λ (k : Kept (Shown V)). as_memo (n, k))) h ∙ memo_found_at n ks
+    go o ∙ ap (option_map (λ (k : Kept (TokenShown V)). as_memo (n, k))) h ∙ memo_found_at n ks
   where
-    go : (o : Option (Bor (Kept (Shown V))))
+    go : (o : Option (Bor (Kept (TokenShown V))))
         → option_map (λ k. as_memo (n, k.now)) o
-        ≡ option_map (λ (k : Kept (Shown V)). as_memo (n, k)) (option_copied o)
+        ≡ option_map (λ (k : Kept (TokenShown V)). as_memo (n, k)) (option_copied o)
     go None = refl
     go (Some k) = refl
 
 -- what is found at a node holds its tokens
-pub tokens_found : {V : Type 0} (n : Node) (ks : List (MemoEntry V)) (k : Kept (Shown V))
-    → Some k ≡ lookup (same_node n) ks → k.outputs.items ≡ tokens_of n ks
+pub tokens_found : {V : Type 0} (n : Node) (ks : List (MemoEntry V)) (k : Kept (TokenShown V))
+    → Some k ≡ lookup (same_node n) ks → k.outputs.items ≡ output_tokens n ks
 tokens_found n [] k h = cc
 tokens_found {V} n (x ∷ ks) k h = elim (cases_Bool (same_node n x.0)) [
-  | inl t ↦ rw t (ap (λ (k : Kept (Shown V)). k.outputs.items) (same_Some k x.1 (rw t at h)))
+  | inl t ↦ rw t (ap (λ (k : Kept (TokenShown V)). k.outputs.items) (same_Some k x.1 (rw t at h)))
   | inr f ↦ rw f (tokens_found n ks k (rw f at h))
 ]
 
 pub no_tokens : {V : Type 0} (n : Node) (ks : List (MemoEntry V)) → None ≡ lookup (same_node n) ks
-    → tokens_of n ks ≡ []
+    → output_tokens n ks ≡ []
 no_tokens n [] h = refl
 no_tokens {V} n (x ∷ ks) h = elim (cases_Bool (same_node n x.0)) [
   | inl t ↦ absurd (none_some x.1 (rw t at h))
   | inr f ↦ rw f (no_tokens n ks (rw f at h))
 ]
   where
-    none_some : (k : Kept (Shown V)) → None ≡ Some k → ⊥
+    none_some : (k : Kept (TokenShown V)) → None ≡ Some k → ⊥
     none_some k h = cc
 
 -- what is written at a node is its mark
-pub mark_written : {V : Type 0} (n : Node) (ks : List (MemoEntry V)) (k : Kept (Shown V))
+pub mark_written : {V : Type 0} (n : Node) (ks : List (MemoEntry V)) (k : Kept (TokenShown V))
     → Some k ≡ lookup (same_node n) ks
     → set_value (same_node n) ks (record { inputs = k.inputs; outputs = k.outputs; settled = true })
     ≡ with_mark_at n ks
@@ -71,7 +71,7 @@ mark_written n [] k h = cc
 mark_written {V} n (x ∷ ks) k h = elim (cases_Bool (same_node n x.0)) [
   | inl t ↦ (let q : Some k ≡ Some x.1 = rw t at h in
       rw t (ap
-      (λ (k : Kept (Shown V)).
+      (λ (k : Kept (TokenShown V)).
       let s : MemoEntry V =
       (x.0, record { inputs = k.inputs; outputs = k.outputs; settled = true }) in
       s ∷ ks)
@@ -87,11 +87,11 @@ nothing_marked {V} n (x ∷ ks) h = elim (cases_Bool (same_node n x.0)) [
   | inr f ↦ rw f (ap (λ (r : List (MemoEntry V)). x ∷ r) (nothing_marked n ks (rw f at h)))
 ]
   where
-    none_some : (k : Kept (Shown V)) → None ≡ Some k → ⊥
+    none_some : (k : Kept (TokenShown V)) → None ≡ Some k → ⊥
     none_some k h = cc
 
 -- what is inserted is put
-pub memo_inserted : {V : Type 0} (n : Node) (k : Kept (Shown V)) (ks : List (MemoEntry V))
+pub memo_inserted : {V : Type 0} (n : Node) (k : Kept (TokenShown V)) (ks : List (MemoEntry V))
     → as_memos (insert_entry same_node ks n k) ≡ put_memo (as_memo (n, k)) (as_memos ks)
 memo_inserted n k [] = refl
 memo_inserted {V} n k (x ∷ ks) = elim (cases_Bool (same_node n x.0)) [
@@ -99,7 +99,7 @@ memo_inserted {V} n k (x ∷ ks) = elim (cases_Bool (same_node n x.0)) [
   | inr f ↦ rw f (ap (λ (r : List (Memo V)). as_memo x ∷ r) (memo_inserted n k ks))
 ]
 
-pub mark_inserted : {V : Type 0} (n : Node) (k : Kept (Shown V)) (ks : List (MemoEntry V)) (m : Node)
+pub mark_inserted : {V : Type 0} (n : Node) (k : Kept (TokenShown V)) (ks : List (MemoEntry V)) (m : Node)
     → mark_of (insert_entry same_node ks n k) m
     ≡ (if same_node m n then k.settled else mark_of ks m)
 mark_inserted n k [] m = refl
@@ -133,9 +133,9 @@ mark_inserted {V} n k (x ∷ ks) m = elim (cases_Bool (same_node n x.0)) [
         clash h = let c : true ≡ false = sym (same_node_refl x.0) ∙ h in cc
 
 -- what is retained, with every mark taken away
-module _ {V F : Type 0} (S : F → Node → Kept (Shown V) → Bool → Kept (Shown V) → F → Type 0)
+module _ {V F : Type 0} (S : F → Node → Kept (TokenShown V) → Bool → Kept (TokenShown V) → F → Type 0)
     (keep : Node → Bool) (f : F)
-    (says : (n : Node) (k : Kept (Shown V)) (b : Bool) (w : Kept (Shown V)) (g : F) → S f n k b w g
+    (says : (n : Node) (k : Kept (TokenShown V)) (b : Bool) (w : Kept (TokenShown V)) (g : F) → S f n k b w g
     → (b ≡ keep n) × (w ≡ without_mark k) × (g ≡ f)) where
   abbrev cleared : List (MemoEntry V) → List (MemoEntry V)
   cleared [] = []

@@ -7,7 +7,7 @@ use Rattle.memo_core.specs.declared.keys.Key.{Key}
 use Rattle.memo_core.specs.Graph.{Net, Matches, IsSettled, at, input_nodes, memo_of, present_inputs, outputs_among}
 use Rattle.memo_core.specs.Right.{Making, ArePresent, IsPinned, IsSolvedNode, IsMadeOfPresent, IsSamePart, IsUntouchedBy}
 use Rattle.memo_core.specs.Step.{MemoState, Return, Has, IsWork, Accepts, Gives, Edits}
-use Rattle.memo_core.specs.Run.{Bench, Event, Meaning, Run, IsNewBench, IsFreshFrom, IsProgress, count_unsettled}
+use Rattle.memo_core.specs.Run.{Bench, MemoEvent, TextsMeaning, MemoRun, IsNewBench, IsFreshFrom, IsProgress, count_unsettled}
 
 -- the inputs of a used node are used
 abbrev pub IsUsedClosed : {G : Type 0} → Net G → Type 0
@@ -31,7 +31,7 @@ GivenStays {T} {G} is_valid since net =
     → (net u).gives n g ≡ true
 
 abbrev pub meaning : {T E V G : Type 0} → (T → Net G) → (T → Type 0) → (T → T → Type 0)
-    → Making V G → (T → Node → Bool) → (T → E → ℕ → T → Type 0) → (T → ℕ) → Meaning T E V G
+    → Making V G → (T → Node → Bool) → (T → E → ℕ → T → Type 0) → (T → ℕ) → TextsMeaning T E V G
 meaning net is_valid since makes keeps edited last = record {
   net = net;
   is_valid = is_valid;
@@ -44,31 +44,31 @@ meaning net is_valid since makes keeps edited last = record {
 
 -- after any list of events, a settled node holds what is made of what its job is given now and of
 -- the present values of its present inputs
-abbrev pub SettledIsSolved : {T E V G : Type 0} → Meaning T E V G → (T → Node → Type 0) → Type 0
+abbrev pub SettledIsSolved : {T E V G : Type 0} → TextsMeaning T E V G → (T → Node → Type 0) → Type 0
 SettledIsSolved {T} {E} {V} {G} means is_there =
-    (events : List (Event E V G)) (start end : Bench T V)
+    (events : List (MemoEvent E V G)) (start end : Bench T V)
     → IsNewBench means.is_valid means.net start
-    → Run means start events end
+    → MemoRun means start events end
     → (n : Node) → is_there end.texts n → IsSettled (means.net end.texts) end.memos n
     → IsSolvedNode means.makes (means.net end.texts) end.memos n
 
 -- so does a node that is not settled, where its memo's inputs and stamps are the present ones, as
 -- far as its inputs have values
-abbrev pub MatchingIsMade : {T E V G : Type 0} → Meaning T E V G → Type 0
+abbrev pub MatchingIsMade : {T E V G : Type 0} → TextsMeaning T E V G → Type 0
 MatchingIsMade {T} {E} {V} {G} means =
-    (events : List (Event E V G)) (start end : Bench T V)
+    (events : List (MemoEvent E V G)) (start end : Bench T V)
     → IsNewBench means.is_valid means.net start
-    → Run means start events end
+    → MemoRun means start events end
     → (n : Node) → Matches (means.net end.texts) end.memos n
     → IsMadeOfPresent means.makes (means.net end.texts) end.memos n
 
 -- and its inputs all have values, so it holds what is made of their present values, as a settled
 -- node does
-abbrev pub MatchingIsSolved : {T E V G : Type 0} → Meaning T E V G → Type 0
+abbrev pub MatchingIsSolved : {T E V G : Type 0} → TextsMeaning T E V G → Type 0
 MatchingIsSolved {T} {E} {V} {G} means =
-    (events : List (Event E V G)) (start end : Bench T V)
+    (events : List (MemoEvent E V G)) (start end : Bench T V)
     → IsNewBench means.is_valid means.net start
-    → Run means start events end
+    → MemoRun means start events end
     → (n : Node) → Matches (means.net end.texts) end.memos n
     → IsSolvedNode means.makes (means.net end.texts) end.memos n
 
@@ -122,10 +122,10 @@ KeptIsSame V G =
     → memo_of n new.memos ≡ memo_of n old.memos
 
 -- what a job held stays the present values as long as the stamps are the present ones
-abbrev pub ValuesStayPresent : {T E V G : Type 0} → Meaning T E V G → Type 0
+abbrev pub ValuesStayPresent : {T E V G : Type 0} → TextsMeaning T E V G → Type 0
 ValuesStayPresent {T} {E} {V} {G} means =
-    (events : List (Event E V G)) (then end : Bench T V) (keys : List Key) (values : List V)
-    → Run means then events end
+    (events : List (MemoEvent E V G)) (then end : Bench T V) (keys : List Key) (values : List V)
+    → MemoRun means then events end
     → IsPinned (at then.memos) then.taken (present_inputs (means.net end.texts) end.memos keys)
     values
     → Each (λ i. 0 < i.stamp) (outputs_among (present_inputs (means.net end.texts) end.memos keys))
@@ -133,10 +133,10 @@ ValuesStayPresent {T} {E} {V} {G} means =
 
 -- what a job was given is what its node is given, as long as its inputs and their parts are the
 -- present ones
-abbrev pub GivenStaysPresent : {T E V G : Type 0} → Meaning T E V G → Type 0
+abbrev pub GivenStaysPresent : {T E V G : Type 0} → TextsMeaning T E V G → Type 0
 GivenStaysPresent {T} {E} {V} {G} means =
-    (events : List (Event E V G)) (then end : Bench T V) (n : Node) (g : G)
-    → means.is_valid then.texts → Run means then events end
+    (events : List (MemoEvent E V G)) (then end : Bench T V) (n : Node) (g : G)
+    → means.is_valid then.texts → MemoRun means then events end
     → (means.net end.texts).inputs n ≡ (means.net then.texts).inputs n
     → Each (IsSamePart (means.net then.texts) (means.net end.texts))
     ((means.net end.texts).inputs n)

@@ -7,11 +7,11 @@ use Rattle.memo_core.specs.declared.claims.Finish.{Finish}
 use Rattle.memo_core.specs.declared.claims.Finish.TheVariants.{Unknown, Stale, Same, Stored}
 use Rattle.memo_core.specs.Graph.{IsSettled, input_nodes}
 use Rattle.memo_core.specs.Step.{Return, Has}
-use Rattle.memo_core.specs.Run.{Bench, Event, Edit, Claim, NoClaim, Returned, Lose, Renew, Refused, Meaning, state_in, Step, Run, IsNewBench, count_unsettled}
+use Rattle.memo_core.specs.Run.{Bench, MemoEvent, Edit, Claim, NoClaim, Returned, Lose, Renew, Refused, TextsMeaning, state_in, Step, MemoRun, IsNewBench, count_unsettled}
 use Rattle.memo_core.specs.Laws.{DecidesSettled}
 
 -- a claim, a return, a loss or a refused call
-abbrev pub IsJobEvent : {E V G : Type 0} → Event E V G → Type 0
+abbrev pub IsJobEvent : {E V G : Type 0} → MemoEvent E V G → Type 0
 IsJobEvent (Edit e) = ⊥
 IsJobEvent (Claim number n given keys values) = ⊤
 IsJobEvent NoClaim = ⊤
@@ -21,7 +21,7 @@ IsJobEvent Renew = ⊥
 IsJobEvent Refused = ⊤
 
 -- the number of the claim that the event gives, if it gives one
-abbrev pub number_given : {E V G : Type 0} → Event E V G → List ℕ
+abbrev pub number_given : {E V G : Type 0} → MemoEvent E V G → List ℕ
 number_given (Edit e) = []
 number_given (Claim number n given keys values) = number ∷ []
 number_given NoClaim = []
@@ -30,7 +30,7 @@ number_given (Lose n answer) = []
 number_given Renew = []
 number_given Refused = []
 
-abbrev pub numbers_given : {E V G : Type 0} → List (Event E V G) → List ℕ
+abbrev pub numbers_given : {E V G : Type 0} → List (MemoEvent E V G) → List ℕ
 numbers_given [] = []
 numbers_given (e ∷ es) = number_given e ++ numbers_given es
 
@@ -45,7 +45,7 @@ is_accepted Same = true
 is_accepted (Stored names) = true
 
 -- 1 for an accepted return of one of these claims
-abbrev pub accepted_by : {E V G : Type 0} → List ℕ → Event E V G → ℕ
+abbrev pub accepted_by : {E V G : Type 0} → List ℕ → MemoEvent E V G → ℕ
 accepted_by claims (Edit e) = 0
 accepted_by claims (Claim number n given keys values) = 0
 accepted_by claims NoClaim = 0
@@ -56,17 +56,17 @@ accepted_by claims Renew = 0
 accepted_by claims Refused = 0
 
 -- how many returns of these claims are accepted
-abbrev pub accepted_count : {E V G : Type 0} → List ℕ → List (Event E V G) → ℕ
+abbrev pub accepted_count : {E V G : Type 0} → List ℕ → List (MemoEvent E V G) → ℕ
 accepted_count claims [] = 0
 accepted_count claims (e ∷ es) = accepted_by claims e + accepted_count claims es
 
 -- after any list of events, an accepted return of a node whose inputs are settled lowers the number
 -- of unsettled used nodes
-abbrev pub ReturnsLowerInRuns : {T E V G : Type 0} → Meaning T E V G → Type 0
+abbrev pub ReturnsLowerInRuns : {T E V G : Type 0} → TextsMeaning T E V G → Type 0
 ReturnsLowerInRuns {T} {E} {V} {G} means =
-    (events : List (Event E V G)) (first old new : Bench T V) (r : Return V G) (answer : Finish)
+    (events : List (MemoEvent E V G)) (first old new : Bench T V) (r : Return V G) (answer : Finish)
     (before after : Node → Bool) → IsNewBench means.is_valid means.net first
-    → Run means first events old → Step means old (Returned r answer) new
+    → MemoRun means first events old → Step means old (Returned r answer) new
     → is_accepted answer ≡ true
     → Each (IsSettled (means.net old.texts) old.memos)
     (input_nodes ((means.net old.texts).inputs r.node))
@@ -76,11 +76,11 @@ ReturnsLowerInRuns {T} {E} {V} {G} means =
 
 -- of the claims that a list of claims, returns, losses and refused calls gives, no more returns are
 -- accepted than it settles used nodes
-abbrev pub WorkIsBounded : {T E V G : Type 0} → Meaning T E V G → Type 0
+abbrev pub WorkIsBounded : {T E V G : Type 0} → TextsMeaning T E V G → Type 0
 WorkIsBounded {T} {E} {V} {G} means =
-    (earlier events : List (Event E V G)) (first start end : Bench T V) (before after : Node → Bool)
-    → IsNewBench means.is_valid means.net first → Run means first earlier start
-    → Run means start events end
+    (earlier events : List (MemoEvent E V G)) (first start end : Bench T V) (before after : Node → Bool)
+    → IsNewBench means.is_valid means.net first → MemoRun means first earlier start
+    → MemoRun means start events end
     → Each IsJobEvent events → DecidesSettled (state_in means start) before
     → DecidesSettled (state_in means end) after
     → accepted_count (numbers_given events) events
@@ -88,26 +88,26 @@ WorkIsBounded {T} {E} {V} {G} means =
     ≤ count_unsettled before (means.net start.texts).used
 
 -- and no settled node is unsettled by it
-abbrev pub WorkUnsettlesNone : {T E V G : Type 0} → Meaning T E V G → Type 0
+abbrev pub WorkUnsettlesNone : {T E V G : Type 0} → TextsMeaning T E V G → Type 0
 WorkUnsettlesNone {T} {E} {V} {G} means =
-    (earlier events : List (Event E V G)) (first start end : Bench T V)
-    → IsNewBench means.is_valid means.net first → Run means first earlier start
-    → Run means start events end → Each IsJobEvent events
+    (earlier events : List (MemoEvent E V G)) (first start end : Bench T V)
+    → IsNewBench means.is_valid means.net first → MemoRun means first earlier start
+    → MemoRun means start events end → Each IsJobEvent events
     → (n : Node) → IsSettled (means.net start.texts) start.memos n
     → IsSettled (means.net end.texts) end.memos n
 
 -- after any list of events it is decided which nodes are settled
-abbrev pub SettledIsDecided : {T E V G : Type 0} → Meaning T E V G → Type 0
+abbrev pub SettledIsDecided : {T E V G : Type 0} → TextsMeaning T E V G → Type 0
 SettledIsDecided {T} {E} {V} {G} means =
-    (events : List (Event E V G)) (first end : Bench T V)
+    (events : List (MemoEvent E V G)) (first end : Bench T V)
     → IsNewBench means.is_valid means.net first
-    → Run means first events end
+    → MemoRun means first events end
     → (settled : Node → Bool) × DecidesSettled (state_in means end) settled
 
 -- after any list of events, where no claim is given and none is out, every used node is settled
-abbrev pub QuietRunIsSettled : {T E V G : Type 0} → Meaning T E V G → Type 0
+abbrev pub QuietRunIsSettled : {T E V G : Type 0} → TextsMeaning T E V G → Type 0
 QuietRunIsSettled {T} {E} {V} {G} means =
-    (events : List (Event E V G)) (first before end : Bench T V)
-    → IsNewBench means.is_valid means.net first → Run means first events before
+    (events : List (MemoEvent E V G)) (first before end : Bench T V)
+    → IsNewBench means.is_valid means.net first → MemoRun means first events before
     → Step means before NoClaim end → before.claims ≡ []
     → (n : Node) → Has (means.net end.texts).used n → IsSettled (means.net end.texts) end.memos n

@@ -1,6 +1,6 @@
 use Rattle.std.proofs.Common.{◌≡◌, ◌≢◌, ◌<◌, ◌≤◌, ◌==◌, ℕ, ◌+◌, Bool, true, false, ◌&&◌, if◌then◌else◌, List, ◌∷◌, length, drop, get_or, refl, eq-eqb, ne_eqb}
 use Rattle.std.proofs.lemmas.List.{at_drop_more, drop_all}
-use Rattle.value_store.specs.Tokens.{Shown}
+use Rattle.value_store.specs.Tokens.{TokenShown}
 use Rattle.memo_core.specs.declared.keys.Node.{Node}
 use Rattle.memo_core.specs.declared.keys.Key.{Key}
 use Rattle.memo_core.specs.declared.keys.Key.TheVariants.{Output}
@@ -51,12 +51,12 @@ module _ {V G : Type 0} (net : Net G) (ms : List (Memo V)) (ks : List Key) (is :
 
 -- the values of the outputs among keys, from an index on
 module _ {V : Type 0} (same : V → V → Bool) (now : Key → Option (ℕ × V)) (ks : List Key)
-    (ts : List (Shown V)) (i j : ℕ) (d : Key) (n : Node) (x : ℕ) (in_range : i < length ks)
+    (ts : List (TokenShown V)) (i j : ℕ) (d : Key) (n : Node) (x : ℕ) (in_range : i < length ks)
     (is : get_or ks i d ≡ Output n x) where
   pub hold_short : length ts ≤ j → all_hold same now (drop i ks) (shown_values (drop j ts)) ≡ false
   hold_short l = rw (at_drop_more (λ xs. xs) ks i d in_range, is, drop_all j ts l) refl
 
-  pub hold_from : (t : Shown V) → j < length ts → t ≡ get_or ts j t → (held : Bool)
+  pub hold_from : (t : TokenShown V) → j < length ts → t ≡ get_or ts j t → (held : Bool)
       → held ≡ holds_value same (now (Output n x)) t.value
       → all_hold same now (drop i ks) (shown_values (drop j ts))
       ≡ (held && all_hold same now (drop (i + 1) ks) (shown_values (drop (j + 1) ts)))

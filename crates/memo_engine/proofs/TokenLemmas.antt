@@ -2,7 +2,7 @@ use Rattle.std.proofs.Common.{◌≡◌, ◌≤◌, ◌==◌, ℕ, ◌+◌, ◌-
 use Rattle.std.proofs.lemmas.List.{append-nil, drop_all, length-drop}
 use Rattle.std.specs.List.{AllByRecursion as Each}
 use Rattle.std.proofs.lemmas.Bool.{cases_Bool}
-use Rattle.value_store.specs.Tokens.{Shown}
+use Rattle.value_store.specs.Tokens.{TokenShown}
 use Rattle.memo_core.proofs.JudgeLemmas.{true_false}
 use Rattle.memo_core.specs.declared.keys.Output.{Output as Made}
 use Rattle.memo_core.specs.declared.keys.Node.{Node}
@@ -12,12 +12,12 @@ use Rattle.memo_core.specs.declared.keys.Key.TheVariants.{Part, Output}
 use Rattle.memo_core.specs.Tests.{all_hold, values_at}
 use Rattle.memo_core.specs.Views.{shown_outputs, shown_values}
 
-pub shown_values-append : {V : Type 0} (ts us : List (Shown V))
+pub shown_values-append : {V : Type 0} (ts us : List (TokenShown V))
     → shown_values (ts ++ us) ≡ shown_values ts ++ shown_values us
 shown_values-append [] us = refl
 shown_values-append {V} (t ∷ ts) us = ap (λ (vs : List V). t.value ∷ vs) (shown_values-append ts us)
 
-pub named_values-shown_outputs-append : {V : Type 0} (os ps : List (Made (Shown V)))
+pub named_values-shown_outputs-append : {V : Type 0} (os ps : List (Made (TokenShown V)))
     → named_values (shown_outputs (os ++ ps))
     ≡ named_values (shown_outputs os) ++ named_values (shown_outputs ps)
 named_values-shown_outputs-append [] ps = refl
@@ -33,17 +33,17 @@ pub part_step : {V : Type 0} (now : Key → Option (ℕ × V)) (ks : List Key) (
 part_step now ks i a b vs d = rw d refl
 
 -- all tokens are compared where no key is left
-pub hold_end : {V : Type 0} (same : V → V → Bool) (now : Key → Option (ℕ × V)) (ts : List (Shown V))
+pub hold_end : {V : Type 0} (same : V → V → Bool) (now : Key → Option (ℕ × V)) (ts : List (TokenShown V))
     (j : ℕ) → j ≤ length ts → (j == length ts) ≡ all_hold same now [] (shown_values (drop j ts))
 hold_end {V} same now ts j h = elim (cases_Bool (j == length ts)) [
   | inl t ↦ (let e : j ≡ length ts = eqb-true j (length ts) t in
       t
-      ∙ sym (ap (λ (us : List (Shown V)). all_hold same now [] (shown_values us))
+      ∙ sym (ap (λ (us : List (TokenShown V)). all_hold same now [] (shown_values us))
       (drop_all j ts (omega arith))))
   | inr f ↦ f ∙ sym (left (drop j ts) (λ e. short (e ∙ refl) f))
 ]
   where
-    left : (us : List (Shown V)) → (length us ≡ 0 → ⊥)
+    left : (us : List (TokenShown V)) → (length us ≡ 0 → ⊥)
         → all_hold same now [] (shown_values us) ≡ false
     left [] e = absurd (e refl)
     left (u ∷ us) e = refl
@@ -55,7 +55,7 @@ hold_end {V} same now ts j h = elim (cases_Bool (j == length ts)) [
 
 -- the loop's step over an output that has a value
 pub hold_step : {V : Type 0} (now : Key → Option (ℕ × V)) (ks : List Key) (i : ℕ) (n : Node) (x : ℕ)
-    (ts next : List (Shown V)) (t : Shown V)
+    (ts next : List (TokenShown V)) (t : TokenShown V)
     → drop i ks ≡ Output n x ∷ drop (i + 1) ks
     → Some t.value ≡ option_map (λ p. p.1) (now (Output n x)) → next ≡ ts ++ t ∷ []
     → option_map (λ rest. shown_values next ++ rest) (values_at now (drop (i + 1) ks))
@@ -103,8 +103,8 @@ named_values-append {V} (p ∷ os) o =
     ap (λ (vs : List (ℕ × V)). (p.name, p.value) ∷ vs) (named_values-append os o)
 
 -- the loop's step over an output whose token shows its value
-pub put_step : {V : Type 0} (os next : List (Made (Shown V))) (ps : List (Made V)) (o : Made V)
-    (n : Made (Shown V)) → named_values (shown_outputs os) ≡ named_values ps → n.name ≡ o.name
+pub put_step : {V : Type 0} (os next : List (Made (TokenShown V))) (ps : List (Made V)) (o : Made V)
+    (n : Made (TokenShown V)) → named_values (shown_outputs os) ≡ named_values ps → n.name ≡ o.name
     → n.value.value ≡ o.value → next ≡ os ++ n ∷ []
     → named_values (shown_outputs next) ≡ named_values (ps ++ o ∷ [])
 put_step {V} os next ps o n e name value is =

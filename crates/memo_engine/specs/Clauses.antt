@@ -1,7 +1,7 @@
 -- What the clauses of `Graph`, `Job` and `Done` say, in the words of Graph, Right, Step, Run and
 -- Marks.
 use Rattle.std.specs.Prelude.{◌≡◌, ◌≢◌, ℕ, List, [], Some, option_map}
-use Rattle.value_store.specs.Tokens.{Shown}
+use Rattle.value_store.specs.Tokens.{TokenShown}
 use Rattle.value_store.specs.declared.token.StoreName.{Ghosts as NameGhosts}
 use Rattle.memo_core.specs.declared.texts.Texts.{Ghosts}
 use Rattle.memo_core.specs.declared.keys.Node.{Node}
@@ -70,14 +70,14 @@ module _ {K T V G E P F : Type 0} {k : NameGhosts K} {t : Ghosts T V G E P F} wh
   IsSettledIn g n = IsSettled (t.net g.texts) (as_memos g.memos.entries) n
 
   -- these outputs are those of the node's memo
-  abbrev pub ShowsStored : Graph K T V G E P F k t → Node → List (Made (Shown V)) → Type 0
+  abbrev pub ShowsStored : Graph K T V G E P F k t → Node → List (Made (TokenShown V)) → Type 0
   ShowsStored g n outputs =
       option_map (λ m. m.outputs) (memo_of n (as_memos g.memos.entries))
       ≡ Some (shown_outputs outputs)
 
   -- these outputs are what the node makes of what its job is given now and of the present values of
   -- its present inputs
-  abbrev pub ShowsSolved : Graph K T V G E P F k t → Node → List (Made (Shown V)) → Type 0
+  abbrev pub ShowsSolved : Graph K T V G E P F k t → Node → List (Made (TokenShown V)) → Type 0
   ShowsSolved g n outputs =
       (values : List V)
       × ArePresent (at (as_memos g.memos.entries)) ((t.net g.texts).inputs n) values

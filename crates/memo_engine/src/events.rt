@@ -4,7 +4,7 @@ ghost use Rattle.std.specs.Prelude.{[], filter, ◌≡◌, ◌+◌, ◌<◌, ◌
 ghost use Rattle.indexmap.specs.IndexMap.{spare};
 ghost use Rattle.memo_core.specs.declared.keys.Node.{Node};
 ghost use Rattle.memo_core.specs.Marks.{IsMarkedTo};
-ghost use Rattle.memo_core.specs.Views.{as_memos, tokens_of};
+ghost use Rattle.memo_core.specs.Views.{as_memos, output_tokens};
 ghost use Rattle.memo_core.specs.Step.{Has, Loses, Renews, Edits, IsWork};
 ghost use Rattle.memo_engine.specs.Clauses.{state_of, HasRightMemos, HasFreshClaims, IsMarked, GivesJob, IsSettledIn, IsRefused, ShowsStored, ShowsSolved};
 ghost use Rattle.memo_engine.specs.Told.{IsEditTold, OnNone};
@@ -173,7 +173,7 @@ impl<K: StoreName, T: Texts> Graph<K, T> {
         ensures marks { IsMarked self.new }
         ensures given { IfOk result (λ r. IfSome r (λ job. GivesJob self.old job self.new)) }
         ensures earlier { IfOk result (λ r.
-            IfSome r (λ job. job.before.items ≡ tokens_of job.node self.old.memos.entries)) }
+            IfSome r (λ job. job.before.items ≡ output_tokens job.node self.old.memos.entries)) }
         ensures none { IfOk result (λ r. IfNone r ((n : Node) → IsWork (state_of self.old) n → ⊥)) }
         ensures none_same { IfOk result (λ r. IfNone r (state_of self.new ≡ state_of self.old)) }
         ensures spent { LAST ≤ self.old.taken → result ≡ Err ClaimFault.Spent }

@@ -4,7 +4,7 @@ ghost use Rattle.std.specs.Prelude.{◌≡◌, ◌≢◌, ◌≤◌, true, Some,
 ghost use Rattle.std.specs.List.{AllByRecursion as Each};
 ghost use Rattle.memo_core.specs.Graph.{at, named_values};
 ghost use Rattle.memo_core.specs.Tests.{values_at};
-ghost use Rattle.memo_core.specs.Views.{as_memos, shown_values, shown_outputs, tokens_of, KeepsToken};
+ghost use Rattle.memo_core.specs.Views.{as_memos, shown_values, shown_outputs, output_tokens, KeepsToken};
 ghost use Rattle.memo_engine.specs.Clauses.{IsComputed, IsOfJob, return_from};
 
 use crate::work::{
@@ -119,7 +119,7 @@ pub(crate) fn job_of<K: StoreName, T: Texts>(
     ensures keys { IfOk result (λ job. job.keys.items ≡ (T.net texts.now).inputs node) }
     ensures values { IfOk result (λ job. Some (shown_values job.values.items)
         ≡ values_at (at (as_memos memos.now.entries)) ((T.net texts.now).inputs node)) }
-    ensures earlier { IfOk result (λ job. job.before.items ≡ tokens_of node memos.now.entries) }
+    ensures earlier { IfOk result (λ job. job.before.items ≡ output_tokens node memos.now.entries) }
 {
     let given = texts.give(alloc, node)?;
     let store = Arc::try_clone(store)?;

@@ -2,7 +2,7 @@
 
 ghost use Rattle.std.specs.Prelude.{◌≡◌, ◌≢◌, ◌≤◌, [], true, Some, None, length, IfOk, IfSome, IfNone, option_map};
 ghost use Rattle.memo_core.specs.Graph.{at, named_values, memo_of, present_inputs};
-ghost use Rattle.memo_core.specs.Views.{as_memos, shown_outputs, shown_values, tokens_of, KeepsToken};
+ghost use Rattle.memo_core.specs.Views.{as_memos, shown_outputs, shown_values, output_tokens, KeepsToken};
 ghost use Rattle.std.specs.List.{AllByRecursion as Each};
 ghost use Rattle.memo_core.specs.Tests.{has_node, is_out, values_at, outputs_of};
 ghost use Rattle.memo_core.specs.Step.{Has};
@@ -237,7 +237,7 @@ pub fn present_values<K: StoreName, T: Texts>(
 pub fn outputs_in<K: StoreName, V>(memos: &Memos<Token<K, V>>, node: Node) -> &[Output<Token<K, V>>]
     ensures shown { shown_outputs result.now
         ≡ outputs_of (memo_of node (as_memos memos.now.entries)) }
-    ensures tokens { result.now ≡ tokens_of node memos.now.entries }
+    ensures tokens { result.now ≡ output_tokens node memos.now.entries }
 {
     match stored_outputs(memos, node) {
         Some(outputs) => outputs,
@@ -251,7 +251,7 @@ pub fn earlier_tokens<K: StoreName, V>(
     memos: &Memos<Token<K, V>>,
     node: Node,
 ) -> Result<Vec<Output<Token<K, V>>>, AllocError>
-    ensures { IfOk result (λ kept. kept.items ≡ tokens_of node memos.now.entries) }
+    ensures { IfOk result (λ kept. kept.items ≡ output_tokens node memos.now.entries) }
 {
     copy_outputs(alloc, outputs_in(memos, node))
 }

@@ -66,12 +66,12 @@ abbrev pub outcome_line : List ℕ → List ℕ → ModelOutcome → List ℕ
 outcome_line path test o =
     result_line (record { path = path; test = test; model = o.model }) o.outcome.result
 
-abbrev pub test_lines : TestResult → List ℕ
-test_lines (Refused refusal) = refused_line refusal
-test_lines (Tested path test outcomes) = flat_map (outcome_line path test) outcomes
+abbrev pub json_test_lines : TestResult → List ℕ
+json_test_lines (Refused refusal) = refused_line refusal
+json_test_lines (Tested path test outcomes) = flat_map (outcome_line path test) outcomes
 
-abbrev pub table_lines : List TestResult → List ℕ
-table_lines tests = flat_map test_lines tests
+abbrev pub json_table_lines : List TestResult → List ℕ
+json_table_lines tests = flat_map json_test_lines tests
 
 -- ---- diff
 
@@ -100,14 +100,14 @@ pair_line first second path differ p =
     ++ codes ",\"states\":" ++ array_text (map counts_object (told_states differ p)) ++ codes "}\n"
 
 -- of the first two models
-abbrev pub pair_lines : TestResult → List ℕ
-pair_lines (Refused refusal) = refused_line refusal
-pair_lines (Tested path test outcomes) =
+abbrev pub json_pair_lines : TestResult → List ℕ
+json_pair_lines (Refused refusal) = refused_line refusal
+json_pair_lines (Tested path test outcomes) =
     pair_line (model_at outcomes 0) (model_at outcomes 1) path
     (is_told_apart (pair_in test outcomes)) (pair_in test outcomes)
 
-abbrev pub difference_lines : List TestResult → List ℕ
-difference_lines tests = flat_map pair_lines tests
+abbrev pub json_difference_lines : List TestResult → List ℕ
+json_difference_lines tests = flat_map json_pair_lines tests
 
 -- ---- eval
 

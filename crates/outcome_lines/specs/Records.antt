@@ -19,13 +19,13 @@ pub data TestResult : Type 0 where
   Refused : (refusal : TextRefusal) → TestResult
   Tested : (path test : List ℕ) (outcomes : List ModelOutcome) → TestResult
 
-abbrev pub outcome_of : given_outcome.ModelOutcome → ModelOutcome
-outcome_of o = record { model = o.model.now; outcome = o.outcome.now }
+abbrev pub model_outcome_of : given_outcome.ModelOutcome → ModelOutcome
+model_outcome_of o = record { model = o.model.now; outcome = o.outcome.now }
 
 abbrev pub test_of : given_test.TestResult → TestResult
 test_of (given_tests.Refused refusal) = Refused refusal.now
 test_of (given_tests.Tested path test outcomes) =
-    Tested path.now test.now (map outcome_of outcomes.now)
+    Tested path.now test.now (map model_outcome_of outcomes.now)
 
 -- the cell under the model of this index
 abbrev pub cell_at : List ModelOutcome → ℕ → Cell

@@ -42,12 +42,12 @@ abbrev pub outcome_line : List ℕ → List ℕ → ModelOutcome → List ℕ
 outcome_line path test o =
     result_line (record { path = path; test = test; model = o.model }) o.outcome.result
 
-abbrev pub test_lines : TestResult → List ℕ
-test_lines (Refused refusal) = refused_line refusal
-test_lines (Tested path test outcomes) = flat_map (outcome_line path test) outcomes
+abbrev pub tab_test_lines : TestResult → List ℕ
+tab_test_lines (Refused refusal) = refused_line refusal
+tab_test_lines (Tested path test outcomes) = flat_map (outcome_line path test) outcomes
 
-abbrev pub table_lines : List TestResult → List ℕ
-table_lines tests = flat_map test_lines tests
+abbrev pub tab_table_lines : List TestResult → List ℕ
+tab_table_lines tests = flat_map tab_test_lines tests
 
 -- ---- diff
 
@@ -79,10 +79,10 @@ told_lines path true p =
 told_lines path false p = same_line path p.name
 
 -- of the first two models
-abbrev pub pair_lines : TestResult → List ℕ
-pair_lines (Refused refusal) = refused_line refusal
-pair_lines (Tested path test outcomes) =
+abbrev pub tab_pair_lines : TestResult → List ℕ
+tab_pair_lines (Refused refusal) = refused_line refusal
+tab_pair_lines (Tested path test outcomes) =
     told_lines path (is_told_apart (pair_in test outcomes)) (pair_in test outcomes)
 
-abbrev pub difference_lines : List TestResult → List ℕ
-difference_lines tests = flat_map pair_lines tests
+abbrev pub tab_difference_lines : List TestResult → List ℕ
+tab_difference_lines tests = flat_map tab_pair_lines tests

@@ -3,8 +3,8 @@
 ghost use Rattle.std.specs.Prelude.{◌≡◌, ◌++◌, ◌==◌, OnOk, map};
 ghost use Rattle.std.specs.List.{flat_map, after_first, position};
 ghost use Rattle.json_text.specs.Strings.{string_text};
-ghost use Rattle.outcome_lines.specs.Records.{outcome_of, test_of};
-ghost use Rattle.outcome_lines.specs.Json.{array_text, result_members, result_line, outcome_line, test_lines, kind_text, proposition_text, state_object, condition_members, evaluation_members, evaluated_line, eval_lines};
+ghost use Rattle.outcome_lines.specs.Records.{model_outcome_of, test_of};
+ghost use Rattle.outcome_lines.specs.Json.{array_text, result_members, result_line, outcome_line, json_test_lines, kind_text, proposition_text, state_object, condition_members, evaluation_members, evaluated_line, eval_lines};
 
 use crate::json_parts::{
     bool_text, put_observation_members, put_refusal_member, put_refused_line, put_subject_front,
@@ -51,7 +51,7 @@ fn put_outcome<'a>(
     given: &ModelOutcome<'a>,
 ) -> Result<(), AllocError>
     ensures { OnOk result (text.new.items
-        ≡ text.old.items ++ outcome_line path.now test.now (outcome_of given.now)) }
+        ≡ text.old.items ++ outcome_line path.now test.now (model_outcome_of given.now)) }
 {
     let subject = Subject {
         path,
@@ -71,7 +71,7 @@ fn put_outcomes<'a>(
 ) -> Result<(), AllocError>
     ensures { OnOk result (text.new.items
         ≡ text.old.items
-        ++ flat_map (λ o. outcome_line path.now test.now (outcome_of o)) outcomes.now) }
+        ++ flat_map (λ o. outcome_line path.now test.now (model_outcome_of o)) outcomes.now) }
 {
     for given in outcomes {
         put_outcome(alloc, text, path, test, given)?;
@@ -86,7 +86,7 @@ pub fn put_test_json(
     text: &mut Vec<u8>,
     test: &TestResult<'_>,
 ) -> Result<(), AllocError>
-    ensures { OnOk result (text.new.items ≡ text.old.items ++ test_lines (test_of test.now)) }
+    ensures { OnOk result (text.new.items ≡ text.old.items ++ json_test_lines (test_of test.now)) }
 {
     match test {
         TestResult::Refused(refusal) => put_refused_line(text, refusal),

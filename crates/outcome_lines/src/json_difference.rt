@@ -4,7 +4,7 @@ ghost use Rattle.std.specs.Prelude.{◌≡◌, ◌++◌, OnOk, IfOk, map, filter
 ghost use Rattle.outcome_texts.specs.Differences.{pair_of, has_other_count, is_told_apart};
 ghost use Rattle.outcome_texts.specs.Cells.{cell_of, cell_field};
 ghost use Rattle.outcome_lines.specs.Records.{test_of};
-ghost use Rattle.outcome_lines.specs.Json.{array_text, counts_member, counts_object, pair_array, told_states, pair_line, pair_lines};
+ghost use Rattle.outcome_lines.specs.Json.{array_text, counts_member, counts_object, pair_array, told_states, pair_line, json_pair_lines};
 
 use crate::json_parts::{bool_text, put_refused_line, put_test_front};
 use crate::pair::{model_at, pair_in};
@@ -136,7 +136,7 @@ pub fn put_pair_json(
     text: &mut Vec<u8>,
     test: &TestResult<'_>,
 ) -> Result<(), AllocError>
-    ensures { OnOk result (text.new.items ≡ text.old.items ++ pair_lines (test_of test.now)) }
+    ensures { OnOk result (text.new.items ≡ text.old.items ++ json_pair_lines (test_of test.now)) }
 {
     match test {
         TestResult::Refused(refusal) => put_refused_line(text, refusal),

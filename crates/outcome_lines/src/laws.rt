@@ -9,14 +9,16 @@ ghost use Rattle.outcome_lines.specs.Json as json;
 pub fn parts_are_the_whole()
     // A table, as fields.
     ensures tab_table { (a b : List TestResult)
-        → tab.table_lines (a ++ b) ≡ tab.table_lines a ++ tab.table_lines b }
+        → tab.tab_table_lines (a ++ b) ≡ tab.tab_table_lines a ++ tab.tab_table_lines b }
     // A difference, as fields.
     ensures tab_difference { (a b : List TestResult)
-        → tab.difference_lines (a ++ b) ≡ tab.difference_lines a ++ tab.difference_lines b }
+        → tab.tab_difference_lines (a ++ b) ≡ tab.tab_difference_lines a ++ tab.tab_difference_lines
+        b }
     // A table, as JSON.
     ensures json_table { (a b : List TestResult)
-        → json.table_lines (a ++ b) ≡ json.table_lines a ++ json.table_lines b }
+        → json.json_table_lines (a ++ b) ≡ json.json_table_lines a ++ json.json_table_lines b }
     // A difference, as JSON.
     ensures json_difference { (a b : List TestResult)
-        → json.difference_lines (a ++ b) ≡ json.difference_lines a ++ json.difference_lines b }
+        → json.json_difference_lines (a ++ b) ≡ json.json_difference_lines a ++
+        json.json_difference_lines b }
 {}

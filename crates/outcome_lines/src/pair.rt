@@ -3,13 +3,13 @@
 ghost use Rattle.std.specs.Prelude.{◌≡◌, map};
 ghost use Rattle.outcome_texts.specs.Cells.{cell_of};
 ghost use Rattle.outcome_texts.specs.Differences.{pair_of};
-ghost use Rattle.outcome_lines.specs.Records.{outcome_of, cell_at, model_at, pair_in};
+ghost use Rattle.outcome_lines.specs.Records.{model_outcome_of, cell_at, model_at, pair_in};
 
 use crate::record::ModelOutcome;
 use outcome_texts::{Shown, TestPair};
 
 fn cell_at<'a>(outcomes: &'a [ModelOutcome<'a>], index: usize) -> Shown<'a>
-    ensures { cell_of result ≡ cell_at (map outcome_of outcomes.now) index }
+    ensures { cell_of result ≡ cell_at (map model_outcome_of outcomes.now) index }
 {
     if index >= outcomes.len() {
         return Shown::NoCell;
@@ -19,7 +19,7 @@ fn cell_at<'a>(outcomes: &'a [ModelOutcome<'a>], index: usize) -> Shown<'a>
 
 /// The name of the model of this index; no bytes where there is none.
 pub fn model_at<'a>(outcomes: &'a [ModelOutcome<'a>], index: usize) -> &'a [u8]
-    ensures { result.now ≡ model_at (map outcome_of outcomes.now) index }
+    ensures { result.now ≡ model_at (map model_outcome_of outcomes.now) index }
 {
     if index >= outcomes.len() {
         return &[];
@@ -29,7 +29,7 @@ pub fn model_at<'a>(outcomes: &'a [ModelOutcome<'a>], index: usize) -> &'a [u8]
 
 /// The cells of a test under the first two models.
 pub fn pair_in<'a>(test: &'a [u8], outcomes: &'a [ModelOutcome<'a>]) -> TestPair<'a>
-    ensures { pair_of result ≡ pair_in test.now (map outcome_of outcomes.now) }
+    ensures { pair_of result ≡ pair_in test.now (map model_outcome_of outcomes.now) }
 {
     TestPair {
         name: test,

@@ -3,8 +3,8 @@
 ghost use Rattle.std.specs.Prelude.{◌≡◌, ◌++◌, OnOk, codes};
 ghost use Rattle.std.specs.List.{flat_map};
 ghost use Rattle.outcome_texts.specs.Log.{refusal_text};
-ghost use Rattle.outcome_lines.specs.Records.{outcome_of, test_of};
-ghost use Rattle.outcome_lines.specs.Tab.{two_fields, subject_fields, observation_fields, result_fields, refused_line, result_line, outcome_line, test_lines};
+ghost use Rattle.outcome_lines.specs.Records.{model_outcome_of, test_of};
+ghost use Rattle.outcome_lines.specs.Tab.{two_fields, subject_fields, observation_fields, result_fields, refused_line, result_line, outcome_line, tab_test_lines};
 
 use crate::record::{ModelOutcome, Subject, TestResult, TextRefusal};
 use outcome_texts::{observation_word, put_refusal};
@@ -94,7 +94,7 @@ fn put_outcome<'a>(
     given: &ModelOutcome<'a>,
 ) -> Result<(), AllocError>
     ensures { OnOk result (text.new.items
-        ≡ text.old.items ++ outcome_line path.now test.now (outcome_of given.now)) }
+        ≡ text.old.items ++ outcome_line path.now test.now (model_outcome_of given.now)) }
 {
     let subject = Subject {
         path,
@@ -113,7 +113,7 @@ fn put_outcomes<'a>(
 ) -> Result<(), AllocError>
     ensures { OnOk result (text.new.items
         ≡ text.old.items
-        ++ flat_map (λ o. outcome_line path.now test.now (outcome_of o)) outcomes.now) }
+        ++ flat_map (λ o. outcome_line path.now test.now (model_outcome_of o)) outcomes.now) }
 {
     for given in outcomes {
         put_outcome(text, path, test, given)?;
@@ -124,7 +124,7 @@ fn put_outcomes<'a>(
 /// Appends the lines of a test in a table: one for each model, or the one of a refused text.
 /// Errors: want of memory.
 pub fn put_test_tab(text: &mut Vec<u8>, test: &TestResult<'_>) -> Result<(), AllocError>
-    ensures { OnOk result (text.new.items ≡ text.old.items ++ test_lines (test_of test.now)) }
+    ensures { OnOk result (text.new.items ≡ text.old.items ++ tab_test_lines (test_of test.now)) }
 {
     match test {
         TestResult::Refused(refusal) => put_refused_line(text, refusal),

@@ -4,7 +4,7 @@ ghost use Rattle.std.specs.Prelude.{◌≡◌, ◌++◌, OnOk};
 ghost use Rattle.std.specs.List.{flat_map};
 ghost use Rattle.outcome_texts.specs.Differences.{pair_of, has_other_count, is_told_apart};
 ghost use Rattle.outcome_lines.specs.Records.{test_of};
-ghost use Rattle.outcome_lines.specs.Tab.{same_line, differ_line, counts_fields, counts_line, other_counts_line, told_lines, pair_lines};
+ghost use Rattle.outcome_lines.specs.Tab.{same_line, differ_line, counts_fields, counts_line, other_counts_line, told_lines, tab_pair_lines};
 
 use crate::pair::pair_in;
 use crate::record::TestResult;
@@ -107,7 +107,7 @@ pub fn put_pair_tab(
     text: &mut Vec<u8>,
     test: &TestResult<'_>,
 ) -> Result<(), AllocError>
-    ensures { OnOk result (text.new.items ≡ text.old.items ++ pair_lines (test_of test.now)) }
+    ensures { OnOk result (text.new.items ≡ text.old.items ++ tab_pair_lines (test_of test.now)) }
 {
     match test {
         TestResult::Refused(refusal) => put_refused_line(text, refusal),

@@ -5,7 +5,7 @@ use Rattle.std.proofs.lemmas.List.{take_more, take_all, flat_map_more, map-appen
 use Rattle.std.proofs.lemmas.List.Elements.{filter-append}
 use Rattle.std.specs.List.{flat_map, filter}
 use Rattle.std.specs.Prelude.{cond}
-use Rattle.outcome_texts.specs.Columns.{field_text, line_from}
+use Rattle.outcome_texts.specs.Columns.{padded_field, line_from}
 
 front_more : {X : Type 0} (xs : List X) (i : ℕ) (x : X) → i < length xs → x ≡ get_or xs i x
     → take i xs ++ x ∷ [] ≡ take (i + 1) xs
@@ -86,14 +86,14 @@ is_last_field line i inside = let rest = length-drop (i + 1) line in grind (arit
 pub field_printed : (width : ℕ → ℕ) (line : List (List ℕ)) (i : ℕ) (field : List ℕ) (is_last : Bool)
     (size : ℕ) (before after total : List ℕ) → i < length line → field ≡ get_or line i field
     → is_last ≡ (i + 1 == length line) → size ≡ width i
-    → after ≡ before ++ field_text is_last size field
+    → after ≡ before ++ padded_field is_last size field
     → before ++ line_from width i (drop i line) ≡ total
     → after ++ line_from width (i + 1) (drop (i + 1) line) ≡ total
 field_printed width line i field is_last size before after total inside is last sized more so =
     let rest = drop (i + 1) line in
-    let text = field_text (length rest == 0) (width i) field in
+    let text = padded_field (length rest == 0) (width i) field in
     let cut : drop i line ≡ field ∷ rest = drop-cons line i field inside ∙ ap (λ x. x ∷ drop (suc i) line) (sym is) ∙ ap (λ n. field ∷ drop n line) (sym (add-one i)) in
-    let printed : field_text is_last size field ≡ text = ap (λ b. field_text b size field) (last ∙ is_last_field line i inside) ∙ ap (λ n. field_text (length rest == 0) n field) sized in
+    let printed : padded_field is_last size field ≡ text = ap (λ b. padded_field b size field) (last ∙ is_last_field line i inside) ∙ ap (λ n. padded_field (length rest == 0) n field) sized in
     ap (λ t. t ++ line_from width (i + 1) rest) (more ∙ ap (λ t. before ++ t) printed)
     ∙ append_assoc before text (line_from width (i + 1) rest)
     ∙ ap (λ n. before ++ (text ++ line_from width n rest)) (add-one i)

@@ -20,15 +20,15 @@ filled width field = field ++ replicate (width - length field) 32
 
 -- a field as it is printed: the last of a line as it is, any other one filled to its column's width
 -- and parted from the next
-abbrev pub field_text : Bool → ℕ → List ℕ → List ℕ
-field_text true width field = field
-field_text false width field = filled width field ++ codes " | "
+abbrev pub padded_field : Bool → ℕ → List ℕ → List ℕ
+padded_field true width field = field
+padded_field false width field = filled width field ++ codes " | "
 
 -- the fields of a line from a column on
 abbrev pub line_from : (ℕ → ℕ) → ℕ → List (List ℕ) → List ℕ
 line_from width column [] = line_end
 line_from width column (field ∷ fields) =
-    field_text (length fields == 0) (width column) field ++ line_from width (suc column) fields
+    padded_field (length fields == 0) (width column) field ++ line_from width (suc column) fields
 
 abbrev pub columns_text : List (List (List ℕ)) → List ℕ
 columns_text lines = flat_map (line_from (column_width lines) 0) lines

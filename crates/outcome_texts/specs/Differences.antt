@@ -144,7 +144,7 @@ test_difference false test = []
 abbrev pub difference_line : ℕ → ℕ → List ℕ
 difference_line some all = decimal some ++ codes " of " ++ decimal all ++ codes " differ\n"
 
-abbrev pub difference_of : List Pair → List ℕ
-difference_of tests =
+abbrev pub differences_printed : List Pair → List ℕ
+differences_printed tests =
     flat_map (λ t. test_difference (is_told_apart t) t) tests
     ++ difference_line (length (filter is_told_apart tests)) (length tests)

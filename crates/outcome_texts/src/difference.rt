@@ -3,7 +3,7 @@
 ghost use Rattle.std.specs.Prelude.{◌≡◌, ◌∷◌, ◌++◌, ◌+◌, ◌<◌, [], IfOk, OnOk, IfSome, MatchOption, filter, length, map};
 ghost use Rattle.std.specs.List.{flat_map, list_any};
 ghost use Rattle.outcome_texts.specs.Cells.{cell_of};
-ghost use Rattle.outcome_texts.specs.Differences.{merged, has_other_count, is_same_refusal, flag_lines, evaluations_differ, results_differ, cells_differ, states_of, shared_states, pair_of, is_told_apart, shared_line, state_difference, state_differences, pair_line, test_difference, difference_line, difference_of};
+ghost use Rattle.outcome_texts.specs.Differences.{merged, has_other_count, is_same_refusal, flag_lines, evaluations_differ, results_differ, cells_differ, states_of, shared_states, pair_of, is_told_apart, shared_line, state_difference, state_differences, pair_line, test_difference, difference_line, differences_printed};
 
 use crate::cell::{Shown, put_cell};
 use crate::log::put_flags;
@@ -354,7 +354,7 @@ fn put_last_line(text: &mut Vec<u8>, count: u64, all: usize) -> Result<(), Alloc
 /// then each state whose counts differ with both counts, rising; and last how many of how many
 /// tests are told apart. Errors: want of memory.
 pub fn difference_text(alloc: Global, tests: &[TestPair<'_>]) -> Result<Vec<u8>, AllocError>
-    ensures { IfOk result (λ v. v.items ≡ difference_of (map pair_of tests.now)) }
+    ensures { IfOk result (λ v. v.items ≡ differences_printed (map pair_of tests.now)) }
 {
     let mut text = Vec::new(alloc);
     let count = put_tests(alloc, &mut text, tests)?;

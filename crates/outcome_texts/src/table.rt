@@ -3,7 +3,7 @@
 ghost use Rattle.std.specs.Prelude.{◌≡◌, ℕ, ◌<◌, ◌≤◌, ◌++◌, ◌∷◌, [], IfOk, OnOk, length, map, max, slice_index, replicate};
 ghost use Rattle.std.specs.List.{flat_map};
 ghost use Rattle.outcome_texts.specs.Cells.{cell_of, cell_field};
-ghost use Rattle.outcome_texts.specs.Columns.{field_width, column_width, field_text, line_from, row_of, head_fields, row_fields, table_of};
+ghost use Rattle.outcome_texts.specs.Columns.{field_width, column_width, padded_field, line_from, row_of, head_fields, row_fields, table_of};
 
 use crate::cell::{Shown, put_cell};
 use std::alloc::{AllocError, Global};
@@ -150,7 +150,8 @@ fn put_field(
     width: usize,
     is_last: bool,
 ) -> Result<(), AllocError>
-    ensures { OnOk result (text.new.items ≡ text.old.items ++ field_text is_last width field.now) }
+    ensures { OnOk result (text.new.items
+        ≡ text.old.items ++ padded_field is_last width field.now) }
 {
     put_bytes(text, field)?;
     if is_last {

@@ -10,7 +10,7 @@ use Rattle.bit_relations.specs.Relation.{Events, IsMember}
 use Rattle.run_combinations.specs.Lists.{lists_of, tuples, IsFiltered, none, kept, left}
 use Rattle.run_combinations.specs.Events.{numbers, is_load}
 use Rattle.run_combinations.specs.ReadChoices.{Derived, IsReadChoice, IsPossible, nexts, accesses_in}
-use Rattle.run_combinations.specs.Rounds.{IsReadingOf, HasDerived, TellsPossible, ArePossible, GainsNext, AreNext, AreOver, HasOver, HasReadChoices, load_event}
+use Rattle.run_combinations.specs.Rounds.{IsReadingOf, HasDerived, TellsPossible, ArePossible, GainsNext, AreNext, AreOver, HasManyChoices, HasReadChoices, load_event}
 use Rattle.run_combinations.specs.Search.{Tells}
 use Rattle.run_combinations.specs.declared.combination.Event.{Event}
 use Rattle.run_combinations.specs.declared.reading.Reading.{Reading}
@@ -157,7 +157,7 @@ one_load_more r p load prefixes next at before step es pairs shows =
 
 pub over_at : (r : Reading) (p limit : ℕ) (load : Load) (prefixes : List (List ℕ))
     → slice_get r.loads.items p ≡ Some load → ArePossible r p prefixes → AreOver r load p prefixes limit
-    → HasOver r limit
+    → HasManyChoices r limit
 over_at r p limit load prefixes at before over es pairs all shows read_choices =
     let lt : p < length (accesses_in es pairs).sources = has_source es pairs r p load shows at in
     let fit : Each (λ f. (length f ≡ p) × IsPossible (accesses_in es pairs) f) prefixes = fitting es pairs p prefixes lt (before es pairs shows) in
@@ -182,7 +182,7 @@ all_loads r p read_choices past h es pairs shows =
         omega (arith, e, m, n, past)
 
 pub over_all : (r : Reading) (limit : ℕ) (read_choices : List (List ℕ)) → HasReadChoices r read_choices
-    → limit < length read_choices → HasOver r limit
+    → limit < length read_choices → HasManyChoices r limit
 over_all r limit read_choices h lt es pairs all shows are =
     subst (λ (l : List (List ℕ)). limit < length l)
     (IsFiltered-unique (IsReadChoice (accesses_in es pairs)) (tuples [] (accesses_in es pairs).sources)

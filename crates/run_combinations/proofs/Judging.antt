@@ -6,7 +6,7 @@ use Rattle.std.proofs.Math.Nat.{div-lt_iff_lt-mul, div-mul-le_self, mul-le-mul_l
 use Rattle.run_combinations.specs.Lists.{lists_of}
 use Rattle.run_combinations.specs.Orders.{all_orders, AreInitialStoresApart}
 use Rattle.run_combinations.specs.ReadChoices.{AreReadChoices}
-use Rattle.run_combinations.specs.Rounds.{IsReadingOf, HasOver, HasReadChoices}
+use Rattle.run_combinations.specs.Rounds.{IsReadingOf, HasManyChoices, HasReadChoices}
 use Rattle.run_combinations.specs.Search.{PrefixLists, Tally, capped_tally_with, PrefixFits, TalliesOneMore, ExceedsCandidates}
 use Rattle.run_combinations.specs.declared.combination.Event.{Event}
 use Rattle.run_combinations.specs.declared.reading.Reading.{Reading}
@@ -42,7 +42,7 @@ known n b r es us pairs raw orders left count e u p fits counted o shown l few =
 }
 
 pub too_much : (n : ℕ) (b : PrefixLists) (t : Tally) (r : Reading) (orders left : ℕ)
-    → Known n b r orders left t.count → HasOver r (left / orders) → ExceedsCandidates n b t
+    → Known n b r orders left t.count → HasManyChoices r (left / orders) → ExceedsCandidates n b t
 too_much n b t r orders left k over read_choices are =
     let one : 0 < orders = omega (arith, k.orders) in
     let x : left < length read_choices * orders = (div-lt_iff_lt-mul one).0 (over b.combination.events b.needs read_choices k.shows are) in

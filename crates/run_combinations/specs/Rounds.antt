@@ -147,8 +147,8 @@ AreOver r load index read_choices limit =
     × AreNext r load index k read_choices next
 
 -- there are over so many read choices
-abbrev pub HasOver : Reading → ℕ → Type 0
-HasOver r limit =
+abbrev pub HasManyChoices : Reading → ℕ → Type 0
+HasManyChoices r limit =
     (es : List Event) (pairs : List (ℕ × ℕ)) (all : List (List ℕ)) → IsReadingOf es pairs r
     → AreReadChoices es pairs all → limit < length all
 

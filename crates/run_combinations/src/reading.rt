@@ -2,7 +2,7 @@
 
 ghost use Rattle.std.specs.Prelude.{◌≡◌, ◌<◌, ◌≤◌, ◌↔◌, ◌⊎◌, ◌++◌, ◌∷◌, [], length, option_to_list, Contains, IsTrue, IfOk, OnOk, MatchOption};
 ghost use Rattle.bit_relations.specs.Relation.{IsMember, IsEvents};
-ghost use Rattle.run_combinations.specs.Rounds.{IsEventSubset, HasCommonEvent, CanRead, CanArise, WithStores, WithLoads, IsArisingRound, HasDerived, TellsPossible, ArePossible, GainsNext, AreNext, AreOver, HasOver, HasReadChoices, IsReadingOf, AreLoads, AreStores};
+ghost use Rattle.run_combinations.specs.Rounds.{IsEventSubset, HasCommonEvent, CanRead, CanArise, WithStores, WithLoads, IsArisingRound, HasDerived, TellsPossible, ArePossible, GainsNext, AreNext, AreOver, HasManyChoices, HasReadChoices, IsReadingOf, AreLoads, AreStores};
 ghost use Rattle.run_combinations.specs.Lists.{lists_of};
 ghost use Rattle.run_combinations.specs.Search.{Tells};
 ghost use Rattle.run_combinations.specs.Events.{numbers, is_load, is_store};
@@ -424,7 +424,7 @@ impl Reading {
         ensures { ArePossible self.now 0 (lists_of read_choices.old.items)
             → IfOk result (λ b.
             Tells b (HasReadChoices self.now (lists_of read_choices.new.items))
-            (HasOver self.now limit)) }
+            (HasManyChoices self.now limit)) }
     {
         let mut longer = Vec::new(alloc);
         for (index, load) in self.loads.iter().enumerate() {
@@ -444,7 +444,7 @@ impl Reading {
         alloc: Global,
         limit: usize,
     ) -> Result<Option<Vec<Vec<u8>>>, AllocError>
-        ensures { IfOk result (λ o. MatchOption o (HasOver self.now limit)
+        ensures { IfOk result (λ o. MatchOption o (HasManyChoices self.now limit)
             (λ v. HasReadChoices self.now (lists_of v.items) × (length v.items ≤ limit))) }
     {
         let mut read_choices = self.first_read_choices(alloc)?;

@@ -6,7 +6,7 @@ use Rattle.text_values.specs.TestValue.{Content}
 use Rattle.verdict.specs.declared.answer.Outcome.{Outcome}
 use Rattle.outcome_texts.specs.Cells.{Settled, cell_log, cell_counts}
 use Rattle.outcome_texts.specs.Columns.{Row, table_of}
-use Rattle.outcome_texts.specs.Differences.{difference_of}
+use Rattle.outcome_texts.specs.Differences.{differences_printed}
 use Rattle.bench_texts.specs.BenchTexts.{BenchTexts, PlainModel}
 use Rattle.bench_texts.specs.Printed.{printed_items}
 use Rattle.bench_texts.specs.declared.fault.EditFault.TheVariants.{NoTest, NoModel}
@@ -52,7 +52,7 @@ abbrev pub IsDifferenceReply : BenchTexts → Option (List PlainModel) → Sessi
 IsDifferenceReply t None said = said ≡ refusal_answer (fault_line NoModel)
 IsDifferenceReply t (Some models) said =
     (rows : List Row) × ArePlainRows t models rows
-    × (said ≡ plain_answer (difference_of (map pair_in rows)))
+    × (said ≡ plain_answer (differences_printed (map pair_in rows)))
 
 -- ---- any question
 

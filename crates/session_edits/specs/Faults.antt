@@ -3,7 +3,7 @@ use Rattle.std.specs.Prelude.{ℕ, List, [], Option, Some, None}
 use Rattle.litmus_tokens.specs.Numbers.{number_of as test_rule_number}
 use Rattle.litmus_ppc.specs.declared.fault.LitmusFault.{LitmusFault}
 use Rattle.litmus_ppc.specs.declared.fault.LitmusFault.TheVariants as litmus
-use Rattle.cat_tokens.specs.Tokens.{number_of as model_rule_number}
+use Rattle.cat_tokens.specs.Tokens.{digits_number as model_rule_number}
 use Rattle.cat_syntax.specs.declared.fault.CatFault.{CatFault}
 use Rattle.cat_syntax.specs.declared.fault.CatFault.TheVariants as cat
 use Rattle.bench_texts.specs.Numbers.{edit_fault_number}

@@ -4,7 +4,7 @@ use Rattle.std.proofs.lemmas.Simd.{map-map}
 use Rattle.std.specs.List.{AllZip}
 use Rattle.outcome_texts.specs.Cells.{Cell, NoCell, Open, Settled}
 use Rattle.outcome_texts.specs.Columns.{Row, table_of}
-use Rattle.outcome_texts.specs.Differences.{difference_of}
+use Rattle.outcome_texts.specs.Differences.{differences_printed}
 use Rattle.command_answers.specs.declared.file.TextFile.{TextFile}
 use Rattle.command_answers.specs.declared.reading.NamedModel.{NamedModel}
 use Rattle.command_answers.specs.Reports.{IsCellUnder, IsReportRow, AreFilesRead, model_names, IsTableReport, difference_under, IsDifferenceReport}
@@ -97,7 +97,7 @@ one_table models same_models tests same_tests text other faults lines same alike
 abbrev difference_by : List (List ℕ × List Clause) → List Row → List ℕ
 difference_by [] rows = []
 difference_by (m ∷ []) rows = []
-difference_by (m ∷ n ∷ []) rows = difference_of (map pair_in rows)
+difference_by (m ∷ n ∷ []) rows = differences_printed (map pair_in rows)
 difference_by (m ∷ n ∷ o ∷ ms) rows = []
 
 same_difference : (models : List NamedModel) (rows : List Row)

@@ -13,7 +13,7 @@ use Rattle.text_values.specs.ModelValues as values
 use Rattle.binding_kinds.specs.Value.{Bound, BareItem, Group, Check, Mute, Defined, bare_item}
 use Rattle.binding_kinds.specs.Faults.{HasNoFault, FirstFault}
 use Rattle.binding_graph.specs.declared.resolved.ResolvedItem.{ResolvedItem}
-use Rattle.binding_graph.specs.Resolved.{AreResolved, IsLabelled, IsLabelledAs, AreLabelled}
+use Rattle.binding_graph.specs.Resolved.{AreResolved, IsLabelled, IsLabelledAs, AreLabelledAs}
 use Rattle.verdict.specs.declared.answer.Outcome.{Outcome}
 use Rattle.verdict.specs.declared.answer.OutcomeResult.{OutcomeResult}
 use Rattle.verdict.specs.declared.answer.OutcomeResult.TheVariants.{Refused, Evaluated}
@@ -86,7 +86,7 @@ labelled_of (items.Flag c l) x h = h
 labelled_of (items.Show s t) x h = tt
 labelled_of (items.Include n) x h = tt
 
-all_named : (is : List code_item.Item) (rs : List ResolvedItem) → AreLabelled is rs
+all_named : (is : List code_item.Item) (rs : List ResolvedItem) → AreLabelledAs is rs
     → AllZip IsNamed (values.clauses_of is) rs
 all_named [] [] h = tt
 all_named [] (r ∷ rs) h = h
@@ -94,7 +94,7 @@ all_named (i ∷ is) [] h = h
 all_named (i ∷ is) (r ∷ rs) h = (named_of i r h.0, all_named is rs h.1)
 
 all_labelled : (is : List code_item.Item) (rs : List ResolvedItem)
-    → AllZip IsNamed (values.clauses_of is) rs → AreLabelled is rs
+    → AllZip IsNamed (values.clauses_of is) rs → AreLabelledAs is rs
 all_labelled [] [] h = tt
 all_labelled [] (r ∷ rs) h = h
 all_labelled (i ∷ is) [] h = h
@@ -107,8 +107,8 @@ module _ (model other : ModelText)
   clauses : map bare_item model.items.items ≡ map bare_item other.items.items
   clauses = equal_clauses model.items.items other.items.items same
 
-  labels : (rs : List ResolvedItem) → AreLabelled model.items.items rs
-      → AreLabelled other.items.items rs
+  labels : (rs : List ResolvedItem) → AreLabelledAs model.items.items rs
+      → AreLabelledAs other.items.items rs
   labels rs h =
       all_labelled other.items.items rs (subst (λ (cs : List said.Clause). AllZip IsNamed cs rs)
       same (all_named model.items.items rs h))

@@ -1,9 +1,9 @@
 -- What is read of files depends on their paths and their bytes alone.
 use Rattle.std.proofs.Common.{◌≡◌, ℕ, List, ◌++◌, map, refl, sym, ap, ◌∙◌, subst}
 use Rattle.cat_grammar.specs.declared.form.Form.TheVariants.{Model}
-use Rattle.cat_grammar.specs.Reads.{Reads, FaultAt}
+use Rattle.cat_grammar.specs.Reads.{ReadsClauses, FaultAt}
 use Rattle.cat_tokens.specs.declared.rule.CatRule.{CatRule}
-use Rattle.cat_tokens.specs.Tokens.{number_of as model_rule_number}
+use Rattle.cat_tokens.specs.Tokens.{digits_number as model_rule_number}
 use Rattle.fault_lines.specs.Lines.{fault_lines}
 use Rattle.fault_lines.specs.Words.{rule_words}
 use Rattle.litmus_grammar.specs.Texts.{ReadsTest, IsTestFault}
@@ -58,21 +58,21 @@ module _ (file other : TextFile) (same : path_and_text file ≡ path_and_text ot
 
   -- ---- a model
 
-  pub one_model_read : (v w : List Clause) → Reads Model file.text.items v
-      → Reads Model other.text.items w → v ≡ w
+  pub one_model_read : (v w : List Clause) → ReadsClauses Model file.text.items v
+      → ReadsClauses Model other.text.items w → v ≡ w
   one_model_read v w h g =
       one_model Model other.text.items v w
-      (subst (λ (t : List ℕ). Reads Model t v) one_text h) g
+      (subst (λ (t : List ℕ). ReadsClauses Model t v) one_text h) g
 
   pub read_or_refused : (v : List Clause) (rule : CatRule) (offset : ℕ)
-      → Reads Model file.text.items v → IsModelRefused other.text.items rule offset → ⊥
+      → ReadsClauses Model file.text.items v → IsModelRefused other.text.items rule offset → ⊥
   read_or_refused v rule offset h g =
-      g.unread v (subst (λ (t : List ℕ). Reads Model t v) one_text h)
+      g.unread v (subst (λ (t : List ℕ). ReadsClauses Model t v) one_text h)
 
   pub refused_or_read : (v : List Clause) (rule : CatRule) (offset : ℕ)
-      → IsModelRefused file.text.items rule offset → Reads Model other.text.items v → ⊥
+      → IsModelRefused file.text.items rule offset → ReadsClauses Model other.text.items v → ⊥
   refused_or_read v rule offset h g =
-      h.unread v (subst (λ (t : List ℕ). Reads Model t v) (sym one_text) g)
+      h.unread v (subst (λ (t : List ℕ). ReadsClauses Model t v) (sym one_text) g)
 
   model_fault_one : (rule again : CatRule) (offset place : ℕ)
       → IsModelRefused file.text.items rule offset → IsModelRefused other.text.items again place

@@ -5,7 +5,7 @@ use Rattle.text_values.specs.TestValue.{Content}
 use Rattle.verdict.specs.declared.answer.Outcome.{Outcome}
 use Rattle.outcome_texts.specs.Cells.{Cell, NoCell, Open, Settled, cell_log, cell_counts}
 use Rattle.outcome_texts.specs.Columns.{Row, table_of}
-use Rattle.outcome_texts.specs.Differences.{difference_of}
+use Rattle.outcome_texts.specs.Differences.{differences_printed}
 use Rattle.bench_texts.specs.BenchTexts.{BenchTexts, PlainModel}
 use Rattle.session_edits.specs.Answer.{SessionAnswer, plain_answer}
 use Rattle.session_edits.specs.declared.request.Question.{Question}
@@ -83,7 +83,7 @@ one_difference : (t : BenchTexts) (models : Option (List PlainModel)) (a b : Ses
     → IsDifferenceReply t models a → IsDifferenceReply t models b → a ≡ b
 one_difference t None a b h g = h ∙ sym g
 one_difference t (Some ms) a b h g =
-    h.2 ∙ (ap (λ (rows : List Row). plain_answer (difference_of (map pair_in rows)))
+    h.2 ∙ (ap (λ (rows : List Row). plain_answer (differences_printed (map pair_in rows)))
     (all_rows t ms h.0 g.0 h.1 g.1) ∙ sym g.2)
 
 pub one_reply : (t : BenchTexts) (question : Question) → HasOneReply t question

@@ -26,30 +26,30 @@ is_inside_field b = not (b == 9 || b == 10 || b == 13)
 
 -- where the reader stands, with the lines so far, the fields of this line, and the bytes of this
 -- field
-pub data Reader : Type 0 where
-  Inside : (lines : List (List (List ℕ))) (fields : List (List ℕ)) (bytes : List ℕ) → Reader
+pub data FieldReader : Type 0 where
+  Inside : (lines : List (List (List ℕ))) (fields : List (List ℕ)) (bytes : List ℕ) → FieldReader
   -- behind a backslash
-  Escape : (lines : List (List (List ℕ))) (fields : List (List ℕ)) (bytes : List ℕ) → Reader
-  Broken : Reader
+  Escape : (lines : List (List (List ℕ))) (fields : List (List ℕ)) (bytes : List ℕ) → FieldReader
+  Broken : FieldReader
 
-abbrev pub escaped_step : List (List (List ℕ)) → List (List ℕ) → List ℕ → ℕ → Reader
+abbrev pub escaped_step : List (List (List ℕ)) → List (List ℕ) → List ℕ → ℕ → FieldReader
 escaped_step lines fields bytes b =
     if b == 92 then Inside lines fields (bytes ++ 92 ∷ []) else (
     if b == 116 then Inside lines fields (bytes ++ 9 ∷ []) else (
     if b == 110 then Inside lines fields (bytes ++ 10 ∷ []) else (
     if b == 114 then Inside lines fields (bytes ++ 13 ∷ []) else Broken)))
 
-abbrev pub step : Reader → ℕ → Reader
-step (Inside lines fields bytes) b =
+abbrev pub field_step : FieldReader → ℕ → FieldReader
+field_step (Inside lines fields bytes) b =
     if b == 9 then Inside lines (fields ++ bytes ∷ []) [] else (
     if b == 10 then Inside (lines ++ (fields ++ bytes ∷ []) ∷ []) [] [] else (
     if b == 92 then Escape lines fields bytes else Inside lines fields (bytes ++ b ∷ [])))
-step (Escape lines fields bytes) b = escaped_step lines fields bytes b
-step Broken b = Broken
+field_step (Escape lines fields bytes) b = escaped_step lines fields bytes b
+field_step Broken b = Broken
 
-abbrev pub behind : Reader → List ℕ → Reader
-behind reader text = fold step reader text
+abbrev pub fields_behind : FieldReader → List ℕ → FieldReader
+fields_behind reader text = fold field_step reader text
 
 -- where the reader stands behind these lines
-abbrev pub behind_lines : List (List (List ℕ)) → Reader
+abbrev pub behind_lines : List (List (List ℕ)) → FieldReader
 behind_lines lines = Inside lines [] []

@@ -42,17 +42,17 @@ gives_in rows base Group t g = false
 gives_in rows base Check t g = false
 gives_in rows base Verdict t g = holds_number (row_of t rows) g
 
-abbrev pub inputs_of : Kind → ℕ → List Key
-inputs_of Space t = Part 1 0 ∷ []
-inputs_of Group t = []
-inputs_of Check t = []
-inputs_of Verdict t = Part 0 t ∷ Output tens 0 ∷ []
+abbrev pub sheet_inputs : Kind → ℕ → List Key
+sheet_inputs Space t = Part 1 0 ∷ []
+sheet_inputs Group t = []
+sheet_inputs Check t = []
+sheet_inputs Verdict t = Part 0 t ∷ Output tens 0 ∷ []
 
 abbrev pub sheet_net : Sheet → Net ℕ
 sheet_net s =
     record {
       part = part_in s.rows.items s.base_stamp;
-      inputs = λ n. inputs_of n.kind n.test;
+      inputs = λ n. sheet_inputs n.kind n.test;
       used = tens ∷ cells_of s.rows.items;
       gives = λ n g. gives_in s.rows.items s.base n.kind n.test g;
     }
@@ -68,8 +68,8 @@ result_of Check g vs = 0
 result_of Verdict g vs = (g + first_of vs) % 2 ^ 64
 
 -- what running a node makes: the one output 0
-abbrev pub makes : Node → ℕ → List Key → List ℕ → List (ℕ × ℕ) → Type 0
-makes n g ks vs os = os ≡ (0, result_of n.kind g vs) ∷ []
+abbrev pub sheet_makes : Node → ℕ → List Key → List ℕ → List (ℕ × ℕ) → Type 0
+sheet_makes n g ks vs os = os ≡ (0, result_of n.kind g vs) ∷ []
 
 abbrev pub is_there : Kind → ℕ → List Row → Type 0
 is_there Space t rows = Unit {0}

@@ -26,11 +26,11 @@ IsSum addend None o = ⊥
 IsSum addend (Some r) o = o ≡ (r.1 + addend) % 2 ^ 64
 
 -- what evaluating a cell from nothing gives
-abbrev pub from_scratch : Sheet → List ℕ → List ℕ → ℕ → Type 0
-from_scratch s [] [] o = o ≡ s.base / 10
-from_scratch s (t ∷ []) [] o = IsSum (s.base / 10) (row_of t s.rows.items) o
-from_scratch s (t ∷ u ∷ ts) [] o = ⊥
-from_scratch s test (m ∷ ms) o = ⊥
+abbrev pub sheet_from_scratch : Sheet → List ℕ → List ℕ → ℕ → Type 0
+sheet_from_scratch s [] [] o = o ≡ s.base / 10
+sheet_from_scratch s (t ∷ []) [] o = IsSum (s.base / 10) (row_of t s.rows.items) o
+sheet_from_scratch s (t ∷ u ∷ ts) [] o = ⊥
+sheet_from_scratch s test (m ∷ ms) o = ⊥
 
 abbrev pub is_name : List ℕ → ℕ → Bool
 is_name [] name = false

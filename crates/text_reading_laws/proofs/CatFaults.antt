@@ -3,10 +3,10 @@ use Rattle.std.proofs.Common.{◌≡◌, ℕ, ◌<◌, List, [], ◌∷◌, ◌+
 use Rattle.cat_tokens.specs.declared.rule.CatRule.{CatRule}
 use Rattle.cat_tokens.specs.declared.token.Token.{Token}
 use Rattle.cat_tokens.specs.declared.token.Token.TheVariants as tokens
-use Rattle.cat_tokens.specs.Tokens.{TokenAt, tokens_of}
-use Rattle.cat_tokens.specs.Lexer.{lexing}
+use Rattle.cat_tokens.specs.Tokens.{TokenAt, model_tokens_of}
+use Rattle.cat_tokens.specs.Lexer.{model_lexing}
 use Rattle.cat_grammar.specs.declared.form.Form.{Form}
-use Rattle.cat_grammar.specs.Grammar.{Limits, limits, Means, BeginsForm, CanStand, BeginsText, BeforeAName, broken_rule, BreaksRule, Nowhere, TooMany, TooDeep, Plain, IsFormFault}
+use Rattle.cat_grammar.specs.Grammar.{Limits, model_limits, Means, BeginsForm, CanStand, BeginsText, BeforeAName, broken_rule, BreaksRule, Nowhere, TooMany, TooDeep, Plain, IsFormFault}
 use Rattle.cat_grammar.proofs.Faults.{tokens_of-append}
 use Rattle.cat_grammar.specs.Reads.{FaultAt, IsLong, InText}
 use Rattle.text_reading_laws.proofs.Lists.{Cut, Same, Before, Behind, cut, last_cut}
@@ -21,15 +21,15 @@ module _ (most : Limits) (form : Form) (some : 0 < most.nesting) (one : 0 < most
   -- ---- the rule of a token that cannot stand
 
   module _ (before : List TokenAt) (here : TokenAt)
-      (ends : CanStand most form (tokens_of before ++ here.token ∷ []) → ⊥) where
+      (ends : CanStand most form (model_tokens_of before ++ here.token ∷ []) → ⊥) where
     abbrev all : List Token
-    all = tokens_of before ++ here.token ∷ []
+    all = model_tokens_of before ++ here.token ∷ []
 
     nowhere : (r : CatRule) → broken_rule here.token ≡ Some r → (wider : Limits)
         → BeginsForm wider form all → ⊥
     nowhere r e wider b =
-        broken_nowhere form wider (tokens_of before) r (subst
-        (λ (t : Token). BeginsForm wider form (tokens_of before ++ t ∷ []))
+        broken_nowhere form wider (model_tokens_of before) r (subst
+        (λ (t : Token). BeginsForm wider form (model_tokens_of before ++ t ∷ []))
         (is_broken here.token r e) b)
 
     own_rule : (r k : CatRule) → broken_rule here.token ≡ Some r → broken_rule here.token ≡ Some k
@@ -49,12 +49,12 @@ module _ (most : Limits) (form : Form) (some : 0 < most.nesting) (one : 0 < most
     rule_one r k n m (TooMany wider depths text e a) (TooMany other same also h b) =
         (e ∙ sym h, a ∙ sym b)
     rule_one r k n m (TooMany wider depths text e a) (TooDeep other counts also h b) =
-        absurd (ends (stands_by_both most form (tokens_of before) here.token wider other some one
+        absurd (ends (stands_by_both most form (model_tokens_of before) here.token wider other some one
         two depths counts text also))
     rule_one r k n m (TooMany wider depths text e a) (Plain none own h b) = absurd (none wider text)
     rule_one r k n m (TooDeep wider counts text e a) (Nowhere h b) = absurd (nowhere k h wider text)
     rule_one r k n m (TooDeep wider counts text e a) (TooMany other depths also h b) =
-        absurd (ends (stands_by_both most form (tokens_of before) here.token other wider some one
+        absurd (ends (stands_by_both most form (model_tokens_of before) here.token other wider some one
         two depths counts also text))
     rule_one r k n m (TooDeep wider counts text e a) (TooDeep other same also h b) =
         (e ∙ sym h, a ∙ sym b)
@@ -88,11 +88,11 @@ module _ (most : Limits) (form : Form) (some : 0 < most.nesting) (one : 0 < most
           BeginsText (begins_prefix ts more.0 (subst (BeginsForm most form) more.1 a.begins))
 
   stands_before : (first second middle : List TokenAt) (here : TokenAt)
-      → second ≡ first ++ here ∷ middle → CanStand most form (tokens_of second)
-      → CanStand most form (tokens_of first ++ here.token ∷ [])
+      → second ≡ first ++ here ∷ middle → CanStand most form (model_tokens_of second)
+      → CanStand most form (model_tokens_of first ++ here.token ∷ [])
   stands_before first second middle here e b =
-      let are : tokens_of second ≡ (tokens_of first ++ here.token ∷ []) ++ tokens_of middle = ap tokens_of e ∙ tokens_of-append first (here ∷ middle) ∙ sym (append_assoc (tokens_of first) (here.token ∷ []) (tokens_of middle)) in
-      stands_prefix (tokens_of first ++ here.token ∷ []) (tokens_of middle)
+      let are : model_tokens_of second ≡ (model_tokens_of first ++ here.token ∷ []) ++ model_tokens_of middle = ap model_tokens_of e ∙ tokens_of-append first (here ∷ middle) ∙ sym (append_assoc (model_tokens_of first) (here.token ∷ []) (model_tokens_of middle)) in
+      stands_prefix (model_tokens_of first ++ here.token ∷ []) (model_tokens_of middle)
       (subst (CanStand most form) are b)
 
   first_one : (ps : List TokenAt) (r k : CatRule) (n m : ℕ) → IsFormFault most form ps r n
@@ -119,5 +119,5 @@ one_fault form bytes rule other offset again (IsLong more r n) (IsLong also q m)
 one_fault form bytes rule other offset again (IsLong more r n) (InText le g) = absurd (omega arith)
 one_fault form bytes rule other offset again (InText le f) (IsLong more r n) = absurd (omega arith)
 one_fault form bytes rule other offset again (InText le f) (InText also g) =
-    first_one limits form (omega arith) (omega arith) (omega arith) (lexing bytes) rule other offset
+    first_one model_limits form (omega arith) (omega arith) (omega arith) (model_lexing bytes) rule other offset
     again f g

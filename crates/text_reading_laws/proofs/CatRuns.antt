@@ -12,9 +12,9 @@ use Rattle.text_values.specs.ModelValue.{Term, Clause, Atom, Mark}
 use Rattle.cat_grammar.specs.declared.form.Form.{Form}
 use Rattle.cat_grammar.specs.declared.form.Form.TheVariants as forms
 use Rattle.cat_grammar.specs.Grammar.{Limits, BeginsForm, SameCounts, SameDepths, IsSeparator, CanStand, BeginsText, BeforeAName, last_two, is_tilde, is_check}
-use Rattle.cat_grammar.specs.Machine.{TermFrame, TermExpectation, Wants, HasBrace, HasName, Has, HasStar, HasStarTilde, fold_to, ended, expression_step}
+use Rattle.cat_grammar.specs.Machine.{TermFrame, TermExpectation, Wants, HasBrace, HasName, Has, HasStar, HasStarTilde, fold_to, term_ended, expression_step}
 use Rattle.cat_grammar.specs.ItemMachine as items
-use Rattle.cat_grammar.specs.ItemMachine.{Keyword, Named, And, Parameter, AfterParameter, Parameters, Head, Part, Start, InLet, AfterFlag, AfterTilde, Body, Label, ShowLabel, AfterShowLabel, AfterInclude, Done, Fault, Here, ItemState, excess, unless, item_or_end, finished, shown_clause, at, added, goes_on, step_part, step, start}
+use Rattle.cat_grammar.specs.ItemMachine.{Keyword, Named, And, Parameter, AfterParameter, Parameters, Head, Part, Start, InLet, AfterFlag, AfterTilde, Body, Label, ShowLabel, AfterShowLabel, AfterInclude, Done, Fault, Here, ItemState, excess, unless, item_or_end, finished, shown_clause, at, added, goes_on, step_part, clause_step, clause_start}
 use Rattle.cat_grammar.proofs.Runs.{◌>>=◌, run_over}
 use Rattle.cat_grammar.proofs.Finishes.{has_offset, begins, takes}
 use Rattle.cat_grammar.proofs.Shapes.{KnowsPart, Gate, Nest, Operate, Count, Names, Takes, passes, gate_fault, StepShape, Always, Where, step_shape}
@@ -37,12 +37,12 @@ module _ (r : CatRule) (most : Limits) (form : Form) (cs : List Clause) where
   added_refused (Err e) = tt
 
   ended_refused : (h : Head) (fs : List TermFrame) (v : Term)
-      → IsRefused (goes_on most form cs h (tokens.Broken r) (ended (tokens.Broken r) (fs, v)))
+      → IsRefused (goes_on most form cs h (tokens.Broken r) (term_ended (tokens.Broken r) (fs, v)))
   ended_refused h [] v = added_refused (finished h v r)
   ended_refused h (f ∷ fs) v = tt
 
   folded_refused : (h : Head) (p : List TermFrame × Term)
-      → IsRefused (goes_on most form cs h (tokens.Broken r) (ended (tokens.Broken r) p))
+      → IsRefused (goes_on most form cs h (tokens.Broken r) (term_ended (tokens.Broken r) p))
   folded_refused h (fs, v) = ended_refused h fs v
 
   body_refused : (h : Head) (fs : List TermFrame) (used : ℕ) (expected : TermExpectation)
@@ -106,12 +106,12 @@ module _ (form : Form) where
   -- the state before the last token
   last_step : (most : Limits) (s : ItemState) (ts : List Token) (t : Token) (end : ItemState)
       → run_over most form s (ts ++ t ∷ []) ≡ Ok end
-      → (u : ItemState) × (run_over most form s ts ≡ Ok u) × (step most form u t ≡ Ok end)
+      → (u : ItemState) × (run_over most form s ts ≡ Ok u) × (clause_step most form u t ≡ Ok end)
   last_step most s [] t end e =
-      let f = first_step (step most form s t) (λ x. Ok x) end e in
+      let f = first_step (clause_step most form s t) (λ x. Ok x) end e in
       (s, refl, f.by ∙ f.on)
   last_step most s (x ∷ ts) t end e =
-      let f = first_step (step most form s x) (λ y. run_over most form y (ts ++ t ∷ [])) end e in
+      let f = first_step (clause_step most form s x) (λ y. run_over most form y (ts ++ t ∷ [])) end e in
       let r = last_step most f.state ts t end f.on in
       (r.0, ap (λ (y : Result ItemState Fault). y >>= λ z. run_over most form z ts) f.by ∙ r.1, r.2)
 
@@ -120,13 +120,13 @@ module _ (form : Form) where
       → BeginsForm most form (ts ++ tokens.Broken r ∷ []) → ⊥
   broken_nowhere most ts r b =
       let taken = takes most form (ts ++ tokens.Broken r ∷ []) b in
-      let l = last_step most (start form) ts (tokens.Broken r) taken.0 taken.1 in
+      let l = last_step most (clause_start form) ts (tokens.Broken r) taken.0 taken.1 in
       subst IsRefused l.2 (part_refused r most form l.0.items l.0.part)
 
-  start_knows : KnowsPart (tokens.End, tokens.End) (start form).part
+  start_knows : KnowsPart (tokens.End, tokens.End) (clause_start form).part
   start_knows = by_form form
     where
-      by_form : (f : Form) → KnowsPart (tokens.End, tokens.End) (start f).part
+      by_form : (f : Form) → KnowsPart (tokens.End, tokens.End) (clause_start f).part
       by_form forms.Model = (((refl, refl), refl), refl)
       by_form forms.Item = (((refl, refl), refl), refl)
 
@@ -141,27 +141,27 @@ module _ (form : Form) where
     passes_both (Takes n) x y = ap (nat_lt n) counts.2 ∙ y
 
     record Both (p : Token × Token) (t : Token) (s x y : ItemState) : Type 0 where
-      taken : step most form s t ≡ Ok x
+      taken : clause_step most form s t ≡ Ok x
       same : y ≡ x
       known : KnowsPart (p.1, t) x.part
 
     step_both : (p : Token × Token) (s : ItemState) (t : Token) (x y : ItemState) → KnowsPart p s.part
-        → step a form s t ≡ Ok x → step b form s t ≡ Ok y → Both p t s x y
+        → clause_step a form s t ≡ Ok x → clause_step b form s t ≡ Ok y → Both p t s x y
     step_both p s t x y k e h = by_shape (step_shape form p s t k)
       where
-        by_state : (z : ItemState) → step most form s t ≡ Ok z → step a form s t ≡ Ok z
-            → step b form s t ≡ Ok z → KnowsPart (p.1, t) z.part → Both p t s x y
+        by_state : (z : ItemState) → clause_step most form s t ≡ Ok z → clause_step a form s t ≡ Ok z
+            → clause_step b form s t ≡ Ok z → KnowsPart (p.1, t) z.part → Both p t s x y
         by_state z m f g known =
             let first = kept_is z x (sym f ∙ e) in
             let second = kept_is z y (sym g ∙ h) in
             record { taken = m ∙ ap kept first; same = sym second ∙ first; known = subst (λ (w : ItemState). KnowsPart (p.1, t) w.part) first known }
 
         by_gate : (g : Gate) (z : ItemState) (d : Fault)
-            → ((c : Limits) → step c form s t ≡ gated (passes g c) z d) → KnowsPart (p.1, t) z.part
+            → ((c : Limits) → clause_step c form s t ≡ gated (passes g c) z d) → KnowsPart (p.1, t) z.part
             → Both p t s x y
         by_gate g z d q known = by_tests (passes g a) (passes g b) refl refl
           where
-            at_test : (c : Limits) (v : Bool) → passes g c ≡ v → step c form s t ≡ gated v z d
+            at_test : (c : Limits) (v : Bool) → passes g c ≡ v → clause_step c form s t ≡ gated v z d
             at_test c v i = q c ∙ ap (λ (w : Bool). gated w z d) i
 
             by_tests : (v w : Bool) → passes g a ≡ v → passes g b ≡ w → Both p t s x y
@@ -171,7 +171,7 @@ module _ (form : Form) where
             by_tests false w i j = absurd (not_both d x (sym (at_test a false i) ∙ e))
             by_tests true false i j = absurd (not_both d y (sym (at_test b false j) ∙ h))
 
-        by_shape : StepShape p t (λ c. step c form s t) → Both p t s x y
+        by_shape : StepShape p t (λ c. clause_step c form s t) → Both p t s x y
         by_shape (Always (Ok z) q known) = by_state z (q most) (q a) (q b) known
         by_shape (Always (Err d) q known) = absurd (not_both d x (sym (q a) ∙ e))
         by_shape (Where g z q own known offset) =
@@ -182,8 +182,8 @@ module _ (form : Form) where
         → (run_over most form s ts ≡ Ok x) × KnowsPart (last_two p.0 p.1 ts) x.part
     run_both p s [] x y k e h = (e, subst (λ (z : ItemState). KnowsPart p z.part) (kept_is s x e) k)
     run_both p s (t ∷ ts) x y k e h =
-        let f = first_step (step a form s t) (λ z. run_over a form z ts) x e in
-        let g = first_step (step b form s t) (λ z. run_over b form z ts) y h in
+        let f = first_step (clause_step a form s t) (λ z. run_over a form z ts) x e in
+        let g = first_step (clause_step b form s t) (λ z. run_over b form z ts) y h in
         let n = step_both p s t f.state g.state k f.by g.by in
         let r = run_both (p.1, t) f.state ts x y n.known f.on (subst (λ (z : ItemState). run_over b form z ts ≡ Ok y) n.same g.on) in
         (ap (λ (z : Result ItemState Fault). z >>= λ w. run_over most form w ts) n.taken ∙ r.0, r.1)
@@ -240,16 +240,16 @@ pub stands_by_both : (most : Limits) (form : Form) (ts : List Token) (t : Token)
 stands_by_both most form ts t a b some one two depths counts more deeper =
     let x = takes a form (ts ++ t ∷ []) more in
     let y = takes b form (ts ++ t ∷ []) deeper in
-    let both = run_both form most a b depths counts (tokens.End, tokens.End) (start form) (ts ++ t ∷ []) x.0 y.0 (start_knows form) x.1 y.1 in
+    let both = run_both form most a b depths counts (tokens.End, tokens.End) (clause_start form) (ts ++ t ∷ []) x.0 y.0 (start_knows form) x.1 y.1 in
     choose x.0 both.0 both.1 (has_offset most x.0.part) refl
   where
-    choose : (x : ItemState) → run_over most form (start form) (ts ++ t ∷ []) ≡ Ok x
+    choose : (x : ItemState) → run_over most form (clause_start form) (ts ++ t ∷ []) ≡ Ok x
         → KnowsPart (last_two tokens.End tokens.End (ts ++ t ∷ [])) x.part → (v : Bool)
         → has_offset most x.part ≡ v → CanStand most form (ts ++ t ∷ [])
     choose x all known true offset =
         BeginsText (begins most form (ts ++ t ∷ []) x some one all offset)
     choose x all known false offset =
-        let l = last_step form most (start form) ts t x all in
+        let l = last_step form most (clause_start form) ts t x all in
         BeforeAName (record {
           earlier = ts;
           separator = t;

@@ -1,11 +1,11 @@
 -- Each text has one fault, if any, and means nothing where it has one.
 use Rattle.std.proofs.Common.{ℕ, ◌<◌, true, false, List, map, None, arith}
-use Rattle.cat_tokens.specs.Lexer.{lexing as cat_lexed}
+use Rattle.cat_tokens.specs.Lexer.{model_lexing as cat_lexed}
 use Rattle.cat_grammar.specs.declared.form.Form.{Form}
 use Rattle.cat_grammar.proofs.Outcomes.{no_fault}
 use Rattle.cat_grammar.specs.Reads as cat
 use Rattle.litmus_tokens.specs.declared.stage.Stage.TheVariants.{Magic, Init, CellBegins, Tail}
-use Rattle.litmus_tokens.specs.Conditions.{limits, place_meaning, formula_meaning, IsConditionText}
+use Rattle.litmus_tokens.specs.Conditions.{condition_limits, place_meaning, tree_formula, IsConditionText}
 use Rattle.litmus_table.specs.Grammar.{thread_meaning}
 use Rattle.text_values.specs.declared.test.InitEntry.{InitEntry}
 use Rattle.text_values.specs.declared.test.Place.{Place}
@@ -24,11 +24,11 @@ use Rattle.text_reading_laws.proofs.CatFaults.{one_fault}
 module _ (bytes : List ℕ) where
   pub one_test_fault : HasOneTextFault (IsTestFault bytes)
   one_test_fault =
-      litmus.one_start_fault (IsTestText limits) Magic late_of_test bytes (test_finds_one bytes)
+      litmus.one_start_fault (IsTestText condition_limits) Magic late_of_test bytes (test_finds_one bytes)
 
   pub test_apart : AreExclusive (ReadsTest bytes) (IsTestFault bytes)
   test_apart =
-      litmus.no_start_meaning (IsTestText limits) Magic late_of_test bytes (test_finds_one bytes)
+      litmus.no_start_meaning (IsTestText condition_limits) Magic late_of_test bytes (test_finds_one bytes)
       Content (λ ts t. test_meaning t.tree)
 
   pub one_thread_fault : HasOneTextFault (IsThreadFault bytes)
@@ -57,12 +57,12 @@ module _ (threads : ℕ) (bytes : List ℕ) where
 
   pub one_condition_fault : HasOneTextFault (IsConditionFault threads bytes)
   one_condition_fault =
-      litmus.one_fault (IsConditionText limits threads) Tail (λ ts t. None) bytes (λ le x y. tt)
+      litmus.one_fault (IsConditionText condition_limits threads) Tail (λ ts t. None) bytes (λ le x y. tt)
 
   pub condition_apart : AreExclusive (ReadsCondition threads bytes) (IsConditionFault threads bytes)
   condition_apart =
-      litmus.no_meaning (IsConditionText limits threads) Tail (λ ts t. None) bytes (λ le x y. tt)
-      (Quantifier × Formula) (λ ts t. (t.quantifier, formula_meaning t.condition))
+      litmus.no_meaning (IsConditionText condition_limits threads) Tail (λ ts t. None) bytes (λ le x y. tt)
+      (Quantifier × Formula) (λ ts t. (t.quantifier, tree_formula t.condition))
 
   pub one_locations_fault : HasOneTextFault (IsLocationsFault threads bytes)
   one_locations_fault =
@@ -79,7 +79,7 @@ pub one_model_fault : (form : Form) (bytes : List ℕ) → HasOneTextFault (cat.
 one_model_fault = one_fault
 
 pub model_apart : (form : Form) (bytes : List ℕ)
-    → AreExclusive (cat.Reads form bytes) (cat.FaultAt form bytes)
+    → AreExclusive (cat.ReadsClauses form bytes) (cat.FaultAt form bytes)
 model_apart form bytes v rule offset r (cat.IsLong more k n) =
     let short = r.short in absurd (omega arith)
 model_apart form bytes v rule offset r (cat.InText le f) =

@@ -4,17 +4,17 @@ use Rattle.std.specs.Prelude.{if◌then◌else◌}
 use Rattle.litmus_tokens.specs.declared.rule.LitmusRule.TheVariants as rules
 use Rattle.litmus_tokens.specs.declared.token.Token.TheVariants as tokens
 use Rattle.litmus_tokens.specs.declared.token.Mark.TheVariants as marks_of
-use Rattle.litmus_tokens.specs.Texts.{TokenAt, tokens_of, lexing, StandsAt}
-use Rattle.litmus_tokens.specs.Conditions.{limits, place_meaning, formula_meaning}
+use Rattle.litmus_tokens.specs.Texts.{TokenAt, test_tokens_of, test_lexing, StandsAt}
+use Rattle.litmus_tokens.specs.Conditions.{condition_limits, place_meaning, tree_formula}
 use Rattle.litmus_table.specs.Late.{Late, Note, Defines, Branches, or_else, is_in, defined, late_notes, first_late, columns_notes, thread_notes, late_columns}
-use Rattle.litmus_table.specs.Laws.{Mark, Defined, Branched, marks, AreMarks, AreNoted}
+use Rattle.litmus_table.specs.Laws.{LabelMark, Defined, Branched, label_marks, AreMarks, AreNoted}
 use Rattle.litmus_table.specs.Machine.{ThreadSteps}
 use Rattle.text_values.specs.declared.test.Step.{Step}
 use Rattle.text_values.specs.declared.test.InitEntry.{InitEntry}
 use Rattle.litmus_grammar.specs.declared.parts.TextKind.TheVariants as kinds
 use Rattle.litmus_grammar.specs.Grammar.{members, TestTree, IsTestText, IsInitText, IsThreadText}
 use Rattle.litmus_grammar.specs.InitMachine.{missing}
-use Rattle.litmus_grammar.specs.Laws.{entry_kept, AreStarts}
+use Rattle.litmus_grammar.specs.Laws.{entry_kept, AreEntryStarts}
 use Rattle.litmus_grammar.specs.TextMachine as text
 use Rattle.litmus_grammar.specs.TextMachine.{TextState, threads_in, first_stage}
 use Rattle.litmus_grammar.specs.Texts.{late_entries, late_of_test, late_of_init, late_of_thread, before_entries, before_rows}
@@ -40,7 +40,7 @@ module _ (ps : List TokenAt) where
       (w ≡ v) × (n : ℕ) × StandsAt ps before n × StandsAt ps other n × AreSame ns ks
   AreSame ns ks = ⊥
 
-  notes_same : (ns ks : List Note) (ms : List Mark) → AreMarks ps ns ms → AreMarks ps ks ms
+  notes_same : (ns ks : List Note) (ms : List LabelMark) → AreMarks ps ns ms → AreMarks ps ks ms
       → AreSame ns ks
   notes_same [] [] ms a b = tt
   notes_same [] (k ∷ ks) [] a b = by_note k b
@@ -136,7 +136,7 @@ module _ (ps : List TokenAt) where
   columns_alike (ns ∷ nss) [] (t ∷ ts) a b = absurd b
   columns_alike (ns ∷ nss) (ks ∷ kss) (t ∷ ts) a b =
       or_alike (late_notes [] ns) (first_late nss) (late_notes [] ks) (first_late kss)
-      (notes_alike [] ns ks (notes_same ns ks (marks t.steps t.offsets) a.0.marked b.0.marked))
+      (notes_alike [] ns ks (notes_same ns ks (label_marks t.steps t.offsets) a.0.marked b.0.marked))
       (columns_alike nss kss ts a.1 b.1)
 
   matches_alike : (a b : Option Late) (n : Option ℕ) → Matches ps a n → Matches ps b n
@@ -162,7 +162,7 @@ late_labels t = late_columns 0 (t.others + 1) (before_rows t) t.rows
 
 module _ (bytes : List ℕ) (le : length bytes ≤ 65536) where
   abbrev of_test : List TokenAt
-  of_test = lexing (first_stage kinds.Test) bytes
+  of_test = test_lexing (first_stage kinds.Test) bytes
 
   few_tokens : length of_test < 18446744073709551616
   few_tokens = let h = lexed_length (first_stage kinds.Test) bytes in omega (arith, h, le)
@@ -176,7 +176,7 @@ module _ (bytes : List ℕ) (le : length bytes ≤ 65536) where
   keeps_by : (t : TestTree) → t.others + 1 < 18446744073709551616 → (r : TakesTest of_test t)
       → Keeps
       (test_at r.stage text.Done (with_all t.name r.block r.reached
-      (map place_meaning (members t.observed)) t.quantifier (formula_meaning t.condition))) t
+      (map place_meaning (members t.observed)) t.quantifier (tree_formula t.condition))) t
   keeps_by t few r =
       let many : t.others + 1 ≡ length r.reached.threads = sym (sym (length-steps r.reached.threads) ∙ ap (λ (l : List (List Step)). length l) r.meant ∙ length-meaning 0 (t.others + 1) t.rows) in
       let m = late_matches (t.others + 1) few of_test (before_entries t) (members t.init) r.block.starts r.stand in
@@ -192,8 +192,8 @@ module _ (bytes : List ℕ) (le : length bytes ≤ 65536) where
         labels = r.noted;
       }
 
-  pub test_finds_one : (x y : IsTestText limits (tokens_of of_test))
-      → AreAlike of_test (late_of_test (tokens_of of_test) x) (late_of_test (tokens_of of_test) y)
+  pub test_finds_one : (x y : IsTestText condition_limits (test_tokens_of of_test))
+      → AreAlike of_test (late_of_test (test_tokens_of of_test) x) (late_of_test (test_tokens_of of_test) y)
   test_finds_one x y =
       let few_x = few_of x.tree of_test x.whole few_tokens in
       let few_y = few_of y.tree of_test y.whole few_tokens in
@@ -201,7 +201,7 @@ module _ (bytes : List ℕ) (le : length bytes ≤ 65536) where
       let q = test_led y.tree y.fine few_y of_test y.whole in
       let a = keeps_by x.tree few_x r in
       let b = subst (λ (s : TextState). Keeps s y.tree) (same_state _ _ (sym q.by ∙ r.by)) (keeps_by y.tree few_y q) in
-      let s = test_at r.stage text.Done (with_all x.tree.name r.block r.reached (map place_meaning (members x.tree.observed)) x.tree.quantifier (formula_meaning x.tree.condition)) in
+      let s = test_at r.stage text.Done (with_all x.tree.name r.block r.reached (map place_meaning (members x.tree.observed)) x.tree.quantifier (tree_formula x.tree.condition)) in
       or_alike of_test (late_init x.tree) (late_labels x.tree) (late_init y.tree)
       (late_labels y.tree)
       (matches_alike of_test (late_init x.tree) (late_init y.tree) (missing_in s) a.matches
@@ -214,15 +214,15 @@ module _ (bytes : List ℕ) (le : length bytes ≤ 65536) where
 
 module _ (bytes : List ℕ) where
   abbrev of_thread : List TokenAt
-  of_thread = lexing (first_stage kinds.Thread) bytes
+  of_thread = test_lexing (first_stage kinds.Thread) bytes
 
   alone : (o : Option Late) → or_else o None ≡ o
   alone None = refl
   alone (Some l) = refl
 
-  pub thread_finds_one : (x y : IsThreadText (tokens_of of_thread))
-      → AreAlike of_thread (late_of_thread (tokens_of of_thread) x)
-      (late_of_thread (tokens_of of_thread) y)
+  pub thread_finds_one : (x y : IsThreadText (test_tokens_of of_thread))
+      → AreAlike of_thread (late_of_thread (test_tokens_of of_thread) x)
+      (late_of_thread (test_tokens_of of_thread) y)
   thread_finds_one x y =
       let t = thread_taken 1 of_thread x in
       let u = thread_taken 1 of_thread y in
@@ -240,33 +240,33 @@ module _ (bytes : List ℕ) where
 
 module _ (threads : ℕ) (few : threads < 18446744073709551616) (bytes : List ℕ) where
   abbrev of_init : List TokenAt
-  of_init = lexing (first_stage kinds.Init) bytes
+  of_init = test_lexing (first_stage kinds.Init) bytes
 
-  abbrev Holds : TextState → (x : IsInitText (tokens_of of_init)) → Type 0
+  abbrev Holds : TextState → (x : IsInitText (test_tokens_of of_init)) → Type 0
   Holds s x =
-      AreStarts of_init (tokens.Mark marks_of.OpenBrace ∷ []) (members x.entries)
+      AreEntryStarts of_init (tokens.Mark marks_of.OpenBrace ∷ []) (members x.entries)
       s.draft.init.starts × (s.draft.init.entries ≡ map entry_kept (members x.entries))
 
-  matches_of : (s : TextState) (x : IsInitText (tokens_of of_init)) → Holds s x
-      → Matches of_init (late_of_init threads (tokens_of of_init) x)
+  matches_of : (s : TextState) (x : IsInitText (test_tokens_of of_init)) → Holds s x
+      → Matches of_init (late_of_init threads (test_tokens_of of_init) x)
       (missing threads s.draft.init.entries s.draft.init.starts)
   matches_of s x h =
       subst
-      (λ (es : List InitEntry). Matches of_init (late_of_init threads (tokens_of of_init) x)
+      (λ (es : List InitEntry). Matches of_init (late_of_init threads (test_tokens_of of_init) x)
       (missing threads es s.draft.init.starts))
       (sym h.1)
       (late_matches threads few of_init (tokens.Mark marks_of.OpenBrace ∷ []) (members x.entries)
       s.draft.init.starts h.0)
 
-  pub init_finds_one : (x y : IsInitText (tokens_of of_init))
-      → AreAlike of_init (late_of_init threads (tokens_of of_init) x)
-      (late_of_init threads (tokens_of of_init) y)
+  pub init_finds_one : (x y : IsInitText (test_tokens_of of_init))
+      → AreAlike of_init (late_of_init threads (test_tokens_of of_init) x)
+      (late_of_init threads (test_tokens_of of_init) y)
   init_finds_one x y =
       let t = init_taken threads x.entries of_init x.fine x.whole in
       let u = init_taken threads y.entries of_init y.fine y.whole in
       let same : u.state ≡ t.state = same_state u.state t.state (sym u.by ∙ t.by) in
-      matches_alike of_init (late_of_init threads (tokens_of of_init) x)
-      (late_of_init threads (tokens_of of_init) y) (missing threads t.state.draft.init.entries
+      matches_alike of_init (late_of_init threads (test_tokens_of of_init) x)
+      (late_of_init threads (test_tokens_of of_init) y) (missing threads t.state.draft.init.entries
       t.state.draft.init.starts)
       (matches_of t.state x (t.stand, t.entries)) (matches_of t.state y
       (subst (λ (s : TextState). Holds s y) same (u.stand, u.entries)))

@@ -3,10 +3,10 @@ use Rattle.std.proofs.Common.{◌≡◌, ℕ, ◌≤◌, List, [], ◌∷◌, �
 use Rattle.litmus_tokens.specs.declared.rule.LitmusRule.{LitmusRule}
 use Rattle.litmus_tokens.specs.declared.stage.Stage.{Stage}
 use Rattle.litmus_tokens.specs.declared.token.Token.{Token}
-use Rattle.litmus_tokens.specs.Texts.{TokenAt, tokens_of, stage_after, lexing, StandsAt}
+use Rattle.litmus_tokens.specs.Texts.{TokenAt, test_tokens_of, stage_after, test_lexing, StandsAt}
 use Rattle.litmus_tokens.specs.Faults.{Begins, CanFollow, Ruling, Always, Where, ruling, RulingSays, IsFault}
 use Rattle.litmus_table.specs.Late.{Late}
-use Rattle.litmus_grammar.specs.Texts.{IsStart, IsWhole, BreaksOff, late_of_start, Reads, IsLateFault, IsFaultAt, IsTooLong, IsGrammar, IsLater}
+use Rattle.litmus_grammar.specs.Texts.{IsStart, IsWhole, BreaksOff, late_of_start, ReadsText, IsLateFault, IsFaultAt, IsTooLong, IsGrammar, IsLater}
 use Rattle.litmus_grammar.proofs.Runs.{tokens_of-append}
 use Rattle.text_reading_laws.proofs.Lists.{Cut, Same, Before, Behind, cut}
 
@@ -19,11 +19,11 @@ module _ (IsText : List Token → Type 0) where
 
   -- what stands before a token that can stand can stand itself
   stands_before : (first second middle : List TokenAt) (here : TokenAt)
-      → second ≡ first ++ here ∷ middle → Begins IsText (tokens_of second)
-      → CanFollow IsText (tokens_of first) here.token
+      → second ≡ first ++ here ∷ middle → Begins IsText (test_tokens_of second)
+      → CanFollow IsText (test_tokens_of first) here.token
   stands_before first second middle here e b =
-      let are : tokens_of second ≡ (tokens_of first ++ here.token ∷ []) ++ tokens_of middle = ap tokens_of e ∙ tokens_of-append first (here ∷ middle) ∙ sym (append_assoc (tokens_of first) (here.token ∷ []) (tokens_of middle)) in
-      begins_prefix (tokens_of first ++ here.token ∷ []) (tokens_of middle)
+      let are : test_tokens_of second ≡ (test_tokens_of first ++ here.token ∷ []) ++ test_tokens_of middle = ap test_tokens_of e ∙ tokens_of-append first (here ∷ middle) ∙ sym (append_assoc (test_tokens_of first) (here.token ∷ []) (test_tokens_of middle)) in
+      begins_prefix (test_tokens_of first ++ here.token ∷ []) (test_tokens_of middle)
       (subst (Begins IsText) are b)
 
   says_one : (CanStand : Token → Type 0) (s : Stage) (r : Ruling) (k l : LitmusRule)
@@ -37,16 +37,16 @@ module _ (IsText : List Token → Type 0) where
   -- the rule that this token breaks after these
   abbrev Breaks : Stage → List TokenAt → TokenAt → LitmusRule → Type 0
   Breaks start before here rule =
-      RulingSays (CanFollow IsText (tokens_of before)) (stage_after start (tokens_of before))
-      (ruling (stage_after start (tokens_of before)) here.token) rule
+      RulingSays (CanFollow IsText (test_tokens_of before)) (stage_after start (test_tokens_of before))
+      (ruling (stage_after start (test_tokens_of before)) here.token) rule
 
   breaks_one : (start : Stage) (before other : List TokenAt) (here there : TokenAt)
       (k l : LitmusRule) → before ≡ other → here ≡ there → Breaks start before here k
       → Breaks start other there l → k ≡ l
   breaks_one start before other here there k l prefixes ends a b =
       let moved : Breaks start before here l = subst (λ (p : TokenAt). Breaks start before p l) (sym ends) (subst (λ (ps : List TokenAt). Breaks start ps there l) (sym prefixes) b) in
-      says_one (CanFollow IsText (tokens_of before)) (stage_after start (tokens_of before))
-      (ruling (stage_after start (tokens_of before)) here.token) k l a moved
+      says_one (CanFollow IsText (test_tokens_of before)) (stage_after start (test_tokens_of before))
+      (ruling (stage_after start (test_tokens_of before)) here.token) k l a moved
 
   pub first_one : (start : Stage) (ps : List TokenAt) (rule other : LitmusRule) (offset again : ℕ)
       → IsFault IsText start ps rule offset → IsFault IsText start ps other again
@@ -67,10 +67,10 @@ module _ (IsText : List Token → Type 0) where
 
   -- each token of a text can stand
   pub stands_all : (start : Stage) (ps : List TokenAt) (rule : LitmusRule) (offset : ℕ)
-      → IsText (tokens_of ps) → IsFault IsText start ps rule offset → ⊥
+      → IsText (test_tokens_of ps) → IsFault IsText start ps rule offset → ⊥
   stands_all start ps rule offset text f =
-      let are : tokens_of ps ≡ (tokens_of f.before ++ f.here.token ∷ []) ++ tokens_of f.behind = ap tokens_of f.split ∙ tokens_of-append f.before (f.here ∷ f.behind) ∙ sym (append_assoc (tokens_of f.before) (f.here.token ∷ []) (tokens_of f.behind)) in
-      f.ends (record { rest = tokens_of f.behind; text = subst IsText are text })
+      let are : test_tokens_of ps ≡ (test_tokens_of f.before ++ f.here.token ∷ []) ++ test_tokens_of f.behind = ap test_tokens_of f.split ∙ tokens_of-append f.before (f.here ∷ f.behind) ∙ sym (append_assoc (test_tokens_of f.before) (f.here.token ∷ []) (test_tokens_of f.behind)) in
+      f.ends (record { rest = test_tokens_of f.behind; text = subst IsText are text })
 
 -- ---- the later checks
 
@@ -82,15 +82,15 @@ AreAlike ps (Some l) (Some k) =
 AreAlike ps l k = ⊥
 
 same_here : (first second others rest : List TokenAt) (x y : TokenAt)
-    → (first ++ x ∷ others) ≡ (second ++ y ∷ rest) → tokens_of first ≡ tokens_of second → x ≡ y
+    → (first ++ x ∷ others) ≡ (second ++ y ∷ rest) → test_tokens_of first ≡ test_tokens_of second → x ≡ y
 same_here [] [] others rest x y e t = let h : x ≡ y = cc in h
 same_here [] (z ∷ second) others rest x y e t =
-    absurd (let h : [] ≡ z.token ∷ tokens_of second = t in cc)
+    absurd (let h : [] ≡ z.token ∷ test_tokens_of second = t in cc)
 same_here (z ∷ first) [] others rest x y e t =
-    absurd (let h : z.token ∷ tokens_of first ≡ [] = t in cc)
+    absurd (let h : z.token ∷ test_tokens_of first ≡ [] = t in cc)
 same_here (z ∷ first) (w ∷ second) others rest x y e t =
     let tails : (first ++ x ∷ others) ≡ (second ++ y ∷ rest) = cc in
-    let tokens : tokens_of first ≡ tokens_of second = cc in
+    let tokens : test_tokens_of first ≡ test_tokens_of second = cc in
     same_here first second others rest x y tails tokens
 
 -- tokens lead to one offset
@@ -114,20 +114,20 @@ found_one ps l k rule other offset again a r q x y = (
 module _ (IsText : List Token → Type 0) (start : Stage)
     (late : (ts : List Token) → IsText ts → Option Late) (bytes : List ℕ) where
   abbrev ps : List TokenAt
-  ps = lexing start bytes
+  ps = test_lexing start bytes
 
   -- of the tokens, which may be a text in two ways, the later checks find one thing
   abbrev pub FindsOne : Type 0
   FindsOne =
-      length bytes ≤ 65536 → (x y : IsText (tokens_of ps))
-      → AreAlike ps (late (tokens_of ps) x) (late (tokens_of ps) y)
+      length bytes ≤ 65536 → (x y : IsText (test_tokens_of ps))
+      → AreAlike ps (late (test_tokens_of ps) x) (late (test_tokens_of ps) y)
 
   module _ (finds : FindsOne) where
     late_one : (rule other : LitmusRule) (offset again : ℕ) → length bytes ≤ 65536
         → IsLateFault IsText start late bytes rule offset
         → IsLateFault IsText start late bytes other again → (rule ≡ other) × (offset ≡ again)
     late_one rule other offset again le f g =
-        let alike = subst (λ (o : Option Late). AreAlike ps (Some f.found) o) g.is_found (subst (λ (o : Option Late). AreAlike ps o (late (tokens_of ps) g.text)) f.is_found (finds le f.text g.text)) in
+        let alike = subst (λ (o : Option Late). AreAlike ps (Some f.found) o) g.is_found (subst (λ (o : Option Late). AreAlike ps o (late (test_tokens_of ps) g.text)) f.is_found (finds le f.text g.text)) in
         found_one ps f.found g.found rule other offset again alike f.rule_is g.rule_is f.stands
         g.stands
 
@@ -153,15 +153,15 @@ module _ (IsText : List Token → Type 0) (start : Stage)
     late_unread l k alike none = subst (λ (o : Option Late). AreAlike ps o (Some k)) none alike
 
     pub no_meaning : (V : Type 0) (value : (ts : List Token) → IsText ts → V) (v : V)
-        (rule : LitmusRule) (offset : ℕ) → Reads IsText start late value bytes v
+        (rule : LitmusRule) (offset : ℕ) → ReadsText IsText start late value bytes v
         → IsFaultAt IsText start late bytes rule offset → ⊥
     no_meaning V value v rule offset r (IsTooLong more k n) =
         let short = r.short in absurd (omega arith)
     no_meaning V value v rule offset r (IsGrammar le f) =
         stands_all IsText start ps rule offset r.text f
     no_meaning V value v rule offset r (IsLater le f) =
-        late_unread (late (tokens_of ps) r.text) f.found
-        (subst (λ (o : Option Late). AreAlike ps (late (tokens_of ps) r.text) o) f.is_found
+        late_unread (late (test_tokens_of ps) r.text) f.found
+        (subst (λ (o : Option Late). AreAlike ps (late (test_tokens_of ps) r.text) o) f.is_found
         (finds le r.text f.text)) r.in_time
 
 -- ---- where the text may break off within an entry
@@ -170,11 +170,11 @@ module _ (IsText : List Token → Type 0) (start : Stage)
     (late : (ts : List Token) → IsText ts → Option Late) (bytes : List ℕ)
     (finds : FindsOne IsText start late bytes) where
   abbrev own : List TokenAt
-  own = lexing start bytes
+  own = test_lexing start bytes
 
-  whole_found : (x : IsStart IsText start (tokens_of own)) (l : Late)
-      → late_of_start late (tokens_of own) x ≡ Some l
-      → (y : IsText (tokens_of own)) × (late (tokens_of own) y ≡ Some l)
+  whole_found : (x : IsStart IsText start (test_tokens_of own)) (l : Late)
+      → late_of_start late (test_tokens_of own) x ≡ Some l
+      → (y : IsText (test_tokens_of own)) × (late (test_tokens_of own) y ≡ Some l)
   whole_found (IsWhole y) l e = (y, e)
   whole_found (BreaksOff b) l e = absurd cc
 
@@ -208,7 +208,7 @@ module _ (IsText : List Token → Type 0) (start : Stage)
       (whole_fault other again g)
 
   pub no_start_meaning : (V : Type 0) (value : (ts : List Token) → IsText ts → V) (v : V)
-      (rule : LitmusRule) (offset : ℕ) → Reads IsText start late value bytes v
+      (rule : LitmusRule) (offset : ℕ) → ReadsText IsText start late value bytes v
       → IsFaultAt (IsStart IsText start) start (late_of_start late) bytes rule offset → ⊥
   no_start_meaning V value v rule offset r (IsTooLong more k n) =
       let short = r.short in absurd (omega arith)

@@ -1,15 +1,15 @@
 -- Each text means one thing.
 use Rattle.std.proofs.Common.{◌≡◌, ℕ, ◌+◌, ◌<◌, List, length, Result, Ok, Err, refl, sym, ap, ◌∙◌, arith}
 use Rattle.cat_tokens.specs.declared.rule.CatRule.{CatRule}
-use Rattle.cat_tokens.specs.Lexer.{lexing as cat_lexed}
+use Rattle.cat_tokens.specs.Lexer.{model_lexing as cat_lexed}
 use Rattle.cat_grammar.specs.declared.form.Form.{Form}
-use Rattle.cat_grammar.specs.Grammar.{limits as cat_limits}
-use Rattle.cat_grammar.specs.ItemMachine.{start as cat_start}
-use Rattle.cat_grammar.specs.Running.{run as cat_run, items_of}
+use Rattle.cat_grammar.specs.Grammar.{model_limits as cat_limits}
+use Rattle.cat_grammar.specs.ItemMachine.{clause_start as cat_start}
+use Rattle.cat_grammar.specs.Running.{run_items as cat_run, items_of}
 use Rattle.cat_grammar.proofs.Outcomes.{fault_found, items_only, no_fault}
-use Rattle.cat_grammar.specs.Reads.{Reads}
+use Rattle.cat_grammar.specs.Reads.{ReadsClauses}
 use Rattle.text_values.specs.ModelValue.{Clause}
-use Rattle.litmus_tokens.specs.Texts.{lexing}
+use Rattle.litmus_tokens.specs.Texts.{test_lexing}
 use Rattle.text_values.specs.declared.test.InitEntry.{InitEntry}
 use Rattle.text_values.specs.declared.test.Place.{Place}
 use Rattle.text_values.specs.declared.test.Step.{Step}
@@ -17,7 +17,7 @@ use Rattle.text_values.specs.declared.test.Quantifier.{Quantifier}
 use Rattle.text_values.specs.TestValue.{Content, Formula}
 use Rattle.litmus_grammar.specs.declared.parts.TextKind.{TextKind}
 use Rattle.litmus_grammar.specs.declared.parts.TextKind.TheVariants as kinds
-use Rattle.litmus_grammar.specs.TextMachine.{TextResult, run, start, first_stage}
+use Rattle.litmus_grammar.specs.TextMachine.{TextResult, run_parts, text_start, first_stage}
 use Rattle.litmus_grammar.specs.Texts.{ReadsTest, ReadsInit, ReadsThread, ReadsCondition, ReadsLocations}
 use Rattle.litmus_grammar.proofs.Bodies.{length-meaning}
 use Rattle.litmus_grammar.proofs.Heads.{few_of}
@@ -30,7 +30,7 @@ use Rattle.litmus_ppc.proofs.InitReaders.{init_only, init_only_memory}
 use Rattle.litmus_ppc.proofs.TestReader.{test_only, test_only_memory}
 
 abbrev machine : TextKind → ℕ → List ℕ → TextResult
-machine kind threads bytes = run (start kind threads) (lexing (first_stage kind) bytes)
+machine kind threads bytes = run_parts (text_start kind threads) (test_lexing (first_stage kind) bytes)
 
 pub one_test : (bytes : List ℕ) (v w : Content) → ReadsTest bytes v → ReadsTest bytes w → v ≡ w
 one_test bytes v w r q = by_run (machine kinds.Test 0 bytes) refl
@@ -83,8 +83,8 @@ module _ (threads : ℕ) (few : threads < 18446744073709551616) where
       by_run (Err (rule, offset)) e =
           absurd (locations_only_memory threads few bytes (Refused rule offset) (λ le. e) v r)
 
-pub one_model : (form : Form) (bytes : List ℕ) (v w : List Clause) → Reads form bytes v
-    → Reads form bytes w → v ≡ w
+pub one_model : (form : Form) (bytes : List ℕ) (v w : List Clause) → ReadsClauses form bytes v
+    → ReadsClauses form bytes w → v ≡ w
 one_model form bytes v w r q =
     by_items (items_of (cat_run cat_limits form 0 (cat_start form) (cat_lexed bytes))) refl
   where
@@ -103,6 +103,6 @@ few_threads bytes v r =
     let t = r.text.tree in
     let l = lexed_length (first_stage kinds.Test) bytes in
     let short = r.short in
-    let few = few_of t (lexing (first_stage kinds.Test) bytes) r.text.whole (omega (arith, l, short)) in
+    let few = few_of t (test_lexing (first_stage kinds.Test) bytes) r.text.whole (omega (arith, l, short)) in
     let long : length v.threads ≡ t.others + 1 = ap (λ (c : Content). length c.threads) (sym r.meant) ∙ length-meaning 0 (t.others + 1) t.rows in
     omega (arith, long, few)

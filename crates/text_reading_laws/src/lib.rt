@@ -1,13 +1,13 @@
 //! Laws of what texts mean: each text of a test, of a part of one, of a model or of an item means
 //! one thing or has one fault, and not both. Read specs/Laws first, after `Texts` of
-//! `litmus_grammar/specs` and `Reads` of `cat_syntax/specs`.
+//! `litmus_grammar/specs` and `ReadsClauses` of `cat_syntax/specs`.
 #![tactic(auto)]
 
 ghost use Rattle.std.specs.Prelude.{◌<◌, ℕ, List, length};
 ghost use Rattle.cat_grammar.specs.declared.form.Form.{Form};
 ghost use Rattle.litmus_grammar.specs.Texts.{ReadsTest, IsTestFault, ReadsInit, IsInitFault, ReadsThread, IsThreadFault, ReadsCondition, IsConditionFault, ReadsLocations, IsLocationsFault};
 ghost use Rattle.text_values.specs.TestValue.{Content};
-ghost use Rattle.cat_grammar.specs.Reads.{Reads, FaultAt};
+ghost use Rattle.cat_grammar.specs.Reads.{ReadsClauses, FaultAt};
 ghost use Rattle.text_reading_laws.specs.Laws.{MeansOne, HasOneTextFault, AreExclusive};
 
 /// A text means one thing, if any. The number of threads of the test that a part stands in is one
@@ -20,7 +20,7 @@ pub fn texts_mean_one()
         → MeansOne (ReadsCondition threads) }
     ensures locations { (threads : ℕ) → threads < 18446744073709551616
         → MeansOne (ReadsLocations threads) }
-    ensures model { (form : Form) → MeansOne (Reads form) }
+    ensures model { (form : Form) → MeansOne (ReadsClauses form) }
 {}
 
 /// A text has one fault, if any: it breaks one rule, at one offset.
@@ -47,7 +47,7 @@ pub fn texts_at_fault_mean_nothing()
     ensures locations { (threads : ℕ) (bytes : List ℕ)
         → AreExclusive (ReadsLocations threads bytes) (IsLocationsFault threads bytes) }
     ensures model { (form : Form) (bytes : List ℕ)
-        → AreExclusive (Reads form bytes) (FaultAt form bytes) }
+        → AreExclusive (ReadsClauses form bytes) (FaultAt form bytes) }
 {}
 
 /// A test that some text means has no more threads than a machine word counts.

@@ -11,7 +11,7 @@ use Rattle.thread_runs.specs.declared.instruction.Line.{Line}
 use Rattle.thread_runs.specs.declared.instruction.Line.TheVariants.{Label, Does}
 use Rattle.thread_runs.specs.declared.state.State.{State}
 use Rattle.thread_runs.specs.Machine.{is_load, is_branch, branch_target}
-use Rattle.thread_runs.specs.Runs.{Walk, Outcome, IsLess, walk_at, ended, walk_after, walk_past, after_load, free_ends, after_free_instruction, after_free_line, free_from}
+use Rattle.thread_runs.specs.Runs.{Walk, RunOutcome, IsLess, walk_at, ended, walk_after, walk_past, after_load, free_ends, after_free_instruction, after_free_line, free_from}
 use Rattle.thread_runs.specs.FreeRuns.{FreeRun, IsOtherFreeRun, HasFreeRuns, sized, count_one, count_free, capped}
 use Rattle.thread_runs.proofs.RunsExact.{contains_one, one_contains, flat_map_contains, contains_flat_map, map_contains, contains_map, pairs_append, pairs_one, pairs_map, pairs_flat_map}
 
@@ -39,7 +39,7 @@ all_one V (Some l) x go w = go (walk_past x l w)
 all_one V None (Label m) go w = go w
 all_one V None (Does i) go w = all_obeyed V (is_branch i) i go w
 
-abbrev made : List Bool → List Value → Outcome → FreeRun
+abbrev made : List Bool → List Value → RunOutcome → FreeRun
 made bs vs o = record { choices = bs; values = vs; outcome = o }
 
 abbrev pub all_free : List Value → List Line → Lists
@@ -47,11 +47,11 @@ all_free V [] w = made [] [] (ended false w) ∷ []
 all_free V (x ∷ xs) w = all_one V w.seeking x (all_free V xs) w
 
 -- which they are
-same_made : (ds bs : List Bool) (us vs : List Value) (o p : Outcome) → ds ≡ bs → us ≡ vs → o ≡ p
+same_made : (ds bs : List Bool) (us vs : List Value) (o p : RunOutcome) → ds ≡ bs → us ≡ vs → o ≡ p
     → made ds us o ≡ made bs vs p
 same_made ds bs us vs o p e f g = cc
 
-took_as : (v : Value) (L : List FreeRun) (bs : List Bool) (vs : List Value) (o : Outcome)
+took_as : (v : Value) (L : List FreeRun) (bs : List Bool) (vs : List Value) (o : RunOutcome)
     → Contains (map (took v) L) (made bs vs o)
     → (us : List Value) × (vs ≡ v ∷ us) × Contains L (made bs us o)
 took_as v L bs vs o h =
@@ -64,7 +64,7 @@ took_as v L bs vs o h =
           within,
     )
 
-chose_as : (b : Bool) (L : List FreeRun) (bs : List Bool) (vs : List Value) (o : Outcome)
+chose_as : (b : Bool) (L : List FreeRun) (bs : List Bool) (vs : List Value) (o : RunOutcome)
     → Contains (map (chose b) L) (made bs vs o)
     → (cs : List Bool) × (bs ≡ b ∷ cs) × Contains L (made cs vs o)
 chose_as b L bs vs o h =
@@ -78,15 +78,15 @@ chose_as b L bs vs o h =
 
 module _ (V : List Value) where
   -- what a list of free runs must have
-  abbrev Holds : List Bool → List Value → Outcome → Option Outcome → Type 0
+  abbrev Holds : List Bool → List Value → RunOutcome → Option RunOutcome → Type 0
   Holds bs vs o end = All (Contains V) vs × (end ≡ Some o)
 
   abbrev IsExact : List Line → Type 0
   IsExact xs =
-      (w : Walk) (bs : List Bool) (vs : List Value) (o : Outcome)
+      (w : Walk) (bs : List Bool) (vs : List Value) (o : RunOutcome)
       → Contains (all_free V xs w) (made bs vs o) ↔ Holds bs vs o (free_from xs w bs vs)
 
-  exact_end : (w : Walk) (bs : List Bool) (vs : List Value) (o : Outcome)
+  exact_end : (w : Walk) (bs : List Bool) (vs : List Value) (o : RunOutcome)
       → Contains (made [] [] (ended false w) ∷ []) (made bs vs o)
       ↔ Holds bs vs o (free_ends w bs vs)
   exact_end w [] [] o = (
@@ -115,7 +115,7 @@ module _ (V : List Value) where
   )
 
   exact_supplied : (ld : Bool) (i : Instruction) (b : Bool) (xs : List Line) → IsExact xs
-      → (w : Walk) (bs : List Bool) (vs : List Value) (o : Outcome)
+      → (w : Walk) (bs : List Bool) (vs : List Value) (o : RunOutcome)
       → Contains (all_supplied V ld i b (all_free V xs) w) (made bs vs o)
       ↔ Holds bs vs o (after_load ld i b (λ u us. free_from xs u bs us) w vs)
   exact_supplied false i b xs ih w bs vs o = ih (walk_after i b NoValue w) bs vs o
@@ -148,7 +148,7 @@ module _ (V : List Value) where
           ((ih (walk_after i b v w) bs us o).1 (All-tail (Contains V) v us h.0, h.1)))
 
   exact_obeyed : (br : Bool) (i : Instruction) (xs : List Line) → IsExact xs
-      → (w : Walk) (bs : List Bool) (vs : List Value) (o : Outcome)
+      → (w : Walk) (bs : List Bool) (vs : List Value) (o : RunOutcome)
       → Contains (all_obeyed V br i (all_free V xs) w) (made bs vs o)
       ↔ Holds bs vs o (after_free_instruction br i (free_from xs) w bs vs)
   exact_obeyed false i xs ih w bs vs o = exact_supplied (is_load i) i false xs ih w bs vs o
@@ -193,7 +193,7 @@ module _ (V : List Value) where
           (made cs vs o) ((exact_supplied (is_load i) i false xs ih w cs vs o).1 h))
 
   exact_one : (sk : Option ℕ) (x : Line) (xs : List Line) → IsExact xs
-      → (w : Walk) (bs : List Bool) (vs : List Value) (o : Outcome)
+      → (w : Walk) (bs : List Bool) (vs : List Value) (o : RunOutcome)
       → Contains (all_one V sk x (all_free V xs) w) (made bs vs o)
       ↔ Holds bs vs o (after_free_line sk x (free_from xs) w bs vs)
   exact_one (Some l) x xs ih w bs vs o = ih (walk_past x l w) bs vs o

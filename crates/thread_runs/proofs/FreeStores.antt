@@ -17,7 +17,7 @@ use Rattle.thread_runs.specs.declared.instruction.RunStep.{RunStep}
 use Rattle.thread_runs.specs.declared.state.State.{State}
 use Rattle.thread_runs.specs.declared.free.FreeWalk.{FreeWalk}
 use Rattle.thread_runs.specs.Machine.{state_after, event_of, register, sum_of, is_load, is_branch, branch_target}
-use Rattle.thread_runs.specs.Runs.{Walk, Outcome, ended, walk_after, walk_past, after_load, free_ends, after_free_instruction, after_free_line, free_from}
+use Rattle.thread_runs.specs.Runs.{Walk, RunOutcome, ended, walk_after, walk_past, after_load, free_ends, after_free_instruction, after_free_line, free_from}
 use Rattle.thread_runs.specs.ValueSet.{IsProperValue}
 use Rattle.thread_runs.specs.FreeRuns.{FreeRun, count_one, count_free, sized}
 use Rattle.thread_runs.specs.FreeWalks.{walked, walk_over, values_stored_by, stored_on, one_if, branch_walks, loaded, does_next, next_on, next_of, goes_by, is_store_instruction, is_store_line, HasNoStore, Stores, SomeStores, AreAdded}
@@ -30,7 +30,7 @@ abbrev pre : List RunStep → List Event → Walk → Walk
 pre p q w =
     record { state = w.state; seeking = w.seeking; steps = p ++ w.steps; events = q ++ w.events }
 
-abbrev pre_end : List RunStep → List Event → Option Outcome → Option Outcome
+abbrev pre_end : List RunStep → List Event → Option RunOutcome → Option RunOutcome
 pre_end p q None = None
 pre_end p q (Some f) = Some (ended f.faulted (pre p q f.walk))
 
@@ -104,12 +104,12 @@ module _ (V : List Value) (xs : List Line) where
   -- some free run goes on from there, and some stores the value
   abbrev pub Goes : Walk → Type 0
   Goes w =
-      (bs : List Bool) × (vs : List Value) × All (Contains V) vs × (f : Outcome)
+      (bs : List Bool) × (vs : List Value) × All (Contains V) vs × (f : RunOutcome)
       × (free_from xs w bs vs ≡ Some f)
 
   abbrev pub Keeps : Walk → Value → Type 0
   Keeps w v =
-      (bs : List Bool) × (vs : List Value) × All (Contains V) vs × (f : Outcome)
+      (bs : List Bool) × (vs : List Value) × All (Contains V) vs × (f : RunOutcome)
       × (free_from xs w bs vs ≡ Some f) × (a : Value) × Contains f.walk.events (run_event.Store a v)
 
   goes_counted : (w : Walk) → Goes w → 0 < count_free (length V) xs w.seeking
@@ -197,13 +197,13 @@ module _ (V : List Value) (xs : List Line) (i : Instruction) (b : Bool) (u : Val
         ∙ prefixed (step_of i u ∷ []) (event_of i u w.state) xs (fresh (walked i b u w)) bs vs
 
     -- its end, without what was done before
-    unended : (o : Option Outcome) (f : Outcome)
+    unended : (o : Option RunOutcome) (f : RunOutcome)
         → pre_end (step_of i u ∷ []) (event_of i u w.state) o ≡ Some f
-        → (g : Outcome) × (o ≡ Some g) × (f.walk.events ≡ event_of i u w.state ++ g.walk.events)
+        → (g : RunOutcome) × (o ≡ Some g) × (f.walk.events ≡ event_of i u w.state ++ g.walk.events)
     unended None f e = absurd cc
-    unended (Some g) f e = (g, refl, sym (ap (λ (h : Outcome). h.walk.events) (same e)))
+    unended (Some g) f e = (g, refl, sym (ap (λ (h : RunOutcome). h.walk.events) (same e)))
       where
-        same : {r t : Outcome} → Some r ≡ Some t → r ≡ t
+        same : {r t : RunOutcome} → Some r ≡ Some t → r ≡ t
         same k = cc
 
     goes_after : Goes V xs (walk_after i b u (fresh w)) → Goes V xs (fresh (walked i b u w))
@@ -244,7 +244,7 @@ module _ (V : List Value) (xs : List Line) (i : Instruction) (b : Bool) (u : Val
         → Keeps V xs (walk_after i b u (fresh w)) v
     later_keeps v k =
         let (bs, vs, within, g, d, a, later) = k in
-        let e : free_from xs (walk_after i b u (fresh w)) bs vs ≡ pre_end (step_of i u ∷ []) (event_of i u w.state) (Some g) = same_after bs vs ∙ ap (λ (o : Option Outcome). pre_end (step_of i u ∷ []) (event_of i u w.state) o) d in (
+        let e : free_from xs (walk_after i b u (fresh w)) bs vs ≡ pre_end (step_of i u ∷ []) (event_of i u w.state) (Some g) = same_after bs vs ∙ ap (λ (o : Option RunOutcome). pre_end (step_of i u ∷ []) (event_of i u w.state) o) d in (
           bs,
           vs,
           within,
@@ -260,13 +260,13 @@ IsMove true br V b u = Contains V u × (b ≡ false)
 IsMove false true V b u = u ≡ NoValue
 IsMove false false V b u = (u ≡ NoValue) × (b ≡ false)
 
-abbrev free_does : Bool → Bool → Instruction → (Walk → List Bool → List Value → Option Outcome)
-    → Walk → List Bool → List Value → Option Outcome
+abbrev free_does : Bool → Bool → Instruction → (Walk → List Bool → List Value → Option RunOutcome)
+    → Walk → List Bool → List Value → Option RunOutcome
 free_does ld true i go w [] vs = None
 free_does ld true i go w (b ∷ bs) vs = after_load ld i b (λ u us. go u bs us) w vs
 free_does ld false i go w bs vs = after_load ld i false (λ u us. go u bs us) w vs
 
-same_does : (br : Bool) (i : Instruction) (go : Walk → List Bool → List Value → Option Outcome)
+same_does : (br : Bool) (i : Instruction) (go : Walk → List Bool → List Value → Option RunOutcome)
     (w : Walk) (bs : List Bool) (vs : List Value)
     → after_free_instruction br i go w bs vs ≡ free_does (is_load i) br i go w bs vs
 same_does true i go w [] vs = refl
@@ -275,12 +275,12 @@ same_does false i go w bs vs = refl
 
 module _ (V : List Value) (xs : List Line) (i : Instruction) (w : FreeWalk) where
   -- a run from the instruction on makes one of the moves, and goes on
-  abbrev Onward : Bool → Bool → List Bool → List Value → Outcome → Type 0
+  abbrev Onward : Bool → Bool → List Bool → List Value → RunOutcome → Type 0
   Onward ld br bs vs f =
       (b : Bool) × (u : Value) × IsMove ld br V b u × (cs : List Bool) × (us : List Value)
       × All (Contains V) us × (free_from xs (walk_after i b u (fresh w)) cs us ≡ Some f)
 
-  moves : (ld br : Bool) (bs : List Bool) (vs : List Value) (f : Outcome) → (br ≡ true → ld ≡ false)
+  moves : (ld br : Bool) (bs : List Bool) (vs : List Value) (f : RunOutcome) → (br ≡ true → ld ≡ false)
       → All (Contains V) vs → free_does ld br i (free_from xs) (fresh w) bs vs ≡ Some f
       → Onward ld br bs vs f
   moves true true bs vs f only within e = absurd (let n = only refl in cc)
@@ -298,7 +298,7 @@ module _ (V : List Value) (xs : List Line) (i : Instruction) (w : FreeWalk) wher
   moves false true (b ∷ bs) vs f only within e = (b, NoValue, refl, bs, vs, within, e)
   moves false false bs vs f only within e = (false, NoValue, (refl, refl), bs, vs, within, e)
 
-  one_move : (ld br : Bool) (b : Bool) (u : Value) (cs : List Bool) (us : List Value) (f : Outcome)
+  one_move : (ld br : Bool) (b : Bool) (u : Value) (cs : List Bool) (us : List Value) (f : RunOutcome)
       → (br ≡ true → ld ≡ false) → IsMove ld br V b u → All (Contains V) us
       → free_from xs (walk_after i b u (fresh w)) cs us ≡ Some f
       → (bs : List Bool) × (vs : List Value) × All (Contains V) vs
@@ -413,7 +413,7 @@ module _ (V : List Value) (i : Instruction) (xs : List Line) (w : FreeWalk) (on 
       ∙ counts_goes (count_free (length V) xs (branch_target i true))
       (subst (λ (c : Bool). 0 < count_free (length V) xs (branch_target i c)) is_taken more))
 
-  does_keeps : (v : Value) (bs : List Bool) (vs : List Value) → All (Contains V) vs → (f : Outcome)
+  does_keeps : (v : Value) (bs : List Bool) (vs : List Value) → All (Contains V) vs → (f : RunOutcome)
       → after_free_instruction (is_branch i) i (free_from xs) (fresh w) bs vs ≡ Some f → (a : Value)
       → Contains f.walk.events (run_event.Store a v)
       → Contains (values_stored_by i w.state) v
@@ -427,7 +427,7 @@ module _ (V : List Value) (i : Instruction) (xs : List Line) (w : FreeWalk) (on 
 
   keeps_does : (v : Value) (b : Bool) (u : Value) → IsMove (is_load i) (is_branch i) V b u
       → Keeps V xs (walk_after i b u (fresh w)) v
-      → (bs : List Bool) × (vs : List Value) × All (Contains V) vs × (f : Outcome)
+      → (bs : List Bool) × (vs : List Value) × All (Contains V) vs × (f : RunOutcome)
       × (after_free_instruction (is_branch i) i (free_from xs) (fresh w) bs vs ≡ Some f) × (a : Value)
       × Contains f.walk.events (run_event.Store a v)
   keeps_does v b u m k =
@@ -437,7 +437,7 @@ module _ (V : List Value) (i : Instruction) (xs : List Line) (w : FreeWalk) (on 
 
   does_later : (v : Value) (n : FreeWalk)
       → Contains (does_next (is_load i) (is_branch i) V on there i w) n → Keeps V xs (fresh n) v
-      → (bs : List Bool) × (vs : List Value) × All (Contains V) vs × (f : Outcome)
+      → (bs : List Bool) × (vs : List Value) × All (Contains V) vs × (f : RunOutcome)
       × (after_free_instruction (is_branch i) i (free_from xs) (fresh w) bs vs ≡ Some f) × (a : Value)
       × Contains f.walk.events (run_event.Store a v)
   does_later v n h k =
@@ -445,10 +445,10 @@ module _ (V : List Value) (i : Instruction) (xs : List Line) (w : FreeWalk) (on 
       keeps_does v b u m (later_keeps V xs i b u w v
       (subst (λ (z : FreeWalk). Keeps V xs (fresh z) v) (sym e) k))
 
-  does_here : (v : Value) (bs : List Bool) (vs : List Value) → All (Contains V) vs → (f : Outcome)
+  does_here : (v : Value) (bs : List Bool) (vs : List Value) → All (Contains V) vs → (f : RunOutcome)
       → after_free_instruction (is_branch i) i (free_from xs) (fresh w) bs vs ≡ Some f
       → Contains (values_stored_by i w.state) v
-      → (bs : List Bool) × (vs : List Value) × All (Contains V) vs × (f : Outcome)
+      → (bs : List Bool) × (vs : List Value) × All (Contains V) vs × (f : RunOutcome)
       × (after_free_instruction (is_branch i) i (free_from xs) (fresh w) bs vs ≡ Some f) × (a : Value)
       × Contains f.walk.events (run_event.Store a v)
   does_here v bs vs within f e here =
@@ -514,7 +514,7 @@ module _ (V : List Value) (xs : List Line) (on there : Bool) where
     where
       go : (sk : Option ℕ) (x : Line) → on ≡ goes_by (length V) xs false x
           → there ≡ goes_by (length V) xs true x → (bs : List Bool) (vs : List Value)
-          → All (Contains V) vs → (f : Outcome)
+          → All (Contains V) vs → (f : RunOutcome)
           → after_free_line sk x (free_from xs) (fresh w) bs vs ≡ Some f → (a : Value)
           → Contains f.walk.events (run_event.Store a v)
           → Contains (stored_on sk x w) v
@@ -549,7 +549,7 @@ module _ (V : List Value) (xs : List Line) (on there : Bool) where
     where
       go : (sk : Option ℕ) (x : Line) → on ≡ goes_by (length V) xs false x
           → there ≡ goes_by (length V) xs true x → Contains (next_on V on there sk x w) n
-          → (bs : List Bool) × (vs : List Value) × All (Contains V) vs × (f : Outcome)
+          → (bs : List Bool) × (vs : List Value) × All (Contains V) vs × (f : RunOutcome)
           × (after_free_line sk x (free_from xs) (fresh w) bs vs ≡ Some f) × (a : Value)
           × Contains f.walk.events (run_event.Store a v)
       go (Some l) x p q h =
@@ -578,9 +578,9 @@ module _ (V : List Value) (xs : List Line) (on there : Bool) where
     where
       go : (sk : Option ℕ) (x : Line) → on ≡ goes_by (length V) xs false x
           → there ≡ goes_by (length V) xs true x → (bs : List Bool) (vs : List Value)
-          → All (Contains V) vs → (f : Outcome)
+          → All (Contains V) vs → (f : RunOutcome)
           → after_free_line sk x (free_from xs) (fresh w) bs vs ≡ Some f → Contains (stored_on sk x w) v
-          → (bs : List Bool) × (vs : List Value) × All (Contains V) vs × (f : Outcome)
+          → (bs : List Bool) × (vs : List Value) × All (Contains V) vs × (f : RunOutcome)
           × (after_free_line sk x (free_from xs) (fresh w) bs vs ≡ Some f) × (a : Value)
           × Contains f.walk.events (run_event.Store a v)
       go (Some l) x p q bs vs within f e h = absurd (let no_one = h.1 in omega arith)
@@ -669,11 +669,11 @@ module _ (lines : List Line) (first : State) (V : List Value) where
   none_kept : (w : FreeWalk) (v : Value) → Keeps V [] (fresh w) v → ⊥
   none_kept w v k = let (bs, vs, within, f, e, a, found) = k in go bs vs f e a found
     where
-      go : (bs : List Bool) (vs : List Value) (f : Outcome) → free_ends (fresh w) bs vs ≡ Some f
+      go : (bs : List Bool) (vs : List Value) (f : RunOutcome) → free_ends (fresh w) bs vs ≡ Some f
           → (a : Value) → Contains f.walk.events (run_event.Store a v) → ⊥
       go [] [] f e a found =
           let d : ended false (fresh w) ≡ f = cc in
-          let g = subst (λ (h : Outcome). Contains h.walk.events (run_event.Store a v)) (sym d) found in
+          let g = subst (λ (h : RunOutcome). Contains h.walk.events (run_event.Store a v)) (sym d) found in
           let lt = g.1 in omega arith
       go [] (u ∷ us) f e a found = absurd cc
       go (b ∷ bs) vs f e a found = absurd cc

@@ -9,9 +9,9 @@ use Rattle.thread_runs.specs.declared.instruction.Line.TheVariants.{Label, Does}
 use Rattle.thread_runs.specs.LineByLine as told
 use Rattle.thread_runs.specs.LineByLine.{GoesOver, GoesLineByLine, executing}
 use Rattle.thread_runs.specs.Machine.{State, is_fault, is_load, takes_branch}
-use Rattle.thread_runs.specs.Runs.{Walk, Outcome, walk_at, walk_past, after_line, after_instruction, after_load, run_from}
+use Rattle.thread_runs.specs.Runs.{Walk, RunOutcome, walk_at, walk_past, after_line, after_instruction, after_load, run_from}
 
-to_run : {xs : List Line} {w : Walk} {vs : List Value} {o : Outcome} → GoesOver xs w vs o
+to_run : {xs : List Line} {w : Walk} {vs : List Value} {o : RunOutcome} → GoesOver xs w vs o
     → run_from xs w vs ≡ Some o
 to_run told.ends = refl
 to_run (told.looks {x = x} {xs = xs} {w = w} {vs = vs} label e h) =
@@ -30,11 +30,11 @@ to_run (told.executes {i = i} {xs = xs} {w = w} {vs = vs} e f l h) =
     ∙ ap (λ (b : Bool). after_instruction b i (run_from xs) w vs) f
     ∙ ap (λ (b : Bool). after_load b i (takes_branch i w.state) (run_from xs) w vs) l ∙ to_run h
 
-nothing_is : {o : Outcome} → None ≡ Some o → ⊥
+nothing_is : {o : RunOutcome} → None ≡ Some o → ⊥
 nothing_is e = cc
 
 -- one line more, where the rest of the lines is gone over so
-module _ (xs : List Line) (o : Outcome)
+module _ (xs : List Line) (o : RunOutcome)
     (rest : (w : Walk) (vs : List Value) → run_from xs w vs ≡ Some o → GoesOver xs w vs o)
     (w : Walk) where
   supply : (i : Instruction) (b : Bool) (us : List Value) → is_load i ≡ b → w.seeking ≡ None
@@ -47,7 +47,7 @@ module _ (xs : List Line) (o : Outcome)
   obey : (i : Instruction) (b : Bool) (us : List Value) → is_fault i w.state ≡ b → w.seeking ≡ None
       → after_instruction b i (run_from xs) w us ≡ Some o → GoesOver (Does i ∷ xs) w us o
   obey i true [] f e k =
-      subst (λ (q : Outcome). GoesOver (Does i ∷ xs) w [] q) (same_Some _ _ k) (told.stops e f)
+      subst (λ (q : RunOutcome). GoesOver (Does i ∷ xs) w [] q) (same_Some _ _ k) (told.stops e f)
   obey i true (v ∷ us) f e k = absurd (nothing_is k)
   obey i false us f e k = supply i (is_load i) us refl e f k
 
@@ -63,9 +63,9 @@ module _ (xs : List Line) (o : Outcome)
       (ap (λ (s : Option ℕ). after_line s x (run_from xs) w vs) e) ∙ h))
   sought x vs None e h = line x vs e (sym (ap (λ (s : Option ℕ). after_line s x (run_from xs) w vs) e) ∙ h)
 
-to_lines : (xs : List Line) (o : Outcome) (w : Walk) (vs : List Value) → run_from xs w vs ≡ Some o
+to_lines : (xs : List Line) (o : RunOutcome) (w : Walk) (vs : List Value) → run_from xs w vs ≡ Some o
     → GoesOver xs w vs o
-to_lines [] o w [] h = subst (λ (q : Outcome). GoesOver [] w [] q) (same_Some _ _ h) told.ends
+to_lines [] o w [] h = subst (λ (q : RunOutcome). GoesOver [] w [] q) (same_Some _ _ h) told.ends
 to_lines [] o w (v ∷ vs) h = absurd (nothing_is h)
 to_lines (x ∷ xs) o w vs h = sought xs o (to_lines xs o) w x vs w.seeking refl h
 

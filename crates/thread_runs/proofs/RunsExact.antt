@@ -14,7 +14,7 @@ use Rattle.thread_runs.specs.declared.instruction.Line.{Line}
 use Rattle.thread_runs.specs.declared.instruction.Line.TheVariants.{Label, Does}
 use Rattle.thread_runs.specs.declared.state.State.{State}
 use Rattle.thread_runs.specs.Machine.{is_load, is_fault, takes_branch}
-use Rattle.thread_runs.specs.Runs.{Walk, Run, Outcome, Thread, ended, ends, walk_after, walk_past, after_load, after_instruction, after_line, run_from, run_of, IsLexicallyBefore, IsLess, IsThreadRun, AreThreadRuns}
+use Rattle.thread_runs.specs.Runs.{Walk, Run, RunOutcome, Thread, ended, ends, walk_after, walk_past, after_load, after_instruction, after_line, run_from, run_of, IsLexicallyBefore, IsLess, IsThreadRun, AreThreadRuns}
 use Rattle.thread_runs.specs.declared.run.Run as made
 use Rattle.thread_runs.specs.AllRuns.{Beginning, beginning_at, gone_over, beginning_past, over_instruction, is_executing, with_load, spread, next, all_from, whole, run_shown, shown_run, shown_whole, HasRuns, ShowsRuns}
 use Rattle.thread_runs.proofs.Pairs.{pairs_head, pairs_tail, pairs_none}
@@ -184,7 +184,7 @@ module _ (V : List Value) where
       ended_so [] p r =
           let o = same_Some _ _ r in
           same_beginning b c (sym (p ∙ append-nil b.values))
-          (awake ∙ ap (λ (z : Outcome). z.faulted) o) (ap (λ (z : Outcome). z.walk) o)
+          (awake ∙ ap (λ (z : RunOutcome). z.faulted) o) (ap (λ (z : RunOutcome). z.walk) o)
       ended_so (v ∷ vs) p r = absurd cc
 
       back : Extends [] b c → b ≡ c
@@ -249,8 +249,8 @@ module _ (V : List Value) where
           → ends true b.walk vs ≡ Some (ended c.stopped c.walk) → a ≡ c
       ended_so [] p r =
           let o = same_Some _ _ r in
-          same_beginning a c (sym (p ∙ append-nil b.values)) (ap (λ (z : Outcome). z.faulted) o)
-          (ap (λ (z : Outcome). z.walk) o)
+          same_beginning a c (sym (p ∙ append-nil b.values)) (ap (λ (z : RunOutcome). z.faulted) o)
+          (ap (λ (z : RunOutcome). z.walk) o)
       ended_so (v ∷ vs) p r = absurd cc
 
   by_load : (i : Instruction) (xs : List Line) (b c : Beginning) → IsExact xs → b.stopped ≡ false

@@ -16,7 +16,7 @@ use Rattle.thread_runs.specs.declared.instruction.Event.TheVariants as run_event
 use Rattle.thread_runs.specs.declared.instruction.Program.{Program}
 use Rattle.thread_runs.specs.declared.state.State.{State}
 use Rattle.thread_runs.specs.Machine.{state_after, event_of, is_load, is_fault, takes_branch, register, with_register, operated, sum_of}
-use Rattle.thread_runs.specs.Runs.{Walk, Outcome, walk_at, ends, walk_after, walk_past, after_load, after_instruction, after_line, run_from}
+use Rattle.thread_runs.specs.Runs.{Walk, RunOutcome, walk_at, ends, walk_after, walk_past, after_load, after_instruction, after_line, run_from}
 use Rattle.thread_runs.specs.AllRuns.{thread_of}
 use Rattle.thread_runs.specs.LocationValues.{MayHold, same_value, line_may_put, may_hold, line_may_store, thread_may_store}
 use Rattle.thread_runs.proofs.RunsExact.{contains_one}
@@ -153,36 +153,36 @@ module _ (lines : List Line) (first : State) where
   -- all that is left of the text
   abbrev Goes : List Line → Type 0
   Goes xs =
-      (w : Walk) (vs : List Value) (o : Outcome) → Holds w.state → Told w.events
+      (w : Walk) (vs : List Value) (o : RunOutcome) → Holds w.state → Told w.events
       → run_from xs w vs ≡ Some o → Told o.walk.events
 
-  ends_told : (f : Bool) (w : Walk) (vs : List Value) (o : Outcome) → Told w.events
+  ends_told : (f : Bool) (w : Walk) (vs : List Value) (o : RunOutcome) → Told w.events
       → ends f w vs ≡ Some o → Told o.walk.events
-  ends_told f w [] o t e = subst (λ (q : Outcome). Told q.walk.events) (same_Some _ _ e) t
+  ends_told f w [] o t e = subst (λ (q : RunOutcome). Told q.walk.events) (same_Some _ _ e) t
   ends_told f w (v ∷ vs) o t e = absurd cc
 
   module _ (xs : List Line) (rest : Goes xs) where
     advanced_told : (i : Instruction) (b : Bool) (v : Value) (w : Walk) (vs : List Value)
-        (o : Outcome) → Contains lines (Does i) → Holds w.state → Told w.events
+        (o : RunOutcome) → Contains lines (Does i) → Holds w.state → Told w.events
         → run_from xs (walk_after i b v w) vs ≡ Some o → Told o.walk.events
     advanced_told i b v w vs o c h t e =
         rest (walk_after i b v w) vs o (after_holds i v w.state c h)
         (told_more w.events (event_of i v w.state) t (event_told i v w.state c h)) e
 
     supplied_told : (l : Bool) (i : Instruction) (b : Bool) (w : Walk) (vs : List Value)
-        (o : Outcome) → Contains lines (Does i) → Holds w.state → Told w.events
+        (o : RunOutcome) → Contains lines (Does i) → Holds w.state → Told w.events
         → after_load l i b (run_from xs) w vs ≡ Some o → Told o.walk.events
     supplied_told true i b w [] o c h t e = absurd cc
     supplied_told true i b w (v ∷ vs) o c h t e = advanced_told i b v w vs o c h t e
     supplied_told false i b w vs o c h t e = advanced_told i b NoValue w vs o c h t e
 
-    obeyed_told : (f : Bool) (i : Instruction) (w : Walk) (vs : List Value) (o : Outcome)
+    obeyed_told : (f : Bool) (i : Instruction) (w : Walk) (vs : List Value) (o : RunOutcome)
         → Contains lines (Does i) → Holds w.state → Told w.events
         → after_instruction f i (run_from xs) w vs ≡ Some o → Told o.walk.events
     obeyed_told true i w vs o c h t e = ends_told true w vs o t e
     obeyed_told false i w vs o c h t e = supplied_told (is_load i) i (takes_branch i w.state) w vs o c h t e
 
-    one_told : (s : Option ℕ) (x : Line) (w : Walk) (vs : List Value) (o : Outcome)
+    one_told : (s : Option ℕ) (x : Line) (w : Walk) (vs : List Value) (o : RunOutcome)
         → Contains lines x → Holds w.state → Told w.events → after_line s x (run_from xs) w vs ≡ Some o
         → Told o.walk.events
     one_told (Some l) x w vs o c h t e = rest (walk_past x l w) vs o h t e

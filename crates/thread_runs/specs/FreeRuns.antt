@@ -6,13 +6,13 @@ use Rattle.thread_runs.specs.declared.instruction.Instruction.{Instruction}
 use Rattle.thread_runs.specs.declared.instruction.Line.{Line}
 use Rattle.thread_runs.specs.declared.instruction.Line.TheVariants.{Label, Does}
 use Rattle.thread_runs.specs.Machine.{is_load, is_branch, branch_target}
-use Rattle.thread_runs.specs.Runs.{Outcome, Thread, found_at, free_run_of}
+use Rattle.thread_runs.specs.Runs.{RunOutcome, Thread, found_at, free_run_of}
 
 -- a free run with its choices and its values
 pub record FreeRun : Type 0 where
   pub choices : List Bool
   pub values : List Value
-  pub outcome : Outcome
+  pub outcome : RunOutcome
 
 -- the free run is one of the thread, and takes values with the property
 abbrev pub IsFreeRun : Thread → (Value → Type 0) → FreeRun → Type 0

@@ -10,7 +10,7 @@ use Rattle.thread_runs.specs.declared.instruction.Event.TheVariants as run_event
 use Rattle.thread_runs.specs.declared.state.State.{State}
 use Rattle.thread_runs.specs.declared.free.FreeWalk.{FreeWalk}
 use Rattle.thread_runs.specs.Machine.{state_after, register, is_load, is_branch, branch_target}
-use Rattle.thread_runs.specs.Runs.{Outcome, found_at, free_run_of}
+use Rattle.thread_runs.specs.Runs.{RunOutcome, found_at, free_run_of}
 use Rattle.thread_runs.specs.FreeRuns.{count_free}
 use Rattle.thread_runs.specs.ValueSet.{IsProperValue}
 
@@ -95,7 +95,7 @@ SomeStores x walks v = (w : FreeWalk) × Contains walks w × Contains (values_st
 abbrev pub Stores : List Line → State → List Value → Value → Type 0
 Stores lines first V v =
     (bs : List Bool) × (vs : List Value) × All (Contains V) vs
-    × (f : Outcome) × (free_run_of lines first bs vs ≡ Some f)
+    × (f : RunOutcome) × (free_run_of lines first bs vs ≡ Some f)
     × (a : Value) × Contains f.walk.events (run_event.Store a v)
 
 -- the values with the property are added, all of them where there are not over 16 values then

@@ -15,13 +15,13 @@ use Rattle.thread_runs.specs.declared.instruction.Event.TheVariants as run_event
 use Rattle.thread_runs.specs.declared.state.State.{State}
 use Rattle.thread_runs.specs.declared.run.Run as made
 use Rattle.thread_runs.specs.Machine.{register}
-use Rattle.thread_runs.specs.Runs.{Outcome, Run, AreThreadRuns, run_of}
+use Rattle.thread_runs.specs.Runs.{RunOutcome, Run, AreThreadRuns, run_of}
 use Rattle.thread_runs.specs.AllRuns.{run_shown, shown_run, thread_of}
 
 -- some run of a thread of the program stores the value at the location
 abbrev pub SomeRunStores : Program → ℕ → Value → Type 0
 SomeRunStores p location v =
-    (t : ℕ) × (t < vec_len p.threads) × (vs : List Value) × (o : Outcome)
+    (t : ℕ) × (t < vec_len p.threads) × (vs : List Value) × (o : RunOutcome)
     × (run_of (thread_of p t).lines (thread_of p t).first vs ≡ Some o)
     × Contains o.walk.events (run_event.Store (Address location) v)
 

@@ -40,12 +40,12 @@ abbrev pub conjunction_of : Value → Value → Value
 conjunction_of (Number m) (Number n) = Number (bit_and m n)
 conjunction_of _ _ = NoValue
 
-abbrev pub outcome_of : Operation → Value → Value → Value
-outcome_of Add v w = sum_of v w
-outcome_of SubtractFrom v w = difference_of v w
-outcome_of Xor v w = exclusive_of v w
-outcome_of Or v w = disjunction_of v w
-outcome_of And v w = conjunction_of v w
+abbrev pub operation_value : Operation → Value → Value → Value
+operation_value Add v w = sum_of v w
+operation_value SubtractFrom v w = difference_of v w
+operation_value Xor v w = exclusive_of v w
+operation_value Or v w = disjunction_of v w
+operation_value And v w = conjunction_of v w
 
 -- an exclusive or, or a difference, of a register with itself
 abbrev pub cancels : Operation → ℕ → ℕ → Bool
@@ -94,7 +94,7 @@ with_register s r v = record s { registers = slice_set s.registers r v }
 
 -- the value that an instruction writes into a register; a load writes the value that it is given
 abbrev pub operated : Operation → ℕ → ℕ → State → Value
-operated o a b s = if cancels o a b then Number 0 else outcome_of o (register s a) (register s b)
+operated o a b s = if cancels o a b then Number 0 else operation_value o (register s a) (register s b)
 
 -- the state after the instruction, which has loaded the value if it is a load
 abbrev pub state_after : Instruction → Value → State → State

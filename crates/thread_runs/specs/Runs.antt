@@ -29,14 +29,14 @@ pub record Walk : Type 0 where
   pub steps : List RunStep
   pub events : List Event
 
-pub record Outcome : Type 0 where
+pub record RunOutcome : Type 0 where
   pub faulted : Bool
   pub walk : Walk
 
 abbrev pub walk_at : State → Walk
 walk_at s = record { state = s; seeking = None; steps = []; events = [] }
 
-abbrev pub ended : Bool → Walk → Outcome
+abbrev pub ended : Bool → Walk → RunOutcome
 ended f w = record { faulted = f; walk = w }
 
 -- one instruction more, with the value that it loads, and with its branch taken or not
@@ -58,7 +58,7 @@ walk_past x l w = record w { seeking = found_at x l }
 
 -- what comes next: the walk and the values that are left
 abbrev pub Continuation : Type 0
-Continuation = Walk → List Value → Option Outcome
+Continuation = Walk → List Value → Option RunOutcome
 
 -- the walk ends here, if no value is left
 abbrev pub ends : Bool → Continuation
@@ -86,12 +86,12 @@ abbrev pub run_from : List Line → Continuation
 run_from [] w vs = ends false w vs
 run_from (x ∷ xs) w vs = after_line w.seeking x (run_from xs) w vs
 
-abbrev pub run_of : List Line → State → List Value → Option Outcome
+abbrev pub run_of : List Line → State → List Value → Option RunOutcome
 run_of lines s vs = run_from lines (walk_at s) vs
 
 -- a free run: a branch takes the next choice, and nothing is a fault
 abbrev pub FreeNext : Type 0
-FreeNext = Walk → List Bool → List Value → Option Outcome
+FreeNext = Walk → List Bool → List Value → Option RunOutcome
 
 abbrev pub free_ends : FreeNext
 free_ends w [] vs = ends false w vs
@@ -112,7 +112,7 @@ abbrev pub free_from : List Line → FreeNext
 free_from [] w bs vs = free_ends w bs vs
 free_from (x ∷ xs) w bs vs = after_free_line w.seeking x (free_from xs) w bs vs
 
-abbrev pub free_run_of : List Line → State → List Bool → List Value → Option Outcome
+abbrev pub free_run_of : List Line → State → List Bool → List Value → Option RunOutcome
 free_run_of lines s bs vs = free_from lines (walk_at s) bs vs
 
 pub record Thread : Type 0 where
@@ -123,7 +123,7 @@ pub record Thread : Type 0 where
 abbrev pub StoresFreely : List Thread → (Value → Type 0) → Value → Type 0
 StoresFreely threads P v =
     (t : Thread) × Contains threads t × (bs : List Bool) × (vs : List Value) × All P vs
-    × (f : Outcome) × (free_run_of t.lines t.first bs vs ≡ Some f)
+    × (f : RunOutcome) × (free_run_of t.lines t.first bs vs ≡ Some f)
     × (a : Value) × Contains f.walk.events (Store a v)
 
 -- the values after k rounds
@@ -146,7 +146,7 @@ loaded_at steps n = (slice_index_or steps n no_step).loaded
 -- a run with the values that it was given
 pub record Run : Type 0 where
   pub values : List Value
-  pub outcome : Outcome
+  pub outcome : RunOutcome
 
 -- the run is one of the thread, and takes values with the property
 abbrev pub IsThreadRun : Thread → (Value → Type 0) → Run → Type 0

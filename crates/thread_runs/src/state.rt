@@ -37,7 +37,7 @@ impl State {
 }
 
 fn outcome(operation: Operation, v: Value, w: Value) -> Value
-    ensures { result ≡ machine.outcome_of operation v w }
+    ensures { result ≡ machine.operation_value operation v w }
 {
     match operation {
         Operation::Add => sum(v, w),

@@ -5,7 +5,7 @@ use Rattle.value_store.specs.declared.fault.StoreFault.{StoreFault}
 use Rattle.value_store.specs.declared.fault.StoreFault.TheVariants.{StoreFull, OutOfMemory}
 
 -- the index of a value in its store, and the value
-pub record Shown (V : Type 0) : Type 0 where
+pub record TokenShown (V : Type 0) : Type 0 where
   pub index : ℕ
   pub value : V
 

@@ -3,7 +3,7 @@
 ghost use Rattle.std.specs.Prelude.{◌≡◌, []};
 ghost use Rattle.boxcar.specs.Table.{Shelves, Shows};
 ghost use Rattle.value_store.specs.Lemmas.Codes.{shown_coded};
-ghost use Rattle.value_store.specs.Tokens.{Shown};
+ghost use Rattle.value_store.specs.Tokens.{TokenShown};
 
 use boxcar::Pushed;
 use std::marker::{Brand, Model, PhantomData};
@@ -27,7 +27,7 @@ pub struct Token<K: StoreName, V> {
 }
 
 impl<K: StoreName, V> Model for Token<K, V> {
-    ghost Value = { Shown V };
+    ghost Value = { TokenShown V };
 
     ghost coded = { shown_coded V.code };
 

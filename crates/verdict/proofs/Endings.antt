@@ -57,13 +57,13 @@ register_shown (t ∷ ts) (r ∷ rs) zero register = held_at_end t.items r regis
 register_shown (t ∷ ts) (r ∷ rs) (suc thread) register = register_shown ts rs thread register
 
 value_held : (space : Space) (x : Candidate) (observable : Observable)
-    → ends.final_value space x.0 x.1.1 observable ≡ final_value (shown_of space.registers.items x) observable
+    → ends.candidate_final_value space x.0 x.1.1 observable ≡ final_value (shown_of space.registers.items x) observable
 value_held space x (Register thread register) =
     ap value_shown (register_shown space.registers.items x.0.runs.items thread register)
 value_held space x (Location location) = refl
 
 state_held : (space : Space) (observables : List Observable) (x : Candidate)
-    → ends.final_state space observables x ≡ final_state observables (shown_of space.registers.items x)
+    → ends.candidate_final_state space observables x ≡ final_state observables (shown_of space.registers.items x)
 state_held space observables x =
     ap (λ (f : Observable → FinalValue). map f observables) (fun_ext (value_held space x))
 
@@ -78,7 +78,7 @@ count_mapped f test keep (x ∷ xs) =
 -- as many candidates end in a state as executions do that they show
 pub counts_shown : (space : Space) (observables : List Observable) (keep : List Bool)
     (v : List FinalValue)
-    → count_kept (λ x. is_state v (ends.final_state space observables x)) keep
+    → count_kept (λ x. is_state v (ends.candidate_final_state space observables x)) keep
     (candidates_in space.combinations.items)
     ≡ count_kept (λ e. is_state v (final_state observables e)) keep (shown_in space)
 counts_shown space observables keep v =

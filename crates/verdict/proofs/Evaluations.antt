@@ -22,7 +22,7 @@ use Rattle.verdict.specs.Compiled.{value_of, Shows, Compiles}
 use Rattle.verdict.specs.Counting.{count_kept, tally, AreAbove, pairs_of, pairs_in}
 use Rattle.verdict.specs.Evaluated.{number_that, is_satisfied, values_of, IsWorded, IsStateOf, Says}
 use Rattle.verdict.specs.Final.{final_value, final_state}
-use Rattle.verdict.specs.Judgement.{is_same, total_of, IsJudged}
+use Rattle.verdict.specs.Judgement.{is_same_truth, total_of, IsJudged}
 use Rattle.verdict.specs.Kept.{holds_at, is_kept, holds_on_some, kept, Flag, names_of_flags, raised_names}
 use Rattle.verdict.specs.Meaning.{observables_of}
 use Rattle.verdict.specs.Order.{state_cmp, is_state}
@@ -113,22 +113,22 @@ apart states h =
 -- the sums of the counts by an answer are sums by the states
 weights : (locations : List (List ℕ)) (shown : List Observable) (f : code.Formula) (b : Bool)
     (states : List CountedState) → All (IsWorded locations shown f) states
-    → total_of (λ s. is_same s.holds b) states
-    ≡ weigh (λ v. is_same (value_of v f) b) (pairs_of states)
+    → total_of (λ s. is_same_truth s.holds b) states
+    ≡ weigh (λ v. is_same_truth (value_of v f) b) (pairs_of states)
 unfolding weigh
 weights ls shown f b [] h = refl
 weights ls shown f b (s ∷ ss) h =
-    sum_by-cons (λ (t : CountedState). cond (is_same t.holds b) t.count 0) s ss
-    ∙ ap (λ (x : Bool). cond (is_same x b) s.count 0 + total_of (λ t. is_same t.holds b) ss)
+    sum_by-cons (λ (t : CountedState). cond (is_same_truth t.holds b) t.count 0) s ss
+    ∙ ap (λ (x : Bool). cond (is_same_truth x b) s.count 0 + total_of (λ t. is_same_truth t.holds b) ss)
     (All-head (IsWorded ls shown f) s ss h).1
-    ∙ ap (λ (n : ℕ). cond (is_same (value_of s.values f) b) s.count 0 + n)
+    ∙ ap (λ (n : ℕ). cond (is_same_truth (value_of s.values f) b) s.count 0 + n)
     (weights ls shown f b ss (All-tail (IsWorded ls shown f) s ss h))
 
-same_true : (a : Bool) → is_same a true ≡ a
+same_true : (a : Bool) → is_same_truth a true ≡ a
 same_true true = refl
 same_true false = refl
 
-same_false : (a : Bool) → is_same a false ≡ not a
+same_false : (a : Bool) → is_same_truth a false ≡ not a
 same_false true = refl
 same_false false = refl
 
@@ -200,20 +200,20 @@ module _ (locations : List (List ℕ)) (all : List Shown) (kind : Quantifier) (p
         (all_keys is_state is_state_equiv is_state_same end (pairs_of e.states) is_in numbered
         (λ v. omega (arith, number_at v)))
 
-    summed : (b : Bool) (n : ℕ) → n ≡ min (total_of (λ s. is_same s.holds b) e.states) (2 ^ 64 - 1)
-        → n ≡ number_that (λ x. is_same (is_satisfied locations proposition x) b) (kept checks all)
+    summed : (b : Bool) (n : ℕ) → n ≡ min (total_of (λ s. is_same_truth s.holds b) e.states) (2 ^ 64 - 1)
+        → n ≡ number_that (λ x. is_same_truth (is_satisfied locations proposition x) b) (kept checks all)
     summed b n h =
-        no_cap (how_many (λ x. is_in x && is_same (value_of (end x) f) b) numbered) n (2 ^ 64 - 1)
+        no_cap (how_many (λ x. is_in x && is_same_truth (value_of (end x) f) b) numbered) n (2 ^ 64 - 1)
         (h
         ∙ ap (λ (m : ℕ). min m (2 ^ 64 - 1)) (weights locations shown f b e.states words
         ∙ weighed is_state is_state_equiv is_state_same end
-        (λ v. is_same (value_of v f) b) (pairs_of e.states) is_in numbered
+        (λ v. is_same_truth (value_of v f) b) (pairs_of e.states) is_in numbered
         distinct number_at))
-        (within (λ x. is_in x && is_same (value_of (end x) f) b))
-        ∙ many_agree (λ x. is_in x && is_same (value_of (end x) f) b) (λ x. is_in x
-        && is_same (is_satisfied locations proposition x.1) b)
-        (λ x. ap (λ (a : Bool). is_in x && is_same a b) (means shows (final_value x.1))) numbered
-        ∙ sym (number_is (λ x. is_same (is_satisfied locations proposition x) b))
+        (within (λ x. is_in x && is_same_truth (value_of (end x) f) b))
+        ∙ many_agree (λ x. is_in x && is_same_truth (value_of (end x) f) b) (λ x. is_in x
+        && is_same_truth (is_satisfied locations proposition x.1) b)
+        (λ x. ap (λ (a : Bool). is_in x && is_same_truth a b) (means shows (final_value x.1))) numbered
+        ∙ sym (number_is (λ x. is_same_truth (is_satisfied locations proposition x) b))
 
     raised : names_of_flags (λ g. holds_on_some keep g.1) flags ≡ raised_names (kept checks all) flags
     raised =
@@ -244,8 +244,8 @@ module _ (locations : List (List ℕ)) (all : List Shown) (kind : Quantifier) (p
           holds = λ content is. word.1 ∙ ap (λ (v : State). value_of v f) is ∙ means shows content;
         }
 
-    pub says : e.positive ≡ min (total_of (λ s. is_same s.holds true) e.states) (2 ^ 64 - 1)
-        → e.negative ≡ min (total_of (λ s. is_same s.holds false) e.states) (2 ^ 64 - 1)
+    pub says : e.positive ≡ min (total_of (λ s. is_same_truth s.holds true) e.states) (2 ^ 64 - 1)
+        → e.negative ≡ min (total_of (λ s. is_same_truth s.holds false) e.states) (2 ^ 64 - 1)
         → e.flags ≡ names_of_flags (λ g. holds_on_some keep g.1) flags → IsJudged kind e
         → Says locations kind proposition shown (kept checks all) flags e
     says positive negative names judged = record {

@@ -29,13 +29,13 @@ final_word c coherence location =
     last_or run_values.NoValue (filter_map (value_stored_at c.events.items location) coherence)
 
 -- what an observable holds at the end
-abbrev pub final_value : Space → Combination → List ℕ → Observable → FinalValue
-final_value space c coherence (shown.Register thread register) =
+abbrev pub candidate_final_value : Space → Combination → List ℕ → Observable → FinalValue
+candidate_final_value space c coherence (shown.Register thread register) =
     value_shown (final_register space c thread register)
-final_value space c coherence (shown.Location location) =
+candidate_final_value space c coherence (shown.Location location) =
     value_shown (final_word c coherence location)
 
 -- the state over these observables in which a candidate ends: a combination, and reads-from with an
 -- order of the stores
-abbrev pub final_state : Space → List Observable → Candidate → List FinalValue
-final_state space observables x = map (final_value space x.0 x.1.1) observables
+abbrev pub candidate_final_state : Space → List Observable → Candidate → List FinalValue
+candidate_final_state space observables x = map (candidate_final_value space x.0 x.1.1) observables

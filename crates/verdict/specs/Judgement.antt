@@ -11,9 +11,9 @@ use Rattle.verdict.specs.declared.answer.OutcomeResult.{OutcomeResult}
 use Rattle.verdict.specs.declared.answer.OutcomeResult.TheVariants.{Refused, Evaluated}
 
 -- whether two truth values are the same
-abbrev pub is_same : Bool → Bool → Bool
-is_same true b = b
-is_same false b = not b
+abbrev pub is_same_truth : Bool → Bool → Bool
+is_same_truth true b = b
+is_same_truth false b = not b
 
 -- how many kept candidates end in the states that pass a test
 abbrev pub total_of : (CountedState → Bool) → List CountedState → ℕ

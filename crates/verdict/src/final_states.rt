@@ -7,7 +7,7 @@ ghost use Rattle.verdict.specs.Counting.{count_kept, count_column, tally, AreAbo
 ghost use Rattle.verdict.specs.Kept.{holds_at};
 ghost use Rattle.verdict.specs.Final as shown;
 ghost use Rattle.verdict.specs.Final.{value_shown, value_stored_at};
-ghost use Rattle.verdict.specs.Ends.{final_register, final_word, final_value};
+ghost use Rattle.verdict.specs.Ends.{final_register, final_word, candidate_final_value};
 ghost use Rattle.verdict.specs.Order.{is_state};
 ghost use Rattle.verdict.specs.declared.answer.FinalValue.{FinalValue};
 
@@ -93,7 +93,7 @@ fn held_value(
     coherence: &[u8],
     observable: Observable,
 ) -> FinalValue
-    ensures { result ≡ final_value space.now combination.now coherence.now observable }
+    ensures { result ≡ candidate_final_value space.now combination.now coherence.now observable }
 {
     match observable {
         Observable::Register(thread, register) => {
@@ -112,7 +112,7 @@ fn write_state(
     state: &mut Vec<FinalValue>,
 ) -> Result<(), AllocError>
     ensures { OnOk result (state.new.items
-        ≡ map (final_value space.now combination.now coherence.now) observables.now) }
+        ≡ map (candidate_final_value space.now combination.now coherence.now) observables.now) }
 {
     state.clear();
     for observable in observables {
@@ -197,7 +197,7 @@ fn count_order(
     tally: &mut Tally,
 ) -> Result<(), AllocError>
     ensures { OnOk result (Counts tally.old.counts.entries tally.new.counts.entries
-        (λ v. if is_state v (map (final_value space.now combination.now coherence.now)
+        (λ v. if is_state v (map (candidate_final_value space.now combination.now coherence.now)
         observables.now) then found
         else 0)) }
 {
@@ -219,7 +219,8 @@ fn count_combination(
 ) -> Result<(), AllocError>
     ensures { OnOk result (Counts tally.old.counts.entries tally.new.counts.entries
         (λ v. count_kept
-        (λ t. is_state v (map (final_value space.now combination.now t.1) observables.now))
+        (λ t. is_state v (map (candidate_final_value space.now combination.now t.1)
+        observables.now))
         kept.now (candidates_of combination.now))) }
 {
     let read_choices = combination.reads_from.len();

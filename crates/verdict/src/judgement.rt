@@ -10,7 +10,7 @@ ghost use Rattle.verdict.specs.Kept.{holds_at, is_kept, AreKeptBy, holds_on_some
 ghost use Rattle.verdict.specs.Names.{is_name};
 ghost use Rattle.verdict.specs.Evaluated.{values_of, IsWorded, AreEndStates, IsEvaluation, IsOutcomeOn};
 ghost use Rattle.verdict.specs.Order.{state_cmp};
-ghost use Rattle.verdict.specs.Judgement.{is_same, total_of, observation_of, is_met, IsJudged, IsOutcomeOf};
+ghost use Rattle.verdict.specs.Judgement.{is_same_truth, total_of, observation_of, is_met, IsJudged, IsOutcomeOf};
 
 use crate::answer::{CountedState, Evaluation, Observation, Outcome, OutcomeResult};
 use crate::final_states::{StateCounts, final_states};
@@ -130,7 +130,7 @@ fn counted_states(
 // How many kept candidates end in the states on which the proposition comes out so, or the
 // greatest number where that is less.
 fn total(states: &[CountedState], holds: bool) -> u64
-    ensures { result ≡ min (total_of (λ s. is_same s.holds holds) states.now) (2 ^ 64 - 1) }
+    ensures { result ≡ min (total_of (λ s. is_same_truth s.holds holds) states.now) (2 ^ 64 - 1) }
 {
     let mut all = 0u64;
     for state in states {

@@ -4,7 +4,7 @@ use Rattle.std.specs.List.{list_any, position_or_len}
 use Rattle.text_values.specs.TestValue.{Content}
 use Rattle.text_values.specs.ModelValue.{Clause}
 use Rattle.cat_grammar.specs.declared.form.Form.TheVariants as forms
-use Rattle.cat_grammar.specs.Reads.{Reads}
+use Rattle.cat_grammar.specs.Reads.{ReadsClauses}
 use Rattle.litmus_grammar.specs.Texts.{ReadsTest}
 use Rattle.bench_texts.specs.BenchTexts.{BenchTexts, PlainModel, test_index, put_at, changed_at, no_texts}
 use Rattle.bench_texts.specs.Edits.{Edit, PutTest, PutModel, RefusesEdit}
@@ -74,7 +74,7 @@ pub record HoldsItems (items : List Clause) (t : BenchTexts) : Type 0 where
 -- of the model's file: the model has the items that the text means from then on, and the tests stay
 pub record IsModelTaken (text : List ℕ) (old new : Holding) : Type 0 where
   pub items : List Clause
-  pub reads : Reads forms.Model text items
+  pub reads : ReadsClauses forms.Model text items
   pub holds : HoldsItems items new.texts
   pub tests : new.texts.tests ≡ old.texts.tests
   pub names : new.names ≡ old.names

@@ -16,7 +16,7 @@ use Rattle.candidates.specs.Space.{Candidate}
 use Rattle.cat_eval.specs.declared.column.Column.{Column}
 use Rattle.cat_eval.specs.Checks.{Holds, IsEmptySet}
 use Rattle.cat_eval.specs.Executions.{events_of, EventsAt, PairsAt}
-use Rattle.cat_eval.specs.Meaning.{Means, MeansSet}
+use Rattle.cat_eval.specs.Meaning.{MeansRelation, MeansSet}
 use Rattle.cat_eval.specs.Named.{WithOwn, OwnPairs}
 use Rattle.cat_eval.specs.Values.{IsMeaning}
 use Rattle.text_values.specs.declared.model.CheckWord.{CheckWord}
@@ -38,7 +38,7 @@ use Rattle.why_forbidden.specs.declared.checks.FirstRefusal.{FirstRefusal}
 use Rattle.why_forbidden.specs.Checked.{IsChecked, IsFirstRefusal}
 use Rattle.why_forbidden.specs.Laws.{AreOver, HasOneFirstRefusal, HasSameStarts, HasWalkBack}
 use Rattle.why_forbidden.proofs.Stepping.{through_none}
-use Rattle.why_forbidden.specs.Steps.{AreFactorsOn, AreStarts, HasNoSteps, HasNoWalkBack, HasSteps, IsWalkBack, AreStartsBack, StepStart, start_at, starts_at, starts_through}
+use Rattle.why_forbidden.specs.Steps.{AreFactorsOn, AreStepStarts, HasNoSteps, HasNoWalkBack, HasSteps, IsWalkBack, AreStartsBack, StepStart, start_at, starts_at, starts_through}
 
 -- ---- no walk where none is found
 
@@ -151,18 +151,18 @@ record IsRelated (check : CheckCode) (n : ℕ) (sets : Source → ℕ → Type 0
   tree : RelTree
   is : check.code.steps.items ≡ rel_code tree []
   word : check.word ≡ words.Irreflexive
-  related : Means n sets (WithOwn outer (OwnPairs n [])) tree event event
+  related : MeansRelation n sets (WithOwn outer (OwnPairs n [])) tree event event
   few : event < n
 
 module _ (check : CheckCode) (n : ℕ) (sets : Source → ℕ → Type 0) (outer : Source → ℕ → ℕ → Type 0)
     (event : ℕ) (s : Events) (r : Relation) where
   of_tree : (t : RelTree) → check.code.steps.items ≡ rel_code t []
-      → IsRelation r n (Means n sets (WithOwn outer (OwnPairs n [])) t)
-      → IsExplanation check.negated (Holds check.word (Means n sets (WithOwn outer (OwnPairs n [])) t))
-      (Breaks check.word (Means n sets (WithOwn outer (OwnPairs n [])) t))
+      → IsRelation r n (MeansRelation n sets (WithOwn outer (OwnPairs n [])) t)
+      → IsExplanation check.negated (Holds check.word (MeansRelation n sets (WithOwn outer (OwnPairs n [])) t))
+      (Breaks check.word (MeansRelation n sets (WithOwn outer (OwnPairs n [])) t))
       (Some (shown.Reflexive event)) → IsRelated check n sets outer event
   of_tree t is are h =
-      let R = Means n sets (WithOwn outer (OwnPairs n [])) t in
+      let R = MeansRelation n sets (WithOwn outer (OwnPairs n [])) t in
       let b = broken_word check.word R event (broken check.negated (Holds check.word R) (Breaks check.word R) event h) in
       let inside : event < r.count = (are.regular.within event event ((are.pairs event event).1 b.1)).0 in
       record { tree = t; is = is; word = b.0; related = b.1; few = subst (λ (m : ℕ). event < m) are.count inside }
@@ -266,7 +266,7 @@ module _ (space : Space) (check : CheckValues) (columns : List (Vec Column Globa
 
   same_starts : (v w : Witness) → IsSame v w
       → IsWitness check.check.now check.values k (Some v) → (starts others : List StepStart)
-      → AreStarts check k (events_of one) v starts → AreStarts check k (events_of one) w others
+      → AreStepStarts check k (events_of one) v starts → AreStepStarts check k (events_of one) w others
       → starts ≡ others
   same_starts (shown.Cycle xs) (shown.Cycle ys) same refuses starts others p q =
       p ∙ ap (starts_at check.check.now.code) same ∙ sym q

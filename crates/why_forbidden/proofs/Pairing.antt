@@ -16,7 +16,7 @@ use Rattle.cat_eval.specs.Values.{IsFor, IsMeaning}
 use Rattle.text_values.specs.declared.predefined.Predefined.{Predefined}
 use Rattle.draw_graph.specs.declared.drawing.Edges.{Edges}
 use Rattle.draw_graph.specs.declared.drawing.Ink.{Ink}
-use Rattle.draw_graph.specs.Drawn.{AreEdges, Drawn, DrawnAmong, IsOrder}
+use Rattle.draw_graph.specs.Drawn.{AreEdges, Drawn, DrawnAmong, IsStrictOrder}
 use Rattle.why_witness.specs.Pairs.{HasPair}
 use Rattle.draw_relations.specs.declared.values.ShownValues.{ShownValues}
 use Rattle.why_labels.specs.declared.label.PredefinedValue.{PredefinedValue}
@@ -27,7 +27,7 @@ use Rattle.why_forbidden.specs.Language.{IsOfLanguage}
 
 -- ---- the same pairs are drawn alike
 
-order_as : (R Q : ℕ → ℕ → Type 0) → ((a b : ℕ) → R a b ↔ Q a b) → IsOrder R → IsOrder Q
+order_as : (R Q : ℕ → ℕ → Type 0) → ((a b : ℕ) → R a b ↔ Q a b) → IsStrictOrder R → IsStrictOrder Q
 order_as R Q same ordered = let (irreflexive, transitive) = ordered in (
   (λ a q. irreflexive a ((same a a).1 q)),
   (λ a b q.

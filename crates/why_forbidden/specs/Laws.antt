@@ -14,7 +14,7 @@ use Rattle.why_witness.specs.Witnesses.{IsExpression, IsSame}
 use Rattle.why_forbidden.specs.declared.checks.CheckValues.{CheckValues}
 use Rattle.why_forbidden.specs.declared.checks.FirstRefusal.{FirstRefusal}
 use Rattle.why_forbidden.specs.Checked.{IsChecked, IsFirstRefusal}
-use Rattle.why_forbidden.specs.Steps.{AreStarts, HasSteps, IsWalkBack, AreStartsBack, StepStart, start_at}
+use Rattle.why_forbidden.specs.Steps.{AreStepStarts, HasSteps, IsWalkBack, AreStartsBack, StepStart, start_at}
 
 abbrev pub IsOfExpression : CheckValues → Type 0
 IsOfExpression c = IsExpression c.check.now.code.kind c.check.now.code.steps.items
@@ -58,5 +58,5 @@ HasSameStarts space check =
     → AreOver space columns items (check ∷ []) k one
     → (v w : Witness) → IsWitness check.check.now check.values k (Some v)
     → IsWitness check.check.now check.values k (Some w)
-    → (starts others : List StepStart) → AreStarts check k (events_of one) v starts
-    → AreStarts check k (events_of one) w others → starts ≡ others
+    → (starts others : List StepStart) → AreStepStarts check k (events_of one) v starts
+    → AreStepStarts check k (events_of one) w others → starts ≡ others

@@ -72,13 +72,13 @@ AreStartsBack check k n event starts =
     ⊎ ((starts ≡ start_at check.check.now.code event ∷ []) × HasNoSteps check k n event)
 
 -- where the steps begin that show why the check refuses the candidate of number k, of n events
-abbrev pub AreStarts : CheckValues → ℕ → ℕ → Witness → List StepStart → Type 0
-AreStarts check k n (shown.Cycle events) starts =
+abbrev pub AreStepStarts : CheckValues → ℕ → ℕ → Witness → List StepStart → Type 0
+AreStepStarts check k n (shown.Cycle events) starts =
     starts ≡ starts_at check.check.now.code events.items
-AreStarts check k n (shown.Reflexive event) starts = AreStartsBack check k n event starts
-AreStarts check k n (shown.Pair from to) starts = starts ≡ start_at check.check.now.code from ∷ []
-AreStarts check k n (shown.Member event) starts = starts ≡ []
-AreStarts check k n shown.Met starts = starts ≡ []
+AreStepStarts check k n (shown.Reflexive event) starts = AreStartsBack check k n event starts
+AreStepStarts check k n (shown.Pair from to) starts = starts ≡ start_at check.check.now.code from ∷ []
+AreStepStarts check k n (shown.Member event) starts = starts ≡ []
+AreStepStarts check k n shown.Met starts = starts ≡ []
 
 abbrev pub ends_of_cycle : List ℕ → Option (ℕ × ℕ)
 ends_of_cycle [] = None

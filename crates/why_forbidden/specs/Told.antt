@@ -12,7 +12,7 @@ use Rattle.run_combinations.specs.declared.combination.Event.{Event}
 use Rattle.thread_runs.specs.declared.instruction.Instruction.{Instruction}
 use Rattle.why_forbidden.specs.declared.checks.CheckValues.{CheckValues}
 use Rattle.why_forbidden.specs.Labels.{Judgement}
-use Rattle.why_forbidden.specs.Steps.{StepStart, AreStarts, AreToldSteps, ends_of, numbers_of}
+use Rattle.why_forbidden.specs.Steps.{StepStart, AreStepStarts, AreToldSteps, ends_of, numbers_of}
 
 -- the candidate of a number: its events, and of each the instruction that it comes from
 pub record Scene : Type 0 where
@@ -53,7 +53,7 @@ written (Some item) = printed_item (clause_of item)
 pub record IsReason (j : Judgement) (scene : Scene) (check : CheckValues) (witness : Witness)
     (r : Reason) : Type 0 where
   pub starts : List StepStart
-  pub begins : AreStarts check scene.candidate (length scene.events) witness starts
+  pub begins : AreStepStarts check scene.candidate (length scene.events) witness starts
   pub named : r.check.items ≡ written (slice_get j.text check.item)
   pub events : r.events.items ≡ told_events scene (numbers_of (ends_of witness) starts)
   pub first : r.first ≡ option_map (λ ends. ends.0) (ends_of witness)

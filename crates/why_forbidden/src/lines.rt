@@ -133,6 +133,7 @@ fn lines_of(
 }
 
 /// The edges of each relation between the events that are drawn. Errors: want of memory.
+#[inline(never)]
 pub fn all_lines(
     alloc: Global,
     space: &Space,
@@ -189,6 +190,7 @@ fn shown_line(
 
 /// The edges of each relation that a model shows between the events that are drawn. Errors: want of
 /// memory.
+#[inline(never)]
 pub fn shown_lines(
     alloc: Global,
     space: &Space,

@@ -2,7 +2,7 @@
 
 ghost use Rattle.std.specs.Prelude.{◌≡◌, ◌++◌, [], IfOk, MatchOption, OnOk, length, map, drop, option_map, slice_get, slice_index_or};
 ghost use Rattle.why_walks.specs.Walks.{runs_of};
-ghost use Rattle.why_forbidden.specs.Steps.{AreStarts, AreToldSteps, AreStepsTo, HasNoSteps, HasSteps, IsToldStep, AreStartsBack, ends_of, legs_to, next_event, numbers_of};
+ghost use Rattle.why_forbidden.specs.Steps.{AreStepStarts, AreToldSteps, AreStepsTo, HasNoSteps, HasSteps, IsToldStep, AreStartsBack, ends_of, legs_to, next_event, numbers_of};
 ghost use Rattle.why_forbidden.specs.Steps.{starts_at, starts_through, with_event, with_events};
 ghost use Rattle.why_forbidden.specs.Told.{IsReason, told_at, told_events, written};
 ghost use Rattle.why_forbidden.specs.Views.{judgement_of, leg_of, scene_of, start_of};
@@ -267,7 +267,7 @@ fn starts_of<'a>(
     told: Told<'_>,
     witness: &Witness,
 ) -> Result<Vec<Start<'a>>, AllocError>
-    ensures { IfOk result (λ v. AreStarts check.now told.entry.candidate
+    ensures { IfOk result (λ v. AreStepStarts check.now told.entry.candidate
         (length told.entry.events.now) witness.now (map start_of v.items)) }
 {
     match witness {

@@ -12,7 +12,7 @@ use Rattle.thread_runs.specs.Runs.{Thread, Run, run_of}
 use Rattle.thread_runs.specs.declared.instruction.Instruction.{Instruction}
 use Rattle.thread_runs.specs.declared.run.Run as code_run
 use Rattle.thread_runs.specs.declared.value.Value.{Value}
-use Rattle.why_origins.specs.Origins.{AreMade, AreMadeBelow, AreMadeOf, AreMadeOn, AreRunsOver, HasNoRun, IsReader, OneThread, Reads, made_by_run, made_in, values_read}
+use Rattle.why_origins.specs.Origins.{AreMade, AreMadeBelow, AreMadeOf, AreMadeOn, AreRunsOver, HasNoRun, IsReader, OneThread, RunReads, made_by_run, made_in, values_read}
 
 -- ---- two lists that show the same
 
@@ -45,7 +45,7 @@ matched f g xs ys same x here =
 
 by_run : (t : Thread) (domain values : List Value) (run : code_run.Run) (r : Run)
     (xs : List (Option Instruction)) → run_shown run ≡ shown_run r
-    → (run_of t.lines t.first r.values ≡ Some r.outcome) → Reads values run
+    → (run_of t.lines t.first r.values ≡ Some r.outcome) → RunReads values run
     → xs ≡ made_in run.steps.items → AreMade t domain values xs
 by_run t domain values run r xs like goes reads is =
     let taken : r.values ≡ values = sym (ap (λ (s : ShownRun). s.values) like) ∙ reads in
@@ -61,13 +61,13 @@ by_run t domain values run r xs like goes reads is =
     )
 
 without : (t : Thread) (domain values : List Value) (runs : List code_run.Run)
-    → ShowsRuns t domain runs → All (λ run. Reads values run → ⊥) runs → HasNoRun t domain values
+    → ShowsRuns t domain runs → All (λ run. RunReads values run → ⊥) runs → HasNoRun t domain values
 without t domain values runs shows none o within goes =
     let (all, are, like) = shows in
     let r : Run = record { values = values; outcome = o } in
     let (run, there, alike) = matched shown_run run_shown all runs (sym like) r ((are.exact r).1 (within, goes)) in
     let (k, lt, is) = there in
-    none k run lt (subst (λ (x : code_run.Run). Reads values x) (sym is)
+    none k run lt (subst (λ (x : code_run.Run). RunReads values x) (sym is)
     (sym (ap (λ (s : ShownRun). s.values) alike)))
 
 made_as : (t : Thread) (domain values : List Value) (runs : List code_run.Run)

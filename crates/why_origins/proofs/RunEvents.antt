@@ -19,7 +19,7 @@ use Rattle.thread_runs.specs.declared.instruction.Line.TheVariants.{Label, Does}
 use Rattle.thread_runs.specs.declared.instruction.RunStep.{RunStep}
 use Rattle.thread_runs.specs.declared.state.State.{State}
 use Rattle.thread_runs.specs.Machine.{register, sum_of, is_load, is_fault, is_address, takes_branch, event_of}
-use Rattle.thread_runs.specs.Runs.{Walk, Outcome, Run, walk_at, walk_after, walk_past, ends, after_load, after_instruction, after_line, run_from, run_of}
+use Rattle.thread_runs.specs.Runs.{Walk, RunOutcome, Run, walk_at, walk_after, walk_past, ends, after_load, after_instruction, after_line, run_from, run_of}
 use Rattle.run_combinations.specs.Events.{action_in, with_action, thread_events, initial_stores, is_store_instruction, fence_of_instruction}
 use Rattle.run_combinations.specs.declared.combination.Action.{Action}
 use Rattle.run_combinations.specs.declared.combination.Action.TheVariants.{Fence as FenceAction}
@@ -28,7 +28,7 @@ use Rattle.candidates.specs.Executions.{events, events_from}
 use Rattle.candidates.proofs.LoadValues.{read_in}
 use Rattle.candidates.proofs.Whole.{AreLocated}
 use Rattle.why_origins.specs.OfRuns.{ComesFrom}
-use Rattle.why_origins.specs.Origins.{made_by, made_in, makes_event, not_made, value_read, values_read}
+use Rattle.why_origins.specs.Origins.{made_by, made_in, makes_event, not_made, event_value_read, values_read}
 
 -- two lists, and two more behind them
 pub zip_both : {A B : Type 0} (R : A → B → Type 0) (xs us : List A) (ys vs : List B)
@@ -127,7 +127,7 @@ Agrees t w = AllZip ComesFrom (made_in w.steps) (thread_events t w.events)
 
 abbrev KeepsOn : ℕ → List Line → Type 0
 KeepsOn t xs =
-    (w : Walk) (vs : List Value) (o : Outcome) → run_from xs w vs ≡ Some o → Agrees t w
+    (w : Walk) (vs : List Value) (o : RunOutcome) → run_from xs w vs ≡ Some o → Agrees t w
     → Agrees t o.walk
 
 agrees_more : (t : ℕ) (i : Instruction) (b : Bool) (v : Value) (w : Walk)
@@ -145,32 +145,32 @@ agrees_more t i b v w sound h =
     (zip_both ComesFrom (made_in w.steps) (made_in (step_of i v ∷ [])) (thread_events t w.events)
     (thread_events t (event_of i v w.state)) h (comes t i v v w.state sound)))
 
-ends_agree : (t : ℕ) (f : Bool) (w : Walk) (vs : List Value) (o : Outcome) → ends f w vs ≡ Some o
+ends_agree : (t : ℕ) (f : Bool) (w : Walk) (vs : List Value) (o : RunOutcome) → ends f w vs ≡ Some o
     → Agrees t w → Agrees t o.walk
-ends_agree t f w [] o e h = subst (λ (q : Outcome). Agrees t q.walk) (same_Some _ _ e) h
+ends_agree t f w [] o e h = subst (λ (q : RunOutcome). Agrees t q.walk) (same_Some _ _ e) h
 ends_agree t f w (v ∷ vs) o e h = absurd cc
 
 module _ (t : ℕ) (xs : List Line) (rest : KeepsOn t xs) where
   advanced_agree : (i : Instruction) (b : Bool) (v : Value) (w : Walk) (vs : List Value)
-      (o : Outcome) → is_fault i w.state ≡ false → run_from xs (walk_after i b v w) vs ≡ Some o
+      (o : RunOutcome) → is_fault i w.state ≡ false → run_from xs (walk_after i b v w) vs ≡ Some o
       → Agrees t w → Agrees t o.walk
   advanced_agree i b v w vs o sound e h =
       rest (walk_after i b v w) vs o e (agrees_more t i b v w sound h)
 
   supplied_agree : (l : Bool) (i : Instruction) (b : Bool) (w : Walk) (vs : List Value)
-      (o : Outcome) → is_fault i w.state ≡ false → after_load l i b (run_from xs) w vs ≡ Some o
+      (o : RunOutcome) → is_fault i w.state ≡ false → after_load l i b (run_from xs) w vs ≡ Some o
       → Agrees t w → Agrees t o.walk
   supplied_agree true i b w [] o sound e h = absurd cc
   supplied_agree true i b w (v ∷ vs) o sound e h = advanced_agree i b v w vs o sound e h
   supplied_agree false i b w vs o sound e h = advanced_agree i b NoValue w vs o sound e h
 
-  obeyed_agree : (f : Bool) (i : Instruction) (w : Walk) (vs : List Value) (o : Outcome)
+  obeyed_agree : (f : Bool) (i : Instruction) (w : Walk) (vs : List Value) (o : RunOutcome)
       → is_fault i w.state ≡ f → after_instruction f i (run_from xs) w vs ≡ Some o → Agrees t w
       → Agrees t o.walk
   obeyed_agree true i w vs o is e h = ends_agree t true w vs o e h
   obeyed_agree false i w vs o is e h = supplied_agree (is_load i) i (takes_branch i w.state) w vs o is e h
 
-  one_agree : (s : Option ℕ) (x : Line) (w : Walk) (vs : List Value) (o : Outcome)
+  one_agree : (s : Option ℕ) (x : Line) (w : Walk) (vs : List Value) (o : RunOutcome)
       → after_line s x (run_from xs) w vs ≡ Some o → Agrees t w → Agrees t o.walk
   one_agree (Some l) x w vs o e h = rest (walk_past x l w) vs o e h
   one_agree None (Label m) w vs o e h = rest w vs o e h
@@ -180,7 +180,7 @@ lines_agree : (t : ℕ) (xs : List Line) → KeepsOn t xs
 lines_agree t [] w vs o e h = ends_agree t false w vs o e h
 lines_agree t (x ∷ xs) w vs o e h = one_agree t xs (lines_agree t xs) w.seeking x w vs o e h
 
-pub run_agrees : (t : ℕ) (lines : List Line) (s : State) (vs : List Value) (o : Outcome)
+pub run_agrees : (t : ℕ) (lines : List Line) (s : State) (vs : List Value) (o : RunOutcome)
     → run_of lines s vs ≡ Some o
     → AllZip ComesFrom (made_in o.walk.steps) (thread_events t o.walk.events)
 run_agrees t lines s vs o e = lines_agree t lines (walk_at s) vs o e tt
@@ -189,7 +189,7 @@ run_agrees t lines s vs o e = lines_agree t lines (walk_at s) vs o e tt
 
 values_both : (n : ℕ) (es fs : List Event)
     → values_read n (es ++ fs) ≡ values_read n es ++ values_read n fs
-values_both n es fs = filter_map-append (value_read n) es fs
+values_both n es fs = filter_map-append (event_value_read n) es fs
 
 initial_values : (n location : ℕ) (vs : List Value)
     → values_read n (initial_stores location vs) ≡ []

@@ -13,7 +13,7 @@ use Rattle.thread_runs.specs.declared.instruction.Program.{Program}
 use Rattle.thread_runs.specs.declared.instruction.RunStep.{RunStep}
 use Rattle.thread_runs.specs.declared.value.Value.{Value}
 use Rattle.thread_runs.specs.AllRuns.{thread_of}
-use Rattle.thread_runs.specs.Runs.{Thread, Outcome, Run, IsThreadRun, run_of, walk_at}
+use Rattle.thread_runs.specs.Runs.{Thread, RunOutcome, Run, IsThreadRun, run_of, walk_at}
 use Rattle.ppc_semantics.specs.Domain.{threads_from, threads_of}
 use Rattle.ppc_semantics.specs.Lowering.{IsProgram, IsTestDomainFault}
 use Rattle.ppc_semantics.specs.declared.fault.DomainFault.TheVariants as faults
@@ -151,7 +151,7 @@ module _ (test : Test) (p : Program) (of_test : IsProgram test p) (V : List Valu
             let (steps, (o, executes, whole), are_made) = ran in
             let one : o ≡ r.outcome = same_Some _ _ (sym executes ∙ goes) in
             are_made ∙ ap (λ (ss : List RunStep). made_in ss) whole
-            ∙ ap (λ (q : Outcome). made_in q.walk.steps) one
+            ∙ ap (λ (q : RunOutcome). made_in q.walk.steps) one
         | inr unrun ↦
             let of_domain : All (Contains domain) (values_read n (events p.initial.items rs)) = subst (λ (vs : List Value). All (Contains domain) vs) (sym values) (subst (λ (W : List Value). All (Contains W) r.values) (sym same) h.0) in
             absurd (unrun.0 r.outcome of_domain goes)

@@ -11,7 +11,7 @@ use Rattle.run_combinations.specs.declared.combination.Action.{Action}
 use Rattle.run_combinations.specs.declared.combination.Action.TheVariants as actions
 use Rattle.run_combinations.specs.declared.combination.Event.{Event}
 use Rattle.thread_runs.specs.AllRuns.{thread_of}
-use Rattle.thread_runs.specs.Runs.{Thread, Outcome, run_of}
+use Rattle.thread_runs.specs.Runs.{Thread, RunOutcome, run_of}
 use Rattle.thread_runs.specs.declared.instruction.Instruction.{Instruction}
 use Rattle.thread_runs.specs.declared.instruction.Instruction.TheVariants as instructions
 use Rattle.thread_runs.specs.declared.instruction.Program.{Program}
@@ -48,24 +48,24 @@ abbrev pub is_of : Option ℕ → ℕ → Bool
 is_of None thread = false
 is_of (Some other) thread = nat_eq other thread
 
-abbrev pub value_read : ℕ → Event → Option Value
-value_read thread e = if is_of e.thread thread then read_by e.action else None
+abbrev pub event_value_read : ℕ → Event → Option Value
+event_value_read thread e = if is_of e.thread thread then read_by e.action else None
 
 -- in program order
 abbrev pub values_read : ℕ → List Event → List Value
-values_read thread events = filter_map (value_read thread) events
+values_read thread events = filter_map (event_value_read thread) events
 
 -- ---- a thread, run with these values
 
 -- the run, and its steps
 abbrev pub Executes : Thread → List Value → List RunStep → Type 0
 Executes t values steps =
-    (o : Outcome) × (run_of t.lines t.first values ≡ Some o) × (steps ≡ o.walk.steps)
+    (o : RunOutcome) × (run_of t.lines t.first values ≡ Some o) × (steps ≡ o.walk.steps)
 
 -- it has no run with these values, if they are of the domain
 abbrev pub HasNoRun : Thread → List Value → List Value → Type 0
 HasNoRun t domain values =
-    (o : Outcome) → All (Contains domain) values → run_of t.lines t.first values ≡ Some o → ⊥
+    (o : RunOutcome) → All (Contains domain) values → run_of t.lines t.first values ≡ Some o → ⊥
 
 -- the instructions of its events
 abbrev pub AreMade : Thread → List Value → List Value → List (Option Instruction) → Type 0
@@ -126,12 +126,12 @@ AreAllRuns test threads =
     ⊎ ((r : EvalRefusal) × IsTestDomainFault test (faults.Refused r) × (threads ≡ []))
 
 -- this run reads these values, or none does
-abbrev pub Reads : List Value → code_run.Run → Type 0
-Reads values run = run.values.items ≡ values
+abbrev pub RunReads : List Value → code_run.Run → Type 0
+RunReads values run = run.values.items ≡ values
 
 abbrev pub IsReader : List code_run.Run → List Value → Option code_run.Run → Type 0
-IsReader runs values None = All (λ run. Reads values run → ⊥) runs
-IsReader runs values (Some run) = Contains runs run × Reads values run
+IsReader runs values None = All (λ run. RunReads values run → ⊥) runs
+IsReader runs values (Some run) = Contains runs run × RunReads values run
 
 abbrev pub made_by_run : Option code_run.Run → List (Option Instruction)
 made_by_run None = []

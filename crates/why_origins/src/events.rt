@@ -4,7 +4,7 @@ ghost use Rattle.std.specs.Prelude.{◌≡◌, IfOk};
 ghost use Rattle.std.specs.Option.{option_map};
 ghost use Rattle.std.specs.List.{filter_map};
 ghost use Rattle.text_values.specs.declared.test.Test as tests;
-ghost use Rattle.why_origins.specs.Origins.{AreAllRuns, AreInstructions, AreMadeIn, AreMadeOf, is_initial, is_of, made_by, made_by_run, made_in, makes_event, not_made, read_by, value_read, values_read};
+ghost use Rattle.why_origins.specs.Origins.{AreAllRuns, AreInstructions, AreMadeIn, AreMadeOf, is_initial, is_of, made_by, made_by_run, made_in, makes_event, not_made, read_by, event_value_read, values_read};
 
 use crate::runs::run_reading;
 use candidates::{Action, Event, Execution};
@@ -61,7 +61,7 @@ fn is_of(thread: Option<usize>, number: usize) -> bool
 }
 
 fn value_read(thread: usize, event: &Event) -> Option<Value>
-    ensures { result ≡ value_read thread event.now }
+    ensures { result ≡ event_value_read thread event.now }
 {
     if is_of(event.thread, thread) {
         read_by(event.action)

@@ -3,7 +3,7 @@
 ghost use Rattle.std.specs.Prelude.{◌≡◌, ◌↔◌, IfOk, IsTrue, vec_len};
 ghost use Rattle.std.specs.Option.{option_map};
 ghost use Rattle.thread_runs.specs.ValueSet.{IsValueSet};
-ghost use Rattle.why_origins.specs.Origins.{AreAllRuns, AreRunsOver, IsReader, Reads};
+ghost use Rattle.why_origins.specs.Origins.{AreAllRuns, AreRunsOver, IsReader, RunReads};
 
 use ppc_semantics::{Domain, DomainFault, Run, Value, domain, runs};
 use std::alloc::{AllocError, Global};
@@ -35,7 +35,7 @@ pub fn all_runs(alloc: Global, test: &Test) -> Result<Vec<Vec<Run>>, AllocError>
 }
 
 fn reads(run: &Run, values: &[Value]) -> bool
-    ensures { IsTrue result ↔ Reads values.now run.now }
+    ensures { IsTrue result ↔ RunReads values.now run.now }
 {
     are_same_values(&run.values, values)
 }

@@ -17,7 +17,7 @@ use Rattle.cat_eval.specs.declared.column.Column.{Column}
 use Rattle.cat_eval.specs.declared.column.Column.TheVariants as columns
 use Rattle.cat_eval.specs.Columns.{HasColumnValue}
 use Rattle.cat_eval.specs.Executions.{events_of, EventsAt, PairsAt}
-use Rattle.cat_eval.specs.Meaning.{Means}
+use Rattle.cat_eval.specs.Meaning.{MeansRelation}
 use Rattle.cat_eval.specs.Named.{WithOwn, OwnPairs}
 use Rattle.cat_eval.specs.Values.{IsFor, IsMeaning}
 use Rattle.why_witness.specs.Pairs.{HasPair}
@@ -35,14 +35,14 @@ use Rattle.why_walks.specs.Walks.{IsFactorRun}
 module _ (n : ℕ) (sets : Source → ℕ → Type 0) (rels : Source → ℕ → ℕ → Type 0) where
   abbrev pub InTurn : List RelTree → ℕ → ℕ → Type 0
   InTurn [] a b = a ≡ b
-  InTurn (t ∷ ts) a b = (c : ℕ) × Means n sets rels t a c × InTurn ts c b
+  InTurn (t ∷ ts) a b = (c : ℕ) × MeansRelation n sets rels t a c × InTurn ts c b
 
   turns_both : (ts us : List RelTree) (a c b : ℕ) → InTurn ts a c → InTurn us c b
       → InTurn (ts ++ us) a b
   turns_both [] us a c b p q = subst (λ (x : ℕ). InTurn us x b) (sym p) q
   turns_both (t ∷ ts) us a c b p q = (p.0, p.1, turns_both ts us p.0 c b p.2 q)
 
-  in_turn : (t : RelTree) (a b : ℕ) → Means n sets rels t a b → InTurn (factors_of t) a b
+  in_turn : (t : RelTree) (a b : ℕ) → MeansRelation n sets rels t a b → InTurn (factors_of t) a b
   in_turn (RelName source) a b m = (b, m, refl)
   in_turn NoPair a b m = (b, m, refl)
   in_turn (BlendRelations how e f) a b m = (b, m, refl)
@@ -64,21 +64,21 @@ module _ (n : ℕ) (sets : Source → ℕ → Type 0) (rels : Source → ℕ →
         go x [] h = to x b h
         go x (c ∷ cs) h = (to x c h.0, go c cs h.1)
 
-    run : (t : RelTree) → ((a b : ℕ) → Means n sets rels (repeated t) a b → Has r a b) → (a b : ℕ)
-        → Means n sets rels t a b → (events : List ℕ) × IsFactorRun (repeats_of t) (Has r) a events b
+    run : (t : RelTree) → ((a b : ℕ) → MeansRelation n sets rels (repeated t) a b → Has r a b) → (a b : ℕ)
+        → MeansRelation n sets rels t a b → (events : List ℕ) × IsFactorRun (repeats_of t) (Has r) a events b
     run (RelName source) to a b m = (a ∷ [], (refl, to a b m))
     run NoPair to a b m = (a ∷ [], (refl, to a b m))
     run (BlendRelations how e f) to a b m = (a ∷ [], (refl, to a b m))
     run (Compose e f) to a b m = (a ∷ [], (refl, to a b m))
     run (Multiply s t) to a b m = (a ∷ [], (refl, to a b m))
     run (IdentityOn s) to a b m = (a ∷ [], (refl, to a b m))
-    run (Close postfix.Transitive e) to a b m = path (Means n sets rels e) to a b m
+    run (Close postfix.Transitive e) to a b m = path (MeansRelation n sets rels e) to a b m
     run (Close postfix.Reflexive e) to a b (inl same) = ([], inl (refl, same.1))
     run (Close postfix.Reflexive e) to a b (inr m) = (a ∷ [], inr (refl, to a b m))
     run (Close postfix.Inverse e) to a b m = (a ∷ [], (refl, to a b m))
     run (Close postfix.Closure e) to a b (inl same) = ([], inl (refl, same.1))
     run (Close postfix.Closure e) to a b (inr m) =
-        let p = path (Means n sets rels e) to a b m in (p.0, inr p.1)
+        let p = path (MeansRelation n sets rels e) to a b m in (p.0, inr p.1)
     run (ComplementRelation e) to a b m = (a ∷ [], (refl, to a b m))
 
 -- ---- the values of a factor
@@ -120,7 +120,7 @@ module _ (inputs : List (Bor Column)) (space : Space) (k : ℕ) (one : Candidate
     link : Link
     is : IsLinkAt k f link
     repeats : link.repeats ≡ repeats_of t
-    pairs : (a b : ℕ) → Means (events_of one) its_events its_pairs (repeated t) a b
+    pairs : (a b : ℕ) → MeansRelation (events_of one) its_events its_pairs (repeated t) a b
         → Has link.relation a b
     on : IsOn k (events_of one) f.values
 
@@ -134,7 +134,7 @@ module _ (inputs : List (Bor Column)) (space : Space) (k : ℕ) (one : Candidate
       subst
       (λ (a : Kind). IsMeaning a f.code.steps.items (events_of one) its_events
       (PairsAt (events_of one) one inputs k) s r) valued.kind meant in
-      let are : IsRelation r (events_of one) (Means (events_of one) its_events its_pairs (repeated t)) = means (repeated t) (ap (λ (p : FactorSteps). p.steps) part) in
+      let are : IsRelation r (events_of one) (MeansRelation (events_of one) its_events its_pairs (repeated t)) = means (repeated t) (ap (λ (p : FactorSteps). p.steps) part) in
       record {
         link = record { repeats = f.repeats; relation = r };
         is = record { repeats = refl; pairs = its.pairs; regular = are.regular; count = its.count };

@@ -1,5 +1,5 @@
 -- The laws of walks: `laws` states `HasWalks` and `HasOneFirstWalk`. Read Values and Walks first,
--- and `Means` of cat_eval.
+-- and `MeansRelation` of cat_eval.
 use Rattle.std.specs.Prelude.{ℕ, ◌≡◌, List, [], slice_get, Some}
 use denote.Ref.{Bor}
 use Rattle.binding_graph.specs.declared.resolved.Code.{Code}
@@ -8,7 +8,7 @@ use Rattle.candidates.specs.declared.candidate.Space.{Space}
 use Rattle.candidates.specs.Space.{candidates_in, Candidate}
 use Rattle.cat_eval.specs.declared.column.Column.{Column}
 use Rattle.cat_eval.specs.Executions.{events_of, EventsAt, PairsAt}
-use Rattle.cat_eval.specs.Meaning.{Means}
+use Rattle.cat_eval.specs.Meaning.{MeansRelation}
 use Rattle.cat_eval.specs.Named.{WithOwn, OwnPairs}
 use Rattle.why_walks.specs.declared.run.Link.{Link}
 use Rattle.why_walks.specs.declared.value.FactorValues.{FactorValues}
@@ -18,7 +18,7 @@ use Rattle.why_walks.specs.Walks.{IsFirstWalk, IsWalk}
 -- the pairs of an expression in the candidate of number k
 abbrev pub PairsIn : List (Bor Column) → ℕ → Candidate → RelTree → ℕ → ℕ → Type 0
 PairsIn inputs k one t =
-    Means (events_of one) (EventsAt (events_of one) one inputs k)
+    MeansRelation (events_of one) (EventsAt (events_of one) one inputs k)
     (WithOwn (PairsAt (events_of one) one inputs k) (OwnPairs (events_of one) [])) t
 
 -- a walk through the factors from the one event to the other

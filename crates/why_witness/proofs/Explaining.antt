@@ -19,7 +19,7 @@ use Rattle.cat_eval.specs.declared.column.Column.TheVariants as columns
 use Rattle.cat_eval.specs.Checks.{Holds, IsEmptySet}
 use Rattle.cat_eval.specs.Columns.{AreGroupColumns, ColumnsOf, HasColumnValue}
 use Rattle.cat_eval.specs.Executions.{events_of, EventsAt, PairsAt}
-use Rattle.cat_eval.specs.Meaning.{MeansSet, Means}
+use Rattle.cat_eval.specs.Meaning.{MeansSet, MeansRelation}
 use Rattle.cat_eval.specs.Named.{WithOwn, OwnPairs}
 use Rattle.cat_eval.specs.Values.{IsFor, IsMeaning, column_len}
 use Rattle.cat_eval.proofs.Visits.{holds_same, empty_same}
@@ -98,9 +98,9 @@ module _ (check : CheckCode) (found : Option Witness) (n : ℕ) (sets : Source �
       → IsExplained check n sets outer kind found
   of_relation values kinds.OfSet is meant h = absurd is
   of_relation values kinds.OfRelation is meant h =
-      λ t code. relation_explained (Means n sets (WithOwn outer (OwnPairs n [])) t) (meant t code) h
+      λ t code. relation_explained (MeansRelation n sets (WithOwn outer (OwnPairs n [])) t) (meant t code) h
   of_relation values kinds.OfAny is meant h =
-      λ t code. relation_explained (Means n sets (WithOwn outer (OwnPairs n [])) t) (meant t code) h
+      λ t code. relation_explained (MeansRelation n sets (WithOwn outer (OwnPairs n [])) t) (meant t code) h
 
   of_set : (values : List Events) (kind : Kind) → IsFor kind (columns.Sets values)
       → IsMeaning kind check.code.steps.items n sets outer s r

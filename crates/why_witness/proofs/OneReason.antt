@@ -13,12 +13,12 @@ use Rattle.binding_graph.specs.declared.resolved.Source.{Source}
 use Rattle.cat_eval.specs.declared.column.Column.{Column}
 use Rattle.cat_eval.specs.Checks.{Holds, IsEmptySet}
 use Rattle.cat_eval.specs.Executions.{events_of, EventsAt, PairsAt}
-use Rattle.cat_eval.specs.Meaning.{MeansSet, Means}
+use Rattle.cat_eval.specs.Meaning.{MeansSet, MeansRelation}
 use Rattle.cat_eval.specs.Named.{WithOwn, OwnPairs}
 use Rattle.why_witness.specs.declared.witness.Witness.{Witness}
 use Rattle.why_witness.specs.declared.witness.Witness.TheVariants as shown
 use Rattle.why_witness.specs.Refusals.{HasOneWitness}
-use Rattle.why_witness.specs.Witnesses.{AreSameWitnesses, Breaks, BreaksSet, IsExplained, IsExplanation, IsExpression, IsFirstMember, IsMet, IsSame}
+use Rattle.why_witness.specs.Witnesses.{AreSameWitnesses, Breaks, BreaksSet, IsExplained, IsExplanation, IsExpression, IsFirstMember, IsMetWitness, IsSame}
 use Rattle.why_witness.proofs.Same.{breaks_refutes}
 
 -- of two numbers neither of which is the smaller one
@@ -91,7 +91,7 @@ breaks_set_refutes S (shown.Pair a b) h none = h
 breaks_set_refutes S (shown.Member a) h none = none a h.member
 breaks_set_refutes S shown.Met h none = h
 
-met_once : (v w : Witness) → IsMet v → IsMet w → IsSame v w
+met_once : (v w : Witness) → IsMetWitness v → IsMetWitness w → IsSame v w
 met_once (shown.Cycle xs) w p q = absurd p
 met_once (shown.Reflexive a) w p q = absurd p
 met_once (shown.Pair a b) w p q = absurd p
@@ -122,9 +122,9 @@ module _ (check : CheckCode) (n : ℕ) (sets : Source → ℕ → Type 0) (outer
   one_explained kinds.OfSet (t, code) p q =
       let S = MeansSet n sets t in one_explanation (IsEmptySet S) (BreaksSet S) (breaks_set_refutes S) (breaks_set_once S) check.negated f g (p t code) (q t code)
   one_explained kinds.OfRelation (t, code) p q =
-      let R = Means n sets (WithOwn outer (OwnPairs n [])) t in one_explanation (Holds check.word R) (Breaks check.word R) (breaks_refutes check.word R) (breaks_once check.word R) check.negated f g (p t code) (q t code)
+      let R = MeansRelation n sets (WithOwn outer (OwnPairs n [])) t in one_explanation (Holds check.word R) (Breaks check.word R) (breaks_refutes check.word R) (breaks_once check.word R) check.negated f g (p t code) (q t code)
   one_explained kinds.OfAny (t, code) p q =
-      let R = Means n sets (WithOwn outer (OwnPairs n [])) t in one_explanation (Holds check.word R) (Breaks check.word R) (breaks_refutes check.word R) (breaks_once check.word R) check.negated f g (p t code) (q t code)
+      let R = MeansRelation n sets (WithOwn outer (OwnPairs n [])) t in one_explanation (Holds check.word R) (Breaks check.word R) (breaks_refutes check.word R) (breaks_once check.word R) check.negated f g (p t code) (q t code)
 
 pub one_refusal : (check : CheckCode) (values : Column) (k : ℕ) → HasOneWitness check values k
 one_refusal check values k space inputs one expression are at f g p q =

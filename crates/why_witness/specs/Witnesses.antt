@@ -11,7 +11,7 @@ use Rattle.binding_graph.specs.declared.resolved.Source.{Source}
 use Rattle.binding_graph.specs.declared.resolved.Step.{Step}
 use Rattle.binding_graph.specs.Trees.{SetTree, RelTree, set_code, rel_code}
 use Rattle.cat_eval.specs.Checks.{Holds, IsEmptySet}
-use Rattle.cat_eval.specs.Meaning.{MeansSet, Means}
+use Rattle.cat_eval.specs.Meaning.{MeansSet, MeansRelation}
 use Rattle.cat_eval.specs.Named.{WithOwn, OwnPairs}
 use Rattle.why_witness.specs.declared.witness.Witness.{Witness}
 use Rattle.why_witness.specs.declared.witness.Witness.TheVariants as shown
@@ -35,9 +35,9 @@ BreaksSet S (shown.Member a) = IsFirstMember S a
 BreaksSet S witness = ⊥
 
 -- of a negated check: what is asked holds, which the check forbids
-abbrev pub IsMet : Witness → Type 0
-IsMet shown.Met = Unit {0}
-IsMet witness = ⊥
+abbrev pub IsMetWitness : Witness → Type 0
+IsMetWitness shown.Met = Unit {0}
+IsMetWitness witness = ⊥
 
 -- The check asks for this, or, where it is negated, that it does not hold. There is no witness just
 -- where the check holds; and a witness shows that it does not.
@@ -45,7 +45,7 @@ abbrev pub IsExplanation : Bool → Type 0 → (Witness → Type 0) → Option W
 IsExplanation false Asked Broken None = Asked
 IsExplanation false Asked Broken (Some w) = Broken w
 IsExplanation true Asked Broken None = Asked → ⊥
-IsExplanation true Asked Broken (Some w) = Asked × IsMet w
+IsExplanation true Asked Broken (Some w) = Asked × IsMetWitness w
 
 -- likewise of a check's expression, where the names have these events and pairs among n events
 abbrev pub IsExplained : CheckCode → ℕ → (Source → ℕ → Type 0) → (Source → ℕ → ℕ → Type 0) → Kind
@@ -55,11 +55,11 @@ IsExplained check n sets outer kinds.OfSet found =
     MeansSet n sets t in IsExplanation check.negated (IsEmptySet S) (BreaksSet S) found
 IsExplained check n sets outer kinds.OfRelation found =
     (t : RelTree) → check.code.steps.items ≡ rel_code t [] → let R =
-    Means n sets (WithOwn outer (OwnPairs n [])) t in IsExplanation check.negated
+    MeansRelation n sets (WithOwn outer (OwnPairs n [])) t in IsExplanation check.negated
     (Holds check.word R) (Breaks check.word R) found
 IsExplained check n sets outer kinds.OfAny found =
     (t : RelTree) → check.code.steps.items ≡ rel_code t [] → let R =
-    Means n sets (WithOwn outer (OwnPairs n [])) t in IsExplanation check.negated
+    MeansRelation n sets (WithOwn outer (OwnPairs n [])) t in IsExplanation check.negated
     (Holds check.word R) (Breaks check.word R) found
 
 -- ---- that there is one explanation

@@ -14,7 +14,7 @@ use Rattle.memo_core.specs.declared.keys.Node.{Node}
 use Rattle.memo_core.specs.Step.{Has}
 use Rattle.bench_nodes.specs.declared.table.ModelRow.{ModelRow}
 use Rattle.bench_nodes.specs.declared.table.TestRow.{TestRow}
-use Rattle.bench_nodes.specs.Nodes.{used, has_test}
+use Rattle.bench_nodes.specs.Nodes.{used, has_test_row}
 use Rattle.bench_nodes.proofs.Laws.{used_test}
 use Rattle.bench_slots.specs.Tables.{ModelReading, Sound, Faulty}
 use Rattle.bench_values.specs.Values.{outcome_in}
@@ -44,7 +44,7 @@ use Rattle.bench_instance.specs.declared.stamped_texts.StampedTexts.{StampedText
 use Rattle.bench_instance.specs.StampedTexts.{stamped_state, stamped_net, verdict_by, verdict_of, AreSoundTexts}
 use Rattle.bench_instance.specs.Edited.{IsEdited}
 use Rattle.bench_instance.specs.Lemmas.Commits.{all_are}
-use Rattle.bench_instance.specs.StampedCells.{scratch_by, from_scratch, test_of, model_of as model_named}
+use Rattle.bench_instance.specs.StampedCells.{scratch_by, cell_from_scratch, test_of, model_of as model_named}
 
 -- ---- the same edit
 
@@ -280,7 +280,7 @@ module _ (t : StampedTexts) (s : AreSoundTexts t) where
   -- ---- used nodes are needed
 
   row_of_id : (last : ℕ) (rs : List TestRow) (ts : List Test) (ls : List (Vec (List ℕ) Global))
-      (id : ℕ) → AreTestRows last rs ts ls → has_test rs id ≡ true
+      (id : ℕ) → AreTestRows last rs ts ls → has_test_row rs id ≡ true
       → (i : ℕ) × (r : TestRow) × (c : Test) × (slice_get rs i ≡ Some r) × (slice_get ts i ≡ Some c)
       × (r.id ≡ id)
   row_of_id last [] ts ls id h = λ e. absurd (let f : false ≡ true = e in cc)
@@ -360,7 +360,7 @@ module _ (t : StampedTexts) (s : AreSoundTexts t) where
         cell.node_is one)
 
     pub cell_is_solved : SolvedIsFromScratch makes (stamped_net t) outcome_in (verdict_of t test model)
-        (from_scratch t test model)
+        (cell_from_scratch t test model)
     cell_is_solved memos n all e settled = scratch_at n e memos n all refl settled
 
 pub verdicts_used : (t : StampedTexts) (test model : List ℕ) (n : Node) → AreSoundTexts t
@@ -372,5 +372,5 @@ all_needed t s = node_is_needed t s
 
 pub cells_solved : (t : StampedTexts) (test model : List ℕ) → AreSoundTexts t
     → SolvedIsFromScratch makes (stamped_net t) outcome_in (verdict_of t test model)
-    (from_scratch t test model)
+    (cell_from_scratch t test model)
 cells_solved t test model s = cell_is_solved t s test model

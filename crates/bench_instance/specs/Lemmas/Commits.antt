@@ -12,7 +12,7 @@ use Rattle.bench_texts.specs.Held.{plain_model, texts_of, IsModelRead, AreModels
 use Rattle.bench_texts.specs.Replacements.{texts_with, tests_with, models_with}
 use Rattle.bench_parts.specs.declared.parts.Parts.{Parts}
 use Rattle.bench_parts.specs.Contents as contents
-use Rattle.bench_parts.specs.States.{IsSameState}
+use Rattle.bench_parts.specs.States.{IsSamePartsState}
 use Rattle.bench_parts.specs.Written.{IsStamped}
 use Rattle.bench_parts.specs.Stamps.{IsLaterNumber}
 use Rattle.bench_parts.specs.Models.{raised_model}
@@ -43,13 +43,13 @@ use Rattle.bench_text_laws.proofs.Together.{applied_together}
 -- ---- parts that were the same
 
 tests_from : (p u q : Parts) (ts us : List Test)
-    → IsSameState (contents.parts_state p ts) (contents.parts_state u us) → AreTestsSame u q
+    → IsSamePartsState (contents.parts_state p ts) (contents.parts_state u us) → AreTestsSame u q
     → AreTestsSame p q
 tests_from p u q ts us s h =
     record { rows = h.rows ∙ s.test_rows; locations = h.locations ∙ s.locations }
 
 models_from : (p u q : Parts) (ts us : List Test)
-    → IsSameState (contents.parts_state p ts) (contents.parts_state u us) → AreModelsSame u q
+    → IsSamePartsState (contents.parts_state p ts) (contents.parts_state u us) → AreModelsSame u q
     → AreModelsSame p q
 models_from p u q ts us s h = record {
   rows = h.rows ∙ s.model_rows;
@@ -61,7 +61,7 @@ models_from p u q ts us s h = record {
 }
 
 changes_from : (p u q : Parts) (ts us : List Test) (number : ℕ) (e : EditedParts)
-    → IsSameState (contents.parts_state p ts) (contents.parts_state u us) → Changes u number e q
+    → IsSamePartsState (contents.parts_state p ts) (contents.parts_state u us) → Changes u number e q
     → Changes p number e q
 changes_from p u q ts us number (edited.PutTest at row locations) s h = record {
   new = h.new;

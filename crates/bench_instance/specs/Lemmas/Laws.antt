@@ -39,7 +39,7 @@ use Rattle.bench_instance.specs.declared.stamped_texts.StampedTexts.{StampedText
 use Rattle.bench_instance.specs.declared.stamped_texts.PreparedEdit.{PreparedEdit}
 use Rattle.bench_instance.specs.StampedTexts.{AreSoundTexts, AreTextsSince, verdict_of}
 use Rattle.bench_instance.specs.Edited.{IsPrepared, IsCommitted}
-use Rattle.bench_instance.specs.StampedCells.{from_scratch, scratch_by, test_of, model_of}
+use Rattle.bench_instance.specs.StampedCells.{cell_from_scratch, scratch_by, test_of, model_of}
 use Rattle.bench_instance.specs.Lemmas.CellProofs.{cell_in, is_named, stands_there, tests_apart, models_apart}
 use Rattle.bench_instance.specs.Cells.{cell_with, all_cells, IsCountable, board_cells}
 use Rattle.board.specs.Histories.{contents_with, contents_after, IsMadeOn, AreMadeFrom, IsHistory, MayComeNext, IsEditAfter, IsSettle}
@@ -409,7 +409,7 @@ model_here t j model name sound there named =
 pub settles_follow : (t : StampedTexts) (all : List BoardOp) (index : ℕ) (c : BoardCell Outcome)
     (o : Outcome) (op : BoardOp)
     → AreSoundTexts t → AreAfter t all → slice_get (board_cells (board_after all)) index ≡ Some c
-    → from_scratch t c.test c.model o → SettlesCell (board_after all) index o op → MayComeNext all op
+    → cell_from_scratch t c.test c.model o → SettlesCell (board_after all) index o op → MayComeNext all op
 settles_follow t all index c o (ops.Edit edit) sound a h right s = absurd s
 settles_follow t all index c o (ops.Settle at outcome) sound a h right s =
     let b = board_after all in

@@ -13,14 +13,14 @@ use Rattle.text_values.specs.contracts.test.Value as value
 use Rattle.text_values.specs.TestValue.{Formula, Constant, Holds, Not, Join}
 
 -- a constant or an atom; or a negation or an operator
-abbrev pub Mark : Type 0
-Mark = (Bool ⊎ (Place × Value)) ⊎ (Unit {0} ⊎ Connective)
+abbrev pub FormulaMark : Type 0
+FormulaMark = (Bool ⊎ (Place × Value)) ⊎ (Unit {0} ⊎ Connective)
 
-abbrev pub marks : Formula → List Mark → List Mark
-marks (Constant b) rest = inl (inl b) ∷ rest
-marks (Holds p v) rest = inl (inr (p, v)) ∷ rest
-marks (Not a) rest = inr (inl tt) ∷ marks a rest
-marks (Join op a b) rest = inr (inr op) ∷ marks a (marks b rest)
+abbrev pub formula_marks : Formula → List FormulaMark → List FormulaMark
+formula_marks (Constant b) rest = inl (inl b) ∷ rest
+formula_marks (Holds p v) rest = inl (inr (p, v)) ∷ rest
+formula_marks (Not a) rest = inr (inl tt) ∷ formula_marks a rest
+formula_marks (Join op a b) rest = inr (inr op) ∷ formula_marks a (formula_marks b rest)
 
 abbrev pub with_not : List Formula → List Formula
 with_not [] = []
@@ -31,13 +31,13 @@ with_join op [] = []
 with_join op (a ∷ []) = []
 with_join op (a ∷ b ∷ rest) = Join op a b ∷ rest
 
-abbrev pub with_mark : Mark → List Formula → List Formula
+abbrev pub with_mark : FormulaMark → List Formula → List Formula
 with_mark (inl (inl b)) rest = Constant b ∷ rest
 with_mark (inl (inr atom)) rest = Holds atom.0 atom.1 ∷ rest
 with_mark (inr (inl _)) rest = with_not rest
 with_mark (inr (inr op)) rest = with_join op rest
 
-abbrev pub formulas : List Mark → List Formula
+abbrev pub formulas : List FormulaMark → List Formula
 formulas [] = []
 formulas (m ∷ ms) = with_mark m (formulas ms)
 
@@ -45,18 +45,18 @@ abbrev pub first_formula : List Formula → Formula
 first_formula [] = Constant true
 first_formula (a ∷ rest) = a
 
-pub formulas-marks : (a : Formula) (rest : List Mark) → formulas (marks a rest) ≡ a ∷ formulas rest
+pub formulas-marks : (a : Formula) (rest : List FormulaMark) → formulas (formula_marks a rest) ≡ a ∷ formulas rest
 formulas-marks (Constant b) rest = refl
 formulas-marks (Holds p v) rest = refl
 formulas-marks (Not a) rest = ap with_not (formulas-marks a rest)
 formulas-marks (Join op a b) rest =
-    ap (with_join op) (formulas-marks a (marks b rest) ∙ ap (λ (l : List Formula). a ∷ l)
+    ap (with_join op) (formulas-marks a (formula_marks b rest) ∙ ap (λ (l : List Formula). a ∷ l)
     (formulas-marks b rest))
 
 abbrev pub formula_code : Coded Formula
 formula_code =
-    code_by (List Mark) (coded_list (coded⊎
+    code_by (List FormulaMark) (coded_list (coded⊎
     (coded⊎ coded_bool (coded× place.the_row.coded value.the_row.coded))
     (coded⊎ coded_unit connective.the_row.coded)))
-    (λ a. marks a []) (λ ms. first_formula (formulas ms))
+    (λ a. formula_marks a []) (λ ms. first_formula (formulas ms))
     (λ a. ap first_formula (formulas-marks a []))

@@ -14,8 +14,8 @@ use Rattle.tests_layers.specs.declared.benches.sheet.Change.{Change}
 use Rattle.tests_layers.specs.declared.benches.sheet.Change.TheVariants.{Put, Remove, SetBase}
 use Rattle.tests_layers.specs.Rows.{row_of, put_row, without_row}
 use Rattle.tests_layers.specs.declared.benches.sheet.SheetFault.{SheetFault}
-use Rattle.tests_layers.specs.Sheet.{tens, cell_of, cells_of, sheet_net, makes, first_of, keeps_memo, rows_after, stamp_after, IsChanged, IsSheetRefused}
-use Rattle.tests_layers.specs.SheetCells.{cell_at, verdict_at, IsSum, from_scratch, reaches}
+use Rattle.tests_layers.specs.Sheet.{tens, cell_of, cells_of, sheet_net, sheet_makes, first_of, keeps_memo, rows_after, stamp_after, IsChanged, IsSheetRefused}
+use Rattle.tests_layers.specs.SheetCells.{cell_at, verdict_at, IsSum, sheet_from_scratch, reaches}
 
 abbrev Found : Type 0
 Found = Option (ℕ × ℕ)
@@ -113,7 +113,7 @@ value_in None = 0
 value_in (Some p) = p.1
 
 -- a solved node shows what it makes
-shows : (s : Sheet) (ms : List (Memo ℕ)) (n : Node) (v : ℕ) (k : IsSolvedNode makes (sheet_net s) ms n)
+shows : (s : Sheet) (ms : List (Memo ℕ)) (n : Node) (v : ℕ) (k : IsSolvedNode sheet_makes (sheet_net s) ms n)
     → named_values (k.memo).outputs ≡ (0, v) ∷ []
     → (stamp : ℕ) × (at ms (Output n 0) ≡ Some (stamp, v))
 shows s ms n v k made =
@@ -133,7 +133,7 @@ first_is ms t b [] p k = absurd p
 first_is ms t b (v ∷ []) p k = sym (ap value_in (p.0).1) ∙ ap value_in k.1
 first_is ms t b (v ∷ w ∷ vs) p k = absurd p.1
 
-module _ (s : Sheet) (ms : List (Memo ℕ)) (solved : AreSolved makes (sheet_net s) ms) where
+module _ (s : Sheet) (ms : List (Memo ℕ)) (solved : AreSolved sheet_makes (sheet_net s) ms) where
   tens_show : IsSettled (sheet_net s) ms tens
       → (stamp : ℕ) × (at ms (Output tens 0) ≡ Some (stamp, s.base / 10))
   tens_show settled =
@@ -181,7 +181,7 @@ module _ (s : Sheet) (ms : List (Memo ℕ)) (solved : AreSolved makes (sheet_net
 
   cell_solved : (test model : List ℕ) (n : Node) → verdict_at s.rows.items test model ≡ Some n
       → IsSettled (sheet_net s) ms n
-      → (v : ℕ) × Carries (λ (v : ℕ). Some v) ms n v × from_scratch s test model v
+      → (v : ℕ) × Carries (λ (v : ℕ). Some v) ms n v × sheet_from_scratch s test model v
   cell_solved [] [] n h settled =
       let e = some_node tens n h in (
         s.base / 10,
@@ -195,8 +195,8 @@ module _ (s : Sheet) (ms : List (Memo ℕ)) (solved : AreSolved makes (sheet_net
   cell_solved (t ∷ ts) (m ∷ models) n h settled = absurd (none_node n h)
 
 pub cells_solved : (s : Sheet) (test model : List ℕ)
-    → SolvedIsFromScratch makes (sheet_net s) (λ (v : ℕ). Some v) (verdict_at s.rows.items test model)
-    (from_scratch s test model)
+    → SolvedIsFromScratch sheet_makes (sheet_net s) (λ (v : ℕ). Some v) (verdict_at s.rows.items test model)
+    (sheet_from_scratch s test model)
 cells_solved s test model ms n solved is settled = cell_solved s ms solved test model n is settled
 
 -- ---- what an edit leaves

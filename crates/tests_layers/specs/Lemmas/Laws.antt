@@ -14,7 +14,7 @@ use Rattle.tests_layers.specs.declared.benches.sheet.Change.{Change}
 use Rattle.tests_layers.specs.declared.benches.sheet.Change.TheVariants.{Put, Remove, SetBase}
 use Rattle.tests_layers.specs.declared.benches.sheet.Prepared.{Prepared}
 use Rattle.tests_layers.specs.Rows.{row_of, put_row, without_row}
-use Rattle.tests_layers.specs.Sheet.{tens, cells_of, inputs_of, sheet_net, holds_number, gives_in, makes, is_there, users_of, rank_of, rows_after, base_after, stamp_after, IsSheetValid, IsSheetSince, IsChanged, IsSheetPrepared}
+use Rattle.tests_layers.specs.Sheet.{tens, cells_of, sheet_inputs, sheet_net, holds_number, gives_in, sheet_makes, is_there, users_of, rank_of, rows_after, base_after, stamp_after, IsSheetValid, IsSheetSince, IsChanged, IsSheetPrepared}
 
 pub numbers_exact : (a b : ℕ) → ((a == b) ≡ true) ↔ (a ≡ b)
 numbers_exact a b = (eqb-true a b, eq-eqb a b)
@@ -34,20 +34,20 @@ made_value r os e = (r, rw e refl)
 
 module _ (s : Sheet) where
   has_values : (k : Kind) (t : ℕ) → is_there k t s.rows.items
-      → Each (HasOutputValue makes (sheet_net s)) (inputs_of k t)
+      → Each (HasOutputValue sheet_makes (sheet_net s)) (sheet_inputs k t)
   has_values Space t h = (tt, tt)
   has_values Group t h = tt
   has_values Check t h = tt
   has_values Verdict t h = (tt, ((λ g vs os gives e. made_value _ os e), tt))
 
   inputs_there : (k : Kind) (t : ℕ) → is_there k t s.rows.items
-      → Each (λ n. is_there n.kind n.test s.rows.items) (input_nodes (inputs_of k t))
+      → Each (λ n. is_there n.kind n.test s.rows.items) (input_nodes (sheet_inputs k t))
   inputs_there Space t h = tt
   inputs_there Group t h = tt
   inputs_there Check t h = tt
   inputs_there Verdict t h = (tt, tt)
 
-  pub sheet_sound : IsSoundNet makes (sheet_net s) (λ n. is_there n.kind n.test s.rows.items)
+  pub sheet_sound : IsSoundNet sheet_makes (sheet_net s) (λ n. is_there n.kind n.test s.rows.items)
   sheet_sound = record {
     has_values = λ n h. has_values n.kind n.test h;
     inputs_there = λ n h. inputs_there n.kind n.test h;
@@ -80,32 +80,32 @@ pub all_there : (rs : List Row) → Each (λ n. is_there n.kind n.test rs) (tens
 all_there rs = (tt, cells_there rs)
 
 inputs_used_by : (rs : List Row) (k : Kind) (t : ℕ)
-    → Each (Has (tens ∷ cells_of rs)) (input_nodes (inputs_of k t))
+    → Each (Has (tens ∷ cells_of rs)) (input_nodes (sheet_inputs k t))
 inputs_used_by rs Space t = tt
 inputs_used_by rs Group t = tt
 inputs_used_by rs Check t = tt
 inputs_used_by rs Verdict t = (inl refl, tt)
 
 pub inputs_used : (rs : List Row) (n : Node) → Has (tens ∷ cells_of rs) n
-    → Each (Has (tens ∷ cells_of rs)) (input_nodes (inputs_of n.kind n.test))
+    → Each (Has (tens ∷ cells_of rs)) (input_nodes (sheet_inputs n.kind n.test))
 inputs_used rs n h = inputs_used_by rs n.kind n.test
 
 -- a node on which another stands is that of the tens
-from_tens : (k : Kind) (t : ℕ) (n : Node) → Has (input_nodes (inputs_of k t)) n → tens ≡ n
+from_tens : (k : Kind) (t : ℕ) (n : Node) → Has (input_nodes (sheet_inputs k t)) n → tens ≡ n
 from_tens Space t n h = absurd h
 from_tens Group t n h = absurd h
 from_tens Check t n h = absurd h
 from_tens Verdict t n h = elim h [ inl e ↦ e | inr e ↦ absurd e ]
 
 among_cells : (rs : List Row) (u : Node) (n : Node) → Has (tens ∷ cells_of rs) u
-    → Has (input_nodes (inputs_of u.kind u.test)) n → Has (cells_of rs) u
+    → Has (input_nodes (sheet_inputs u.kind u.test)) n → Has (cells_of rs) u
 among_cells rs u n h i = elim h [
-  | inl e ↦ absurd (subst (λ (m : Node). Has (input_nodes (inputs_of m.kind m.test)) n) (sym e) i)
+  | inl e ↦ absurd (subst (λ (m : Node). Has (input_nodes (sheet_inputs m.kind m.test)) n) (sym e) i)
   | inr c ↦ c
 ]
 
 users_known : (rs : List Row) (n u : Node) → Has (tens ∷ cells_of rs) u
-    → Has (input_nodes (inputs_of u.kind u.test)) n → Has (users_of n.kind rs) u
+    → Has (input_nodes (sheet_inputs u.kind u.test)) n → Has (users_of n.kind rs) u
 users_known rs n u h i =
     subst (λ (m : Node). Has (users_of m.kind rs) u) (from_tens u.kind u.test n i)
     (among_cells rs u n h i)
@@ -123,14 +123,14 @@ users_listed s = record {
   are_used = λ n u h l. users_used n.kind s.rows.items u l;
 }
 
-falls_by : (k : Kind) (t : ℕ) → Each (λ m. rank_of m.kind < rank_of k) (input_nodes (inputs_of k t))
+falls_by : (k : Kind) (t : ℕ) → Each (λ m. rank_of m.kind < rank_of k) (input_nodes (sheet_inputs k t))
 falls_by Space t = tt
 falls_by Group t = tt
 falls_by Check t = tt
 falls_by Verdict t = (omega arith, tt)
 
 pub ranks_fall : (s : Sheet) (n : Node)
-    → Each (λ m. rank_of m.kind < rank_of n.kind) (input_nodes (inputs_of n.kind n.test))
+    → Each (λ m. rank_of m.kind < rank_of n.kind) (input_nodes (sheet_inputs n.kind n.test))
 ranks_fall s n = falls_by n.kind n.test
 
 abbrev some_pair : ℕ → ℕ → Option (ℕ × ℕ)
@@ -305,7 +305,7 @@ row_again t u x s (Some r) (Some q) o n same g h = elim (s.rows x q.0 q.1 n) [
     some_value a b c d h = ap value_in h
 
 given_by : (t u : Sheet) (k : Kind) (x g : ℕ) → IsSheetSince t u
-    → Each (IsSamePart (sheet_net t) (sheet_net u)) (inputs_of k x)
+    → Each (IsSamePart (sheet_net t) (sheet_net u)) (sheet_inputs k x)
     → gives_in t.rows.items t.base k x g ≡ true → gives_in u.rows.items u.base k x g ≡ true
 given_by t u Space x g s p h = elim s.base [
   | inl same ↦ ap (λ (b : ℕ). g == b) same.1 ∙ h
@@ -317,8 +317,8 @@ given_by t u Verdict x g s p h =
     row_again t u x s (row_of x t.rows.items) (row_of x u.rows.items) refl refl p.0 g h
 
 pub given_again : (t u : Sheet) (n : Node) (g : ℕ) → IsSheetValid u → IsSheetSince t u
-    → inputs_of n.kind n.test ≡ inputs_of n.kind n.test
-    → Each (IsSamePart (sheet_net t) (sheet_net u)) (inputs_of n.kind n.test)
+    → sheet_inputs n.kind n.test ≡ sheet_inputs n.kind n.test
+    → Each (IsSamePart (sheet_net t) (sheet_net u)) (sheet_inputs n.kind n.test)
     → gives_in t.rows.items t.base n.kind n.test g ≡ true
     → gives_in u.rows.items u.base n.kind n.test g ≡ true
 given_again t u n g valid s same p h = given_by t u n.kind n.test g s p h

@@ -56,7 +56,7 @@ impl Texts for Sheet {
     type Fault = SheetFault;
 
     ghost use Rattle.std.specs.Prelude.{◌≡◌, ◌==◌, ◌<◌, ◌+◌, length, vec_len, vec_capacity};
-    ghost use Rattle.tests_layers.specs.Sheet.{sheet_net, makes, is_there, users_of, rank_of, keeps_memo, IsSheetValid, IsSheetSince, IsChanged, IsSheetRefused, IsSheetPrepared};
+    ghost use Rattle.tests_layers.specs.Sheet.{sheet_net, sheet_makes, is_there, users_of, rank_of, keeps_memo, IsSheetValid, IsSheetSince, IsChanged, IsSheetRefused, IsSheetPrepared};
     ghost use Rattle.tests_layers.specs.Lemmas.Laws.{numbers_exact, sheet_sound, since_same, since_changed, given_again, changes_valid, prepared_changes, all_there, inputs_used, users_listed, ranks_fall, changes_go_on};
 
     ghost is_valid = { IsSheetValid };
@@ -67,7 +67,7 @@ impl Texts for Sheet {
 
     ghost last = { λ s. s.last };
 
-    ghost makes = { makes };
+    ghost makes = { sheet_makes };
 
     ghost same = { λ a b. a == b };
 

@@ -12,14 +12,14 @@ impl CellTexts for Sheet {
     type Outcome = u64;
 
     ghost use Rattle.std.specs.Prelude.{◌≡◌, true, [], Some};
-    ghost use Rattle.tests_layers.specs.SheetCells.{verdict_at, from_scratch, reaches};
+    ghost use Rattle.tests_layers.specs.SheetCells.{verdict_at, sheet_from_scratch, reaches};
     ghost use Rattle.tests_layers.specs.Lemmas.CellProofs.{edited_alike, refused_alike, verdicts_used, all_needed, cells_solved, cells_left};
 
     ghost verdict_of = { λ s test model. verdict_at s.rows.items test model };
 
     ghost outcome_in = { λ v. Some v };
 
-    ghost from_scratch = { from_scratch };
+    ghost from_scratch = { sheet_from_scratch };
 
     ghost reaches = { λ s e _ test _. reaches s e test ≡ true };
 

@@ -1,8 +1,8 @@
 -- By which code values of a store are told apart: an index, and the code of a value.
 use base.Stored.{Coded, coded×, coded_ℕ, coded_via}
-use Rattle.value_store.specs.Tokens.{Shown}
+use Rattle.value_store.specs.Tokens.{TokenShown}
 
-abbrev pub shown_coded : {V : Type 0} → Coded V → Coded (Shown V)
+abbrev pub shown_coded : {V : Type 0} → Coded V → Coded (TokenShown V)
 shown_coded {V} c =
-    coded_via (coded× coded_ℕ c) (λ (s : Shown V). (s.index, s.value))
+    coded_via (coded× coded_ℕ c) (λ (s : TokenShown V). (s.index, s.value))
     (λ x y e i. record { index = (e i).0; value = (e i).1 })

@@ -1,7 +1,7 @@
 use Rattle.std.proofs.Common.{◌≡◌, ◌∙◌, Bool, List, ap, sym, length, map, option_map, slice_get, refl}
 use Rattle.std.proofs.lemmas.Option.{slice_get_read, slice_get-map}
 use Rattle.bench_nodes.specs.declared.places.SlotName.{SlotName}
-use Rattle.bench_nodes.specs.Places.{named, slot_names, user_lists, lists_if, lists_in}
+use Rattle.bench_nodes.specs.Places.{node_named, slot_names, user_lists, lists_if, lists_in}
 use Rattle.bench_nodes.proofs.Lookups.{users_placed}
 use Rattle.bench_nodes.proofs.users.listed_users.Goals as goal
 
@@ -16,4 +16,4 @@ returns c =
     let names = ap (λ (l : List (List SlotName)). slice_get l at) (sym law) ∙ slice_get-map slot_names table.places.users.items at ∙ ap (option_map slot_names) (rw c.deref-3.ensures.value at got) in
     users_placed slots c.args.node.kind c.args.node.of c.args.node.test at users.items
     (rw c.deref-2.ensures.value at c.in_ok-at.ensures) names
-    ∙ ap (λ (l : List SlotName). map (named c.args.node.test) l) (sym c.as_slice.ensures.value)
+    ∙ ap (λ (l : List SlotName). map (node_named c.args.node.test) l) (sym c.as_slice.ensures.value)

@@ -3,7 +3,7 @@ use Rattle.binding_kinds.specs.Value.{entry_of}
 use Rattle.binding_kinds.specs.Senses.{Sense, HaveSenses}
 use Rattle.binding_kinds.specs.Fits.{AreKnown, AreSoundSenses}
 use Rattle.binding_graph.specs.Usages.{usage_of}
-use Rattle.binding_graph.specs.Resolved.{AreLabelled}
+use Rattle.binding_graph.specs.Resolved.{AreLabelledAs}
 use Rattle.binding_graph.proofs.Done.{AreDone, AreSearched}
 use Rattle.binding_graph.proofs.items.find_items.Given as goal
 
@@ -19,5 +19,5 @@ invariant-loop-index l = record {
       (reverse (map entry_of l.fn.scope.entries.items))
       (reverse (map entry_of l.scope.entries.items)) l.scope.functions.items l.items l.index
       l.resolved.items;
-  labels : AreLabelled (take l.index l.items) l.resolved.items;
+  labels : AreLabelledAs (take l.index l.items) l.resolved.items;
 }

@@ -1,5 +1,5 @@
 use Rattle.std.proofs.Common.{◌≡◌, length, map, reverse, arith}
-use Rattle.binding_kinds.specs.Value.{entry_of, bound_of}
+use Rattle.binding_kinds.specs.Value.{entry_of, bound_value_of}
 use Rattle.binding_kinds.specs.Senses.{HaveSenses}
 use Rattle.binding_kinds.specs.Fits.{AreKnown}
 use Rattle.binding_graph.specs.Usages.{usage_of}
@@ -27,7 +27,7 @@ returns-in_ok-group_item-in-Ok-clause-names c = λ ss kept.
     let s = c.sight_of-sight.ensures in
     let named = rw (c.in-Ok.is, s.entries) at (c.in_ok-fault.ensures.named ss (rw s.functions kept) s.parameters) in
     c.in_ok-declare_all-in-Ok.ensures ss (reverse (map entry_of c.args.scope.now.entries.items))
-    (map bound_of c.args.group.now) (rw c.deref.ensures.value named)
+    (map bound_value_of c.args.group.now) (rw c.deref.ensures.value named)
 
 pub returns-in_ok-group_item-in-Ok-clause-item : goal.returns-in_ok-group_item-in-Ok-clause-item
 returns-in_ok-group_item-in-Ok-clause-item c = λ ss kept sound known.
@@ -45,4 +45,4 @@ returns-in_ok-group_item-in-Ok-clause-item c = λ ss kept sound known.
     let functions = rw new.functions at (noted.functions new.listed) in
     rw (s.entries, s.functions, from) at (c.in_ok-group_item-in-Ok.ensures ss
     (map usage_of sight.functions.now) (reverse (map entry_of sight.entries.now)) sight.from
-    (map bound_of c.args.group.now) bodies values functions)
+    (map bound_value_of c.args.group.now) bodies values functions)

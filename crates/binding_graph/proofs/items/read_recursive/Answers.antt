@@ -1,6 +1,6 @@
 use Rattle.std.proofs.Common.{◌≡◌, List, length, map, reverse, ap, ◌∙◌, arith}
 use Rattle.binding_kinds.specs.declared.scope.Entry.{Entry}
-use Rattle.binding_kinds.specs.Value.{entry_of, bound_of}
+use Rattle.binding_kinds.specs.Value.{entry_of, bound_value_of}
 use Rattle.binding_kinds.specs.Senses.{HaveSenses}
 use Rattle.binding_kinds.specs.Fits.{AreKnown}
 use Rattle.binding_kinds.proofs.Fitted.{known_own}
@@ -34,7 +34,7 @@ returns-in_ok-group_item-in-Ok-clause-item c = λ ss kept sound known.
     let own = ap (λ (l : List Entry). reverse (map entry_of l)) s.entries ∙ c.in_ok-declare_own.ensures in
     let sight = c.sight_of-sight.result in
     let kept_there : HaveSenses sight.functions.now ss = rw s.functions kept in
-    let known_there : AreKnown (reverse (map entry_of sight.entries.now)) = rw own (known_own (reverse (map entry_of es)) c.args.index 0 (map bound_of c.args.group.now) known) in
+    let known_there : AreKnown (reverse (map entry_of sight.entries.now)) = rw own (known_own (reverse (map entry_of es)) c.args.index 0 (map bound_value_of c.args.group.now) known) in
     let new = c.clear.ensures in
     let read = c.in_ok-fault.ensures in
     let noted = rw c.in-Ok.is at (read.uses s.parameters) in
@@ -43,4 +43,4 @@ returns-in_ok-group_item-in-Ok-clause-item c = λ ss kept sound known.
     let functions = rw new.functions at (noted.functions new.listed) in
     rw (own, s.functions, from) at (c.in_ok-group_item-in-Ok.ensures ss
     (map usage_of sight.functions.now) (reverse (map entry_of sight.entries.now)) sight.from
-    (map bound_of c.args.group.now) bodies values functions)
+    (map bound_value_of c.args.group.now) bodies values functions)

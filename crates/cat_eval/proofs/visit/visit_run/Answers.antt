@@ -1,5 +1,5 @@
 use Rattle.std.proofs.Common.{◌≡◌, ◌+◌, ◌++◌, ◌∷◌, [], length, length-append, append_assoc, append-nil, sym, arith}
-use Rattle.cat_eval.specs.Seen.{seen, seen_run}
+use Rattle.cat_eval.specs.Seen.{values_seen, seen_run}
 use Rattle.cat_eval.proofs.Seeing.{run_long, run_step}
 use Rattle.cat_eval.proofs.visit.visit_run.Goals as goal
 
@@ -15,7 +15,7 @@ loop-at-preserved g c = λ first bases at given.
     let before = c.loop-at.invariant first bases at given in
     let next = c.in_ok-visit_next.ensures first (bases ++ run) before.0 before.1 in
     let long : length (bases ++ run) ≡ length bases + done = omega (arith, length-append bases run, run_long named (length bases) count done) in
-    let grown : bases ++ seen_run named (length bases) count (done + 1) ≡ (bases ++ run) ++ seen named (length (bases ++ run)) count ∷ [] =
+    let grown : bases ++ seen_run named (length bases) count (done + 1) ≡ (bases ++ run) ++ values_seen named (length (bases ++ run)) count ∷ [] =
     rw (run_step named (length bases) count done, long)
-    (sym (append_assoc bases run (seen named (length bases + done) count ∷ []))) in
+    (sym (append_assoc bases run (values_seen named (length bases + done) count ∷ []))) in
     rw grown next

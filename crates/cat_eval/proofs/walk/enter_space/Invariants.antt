@@ -3,7 +3,7 @@ use Rattle.std.specs.Prelude.{IfSome, IsTrue}
 use Rattle.base_names.specs.Known.{Known, IsConsistent}
 use Rattle.base_names.specs.Candidate.{IsEntered}
 use Rattle.cat_eval.specs.Candidates.{of_combinations}
-use Rattle.cat_eval.specs.Steady.{EndsWith}
+use Rattle.cat_eval.specs.Steady.{HasAsLast}
 use Rattle.cat_eval.specs.Worlds.{AreNamesHeld, AreWorlds}
 use Rattle.cat_eval.proofs.walk.enter_space.Given as goal
 
@@ -17,4 +17,4 @@ invariant-loop-combination g l =
     × AreWorlds l.needs.names.items l.needs.reads l.needs.orders bases
     (of_combinations (take l.combination-index l.space.combinations.items))
     × g.V.Enter.has_taken l.initial.visitor bases l.visitor
-    × (IsTrue l.again → EndsWith bases l.base))
+    × (IsTrue l.again → HasAsLast bases l.base))

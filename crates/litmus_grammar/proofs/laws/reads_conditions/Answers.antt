@@ -1,4 +1,4 @@
-use Rattle.litmus_tokens.specs.Conditions.{limits, IsConditionText}
+use Rattle.litmus_tokens.specs.Conditions.{condition_limits, IsConditionText}
 use Rattle.litmus_grammar.specs.declared.parts.TextKind.TheVariants as kinds
 use Rattle.litmus_grammar.proofs.Conditions.{condition_whole, condition_taken, condition_reading}
 use Rattle.litmus_grammar.proofs.Outcomes.{fault_found}
@@ -14,5 +14,5 @@ returns-clause-complete c = λ threads ps x few.
 
 pub returns-clause-fault : goal.returns-clause-fault
 returns-clause-fault c = λ threads ps rule offset few e.
-    fault_found (IsConditionText limits threads) kinds.Condition threads
+    fault_found (IsConditionText condition_limits threads) kinds.Condition threads
     (condition_reading threads few) ps rule offset e

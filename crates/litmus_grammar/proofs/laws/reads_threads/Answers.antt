@@ -1,5 +1,5 @@
 use Rattle.litmus_tokens.specs.declared.stage.Stage.TheVariants.{CellBegins}
-use Rattle.litmus_tokens.specs.Texts.{lexing}
+use Rattle.litmus_tokens.specs.Texts.{test_lexing}
 use Rattle.litmus_grammar.specs.declared.parts.TextKind.TheVariants as kinds
 use Rattle.litmus_grammar.specs.Grammar.{IsThreadText}
 use Rattle.litmus_grammar.proofs.Inner.{AreInner, lexed_inner}
@@ -18,4 +18,4 @@ returns-clause-complete c = λ threads ps x.
 pub returns-clause-fault : goal.returns-clause-fault
 returns-clause-fault c = λ threads bytes rule offset e.
     fault_where AreInner IsThreadText kinds.Thread threads (thread_reading threads)
-    (lexing CellBegins bytes) (lexed_inner CellBegins bytes) rule offset e
+    (test_lexing CellBegins bytes) (lexed_inner CellBegins bytes) rule offset e

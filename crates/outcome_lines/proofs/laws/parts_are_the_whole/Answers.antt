@@ -5,8 +5,8 @@ use Rattle.outcome_lines.proofs.laws.parts_are_the_whole.Goals as goal
 
 pub returns : goal.returns
 returns c = record {
-  tab_table = flat_map-append tab.test_lines;
-  tab_difference = flat_map-append tab.pair_lines;
-  json_table = flat_map-append json.test_lines;
-  json_difference = flat_map-append json.pair_lines;
+  tab_table = flat_map-append tab.tab_test_lines;
+  tab_difference = flat_map-append tab.tab_pair_lines;
+  json_table = flat_map-append json.json_test_lines;
+  json_difference = flat_map-append json.json_pair_lines;
 }

@@ -1,7 +1,7 @@
 use Rattle.std.proofs.Common.{◌≡◌, ℕ, ◌+◌, ◌<◌, ◌≤◌, Bool, List, [], cond, map, take, length, sym, ap, arith, ◌∙◌}
 use Rattle.std.proofs.lemmas.List.{take_all}
 use Rattle.verdict.specs.Counting.{count_column}
-use Rattle.verdict.specs.Ends.{final_value}
+use Rattle.verdict.specs.Ends.{candidate_final_value}
 use Rattle.verdict.specs.Order.{is_state}
 use Rattle.verdict.specs.declared.answer.FinalValue.{FinalValue}
 use Rattle.verdict.proofs.Columns.{by_orders, none_yet, one_order_more, combination_kept}
@@ -12,7 +12,7 @@ pub loop-k-init : goal.loop-k-init
 loop-k-init c =
     no_more_counted c.args.tally.now.counts.entries _
     (λ v. none_yet
-    (λ o. is_state v (map (final_value c.args.space.now c.args.combination.now o)
+    (λ o. is_state v (map (candidate_final_value c.args.space.now c.args.combination.now o)
     c.args.observables.now))
     (length c.args.combination.now.reads_from.items)
     (length c.args.combination.now.orders) c.args.kept.now)
@@ -27,7 +27,7 @@ loop-k-preserved c =
     ∙ ap
     (λ (n : ℕ). count_column (length c.args.combination.now.reads_from.items) n c.loop-k.k
     c.args.kept.now) c.len-orders.ensures in
-    let test : List FinalValue → List ℕ → Bool = λ v o. is_state v (map (final_value c.args.space.now c.args.combination.now o) c.args.observables.now) in
+    let test : List FinalValue → List ℕ → Bool = λ v o. is_state v (map (candidate_final_value c.args.space.now c.args.combination.now o) c.args.observables.now) in
     let so_far : List FinalValue → ℕ → ℕ = λ v i. by_orders (test v) (length c.args.combination.now.reads_from.items) (length c.args.combination.now.orders) 0 c.args.kept.now (take i c.args.combination.now.orders) in
     counted_twice c.args.tally.now.counts.entries c.loop-k.tally.counts.entries
     c.count_order.new.tally.counts.entries (λ v. so_far v c.loop-k.k)
@@ -43,7 +43,7 @@ loop-k-preserved c =
 pub returns : goal.returns
 returns c =
     let past : length c.args.combination.now.orders ≤ c.loop-k.k = omega (arith, c.loop-k-test.false, c.len-orders.ensures) in
-    let test : List FinalValue → List ℕ → Bool = λ v o. is_state v (map (final_value c.args.space.now c.args.combination.now o) c.args.observables.now) in
+    let test : List FinalValue → List ℕ → Bool = λ v o. is_state v (map (candidate_final_value c.args.space.now c.args.combination.now o) c.args.observables.now) in
     same_counts c.args.tally.now.counts.entries c.loop-k.tally.counts.entries _ _ c.loop-k.invariant
     (λ v.
     combination_kept (test v) c.args.kept.now c.args.combination.now

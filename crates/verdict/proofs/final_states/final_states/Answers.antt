@@ -4,7 +4,7 @@ use Rattle.run_combinations.specs.Combinations.{candidates_of}
 use Rattle.candidates.specs.Space.{candidates_in}
 use Rattle.run_combinations.specs.declared.combination.Combination.{Combination}
 use Rattle.verdict.specs.Counting.{Counts, count_kept}
-use Rattle.verdict.specs.Ends.{final_state}
+use Rattle.verdict.specs.Ends.{candidate_final_state}
 use Rattle.verdict.specs.Order.{is_state}
 use Rattle.verdict.specs.declared.answer.FinalValue.{FinalValue}
 use Rattle.verdict.proofs.Columns.{none_kept, one_more_counted, after_one_more}
@@ -17,17 +17,17 @@ loop-combination-init c = (
   refl,
   subst
       (λ (l : Entries). Counts [] l (λ v. count_kept
-      (λ x. is_state v (final_state c.args.space.now c.args.observables.now x)) c.args.kept.now
+      (λ x. is_state v (candidate_final_state c.args.space.now c.args.observables.now x)) c.args.kept.now
       []))
       (sym c.new.ensures.empty)
       (no_more_counted [] _ (λ v. none_kept
-      (λ x. is_state v (final_state c.args.space.now c.args.observables.now x))
+      (λ x. is_state v (candidate_final_state c.args.space.now c.args.observables.now x))
       c.args.kept.now)),
 )
 
 pub loop-combination-preserved : goal.loop-combination-preserved
 loop-combination-preserved c =
-    let test : List FinalValue → Combination × (List ℕ × List ℕ) → Bool = λ v x. is_state v (final_state c.args.space.now c.args.observables.now x) in
+    let test : List FinalValue → Combination × (List ℕ × List ℕ) → Bool = λ v x. is_state v (candidate_final_state c.args.space.now c.args.observables.now x) in
     let so_far : List FinalValue → ℕ → ℕ = λ v i. count_kept (test v) c.args.kept.now (candidates_in (take i c.args.space.now.combinations.items)) in
     let e : Combination = c.combination-item.result in
     let lt : c.loop-combination.combination-index < length c.args.space.now.combinations.items = subst (λ (l : List Combination). c.loop-combination.combination-index < length l) c.deref-combination-items.ensures.value c.loop-combination-test.true in
@@ -60,7 +60,7 @@ returns-clause-tally c = λ v.
     let past : length c.args.space.now.combinations.items ≤ c.loop-combination.combination-index = subst (λ (l : List Combination). length l ≤ c.loop-combination.combination-index) c.deref-combination-items.ensures.value c.loop-combination-test.false in
     from_nothing c.loop-combination.tally.counts.entries _ c.loop-combination.invariant.1 v
     ∙ ap (λ (cs : List Combination). min
-    (count_kept (λ x. is_state v (final_state c.args.space.now c.args.observables.now x))
+    (count_kept (λ x. is_state v (candidate_final_state c.args.space.now c.args.observables.now x))
     c.args.kept.now (candidates_in cs))
     (2 ^ 64 - 1))
     (take_all c.loop-combination.combination-index c.args.space.now.combinations.items past)

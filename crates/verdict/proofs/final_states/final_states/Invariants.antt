@@ -1,7 +1,7 @@
 use Rattle.std.proofs.Common.{◌≡◌, take, drop, length, []}
 use Rattle.candidates.specs.Space.{candidates_in}
 use Rattle.verdict.specs.Counting.{Counts, count_kept}
-use Rattle.verdict.specs.Ends.{final_state}
+use Rattle.verdict.specs.Ends.{candidate_final_state}
 use Rattle.verdict.specs.Order.{is_state}
 use Rattle.verdict.proofs.final_states.final_states.Given as goal
 
@@ -11,5 +11,5 @@ invariant-loop-combination l =
     ≡ drop (length (candidates_in (take l.combination-index l.space.combinations.items)))
     l.kept)
     × Counts [] l.tally.counts.entries (λ v. count_kept
-    (λ x. is_state v (final_state l.space l.observables x)) l.kept (candidates_in
+    (λ x. is_state v (candidate_final_state l.space l.observables x)) l.kept (candidates_in
     (take l.combination-index l.space.combinations.items)))

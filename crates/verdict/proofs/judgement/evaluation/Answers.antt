@@ -2,7 +2,7 @@ use Rattle.std.proofs.Common.{◌-◌, ◌^◌, ◌≤◌, min, List, true, fals
 use Rattle.text_values.specs.TestValue.{Formula, formula_of}
 use Rattle.candidates.specs.Space.{shown_in}
 use Rattle.verdict.specs.Evaluated.{AreEndStates}
-use Rattle.verdict.specs.Judgement.{is_same, total_of}
+use Rattle.verdict.specs.Judgement.{is_same_truth, total_of}
 use Rattle.verdict.specs.Kept.{of_raised}
 use Rattle.verdict.specs.Meaning.{observables_of}
 use Rattle.verdict.specs.declared.answer.CountedState.{CountedState}
@@ -29,12 +29,12 @@ returns-clause-said c = λ checks given.
           (c.total-positive.ensures
           ∙ ap
           (λ (l : List CountedState).
-          min (total_of (λ s. is_same s.holds true) l) (2 ^ 64 - 1))
+          min (total_of (λ s. is_same_truth s.holds true) l) (2 ^ 64 - 1))
           c.deref.ensures.value)
           (c.total-negative.ensures
           ∙ ap
           (λ (l : List CountedState).
-          min (total_of (λ s. is_same s.holds false) l) (2 ^ 64 - 1))
+          min (total_of (λ s. is_same_truth s.holds false) l) (2 ^ 64 - 1))
           c.deref-2.ensures.value)
           c.in_ok-raised_names.ensures
           (c.observation.ensures, c.is_met.ensures),

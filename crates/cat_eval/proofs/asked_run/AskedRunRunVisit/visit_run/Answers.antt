@@ -1,5 +1,5 @@
 use Rattle.std.proofs.Common.{◌≡◌, ◌+◌, ◌++◌, ◌∷◌, ◌∙◌, [], length, length-append, append_assoc, append-nil, refl, sym, arith}
-use Rattle.cat_eval.specs.Seen.{seen, seen_run}
+use Rattle.cat_eval.specs.Seen.{values_seen, seen_run}
 use Rattle.cat_eval.proofs.Asking.{asked_renamed}
 use Rattle.cat_eval.proofs.Seeing.{run_long, run_step}
 use Rattle.cat_eval.proofs.asked_run.AskedRunRunVisit.visit_run.Goals as goal
@@ -32,9 +32,9 @@ loop-at-preserved c =
           let before = asked_renamed named first.check mid.check first.inputs mid.inputs first.kept mid.kept (bases ++ run) mid (sym inv.check) (sym inv.inputs) (sym inv.kept) (inv.at bases given) in
           let next = asked_renamed named mid.check first.check mid.inputs first.inputs mid.kept first.kept _ new inv.check inv.inputs inv.kept (c.in_ok-take.ensures.at (bases ++ run) before) in
           let long : length (bases ++ run) ≡ length bases + done = omega (arith, length-append bases run, run_long named (length bases) count done) in
-          let grown : bases ++ seen_run named (length bases) count (done + 1) ≡ (bases ++ run) ++ seen named (length (bases ++ run)) count ∷ [] =
+          let grown : bases ++ seen_run named (length bases) count (done + 1) ≡ (bases ++ run) ++ values_seen named (length (bases ++ run)) count ∷ [] =
           rw (run_step named (length bases) count done, long)
-          (sym (append_assoc bases run (seen named (length bases + done) count ∷ []))) in
+          (sym (append_assoc bases run (values_seen named (length bases + done) count ∷ []))) in
           rw grown next;
     }
 

@@ -3,7 +3,7 @@ use Rattle.std.proofs.lemmas.Result.{IfOk-weaker}
 use Rattle.binding_graph.specs.declared.resolved.Body.{Body}
 use Rattle.candidates.specs.Space.{candidates_in}
 use Rattle.cat_eval.specs.declared.column.Column.{Column}
-use Rattle.cat_eval.specs.Needed.{AreListed, bodies_names}
+use Rattle.cat_eval.specs.Needed.{ListsNeeded, bodies_names}
 use Rattle.cat_eval.specs.Seen.{seen_in}
 use Rattle.cat_eval.specs.Tables.{column_names}
 use Rattle.cat_eval.specs.Wanted.{AreWantedOver}
@@ -18,8 +18,8 @@ returns-then-keeps_steps-clause-values c =
     let candidates = candidates_in c.args.space.now.combinations.items in
     let named = c.list.new.named in
     let plain : c.in-Group.recursive ≡ false = c.keeps_steps.ensures c.if-keeps_steps.true in
-    let needed : AreListed c.need_names.new.self.needs.names.items (bodies_names bodies) = rw c.in-Group.is at c.in_ok-need_names-in-Group.ensures.names in
-    let listed : AreListed (column_names named) (bodies_names bodies) = λ name inside. c.in_ok-list-in-Group.ensures.all name (rw c.deref.ensures.value (needed name inside)) (c.in_ok-need_names-in-Group.ensures.there name (needed name inside)) in
+    let needed : ListsNeeded c.need_names.new.self.needs.names.items (bodies_names bodies) = rw c.in-Group.is at c.in_ok-need_names-in-Group.ensures.names in
+    let listed : ListsNeeded (column_names named) (bodies_names bodies) = λ name inside. c.in_ok-list-in-Group.ensures.all name (rw c.deref.ensures.value (needed name inside)) (c.in_ok-need_names-in-Group.ensures.there name (needed name inside)) in
     let right = c.in_ok-list-in-Group.ensures.columns candidates c.need_names.ensures.over in
     rw (c.in-Group.is, plain)
     (IfOk-weaker c.plain_columns.result _ _
@@ -42,8 +42,8 @@ returns-else-keeps_steps-clause-values c =
     let wanted = c.args.wanted.now in
     let candidates = candidates_in c.args.space.now.combinations.items in
     let named = c.list.new.named in
-    let needed : AreListed c.need_names.new.self.needs.names.items (bodies_names bodies) = rw c.in-Group.is at c.in_ok-need_names-in-Group.ensures.names in
-    let listed : AreListed (column_names named) (bodies_names bodies) = λ name inside. c.in_ok-list-in-Group.ensures.all name (rw c.deref.ensures.value (needed name inside)) (c.in_ok-need_names-in-Group.ensures.there name (needed name inside)) in
+    let needed : ListsNeeded c.need_names.new.self.needs.names.items (bodies_names bodies) = rw c.in-Group.is at c.in_ok-need_names-in-Group.ensures.names in
+    let listed : ListsNeeded (column_names named) (bodies_names bodies) = λ name inside. c.in_ok-list-in-Group.ensures.all name (rw c.deref.ensures.value (needed name inside)) (c.in_ok-need_names-in-Group.ensures.there name (needed name inside)) in
     let right = c.in_ok-list-in-Group.ensures.columns candidates c.need_names.ensures.over in
     rw c.in-Group.is
     (IfOk-weaker c.visited_columns.result _ _

@@ -3,7 +3,7 @@ use Rattle.std.specs.Prelude.{IsTrue}
 use Rattle.base_names.specs.Known.{Known}
 use Rattle.cat_eval.specs.declared.table.Entry.{Entry}
 use Rattle.cat_eval.specs.Reordered.{EndsReordered}
-use Rattle.cat_eval.specs.Steady.{EndsWith}
+use Rattle.cat_eval.specs.Steady.{HasAsLast}
 use Rattle.cat_eval.specs.Tables.{IsEntryFilled, AreFilled}
 use Rattle.cat_eval.proofs.table.NameRunEnter.enter.Given as goal
 
@@ -16,7 +16,7 @@ invariant-loop-index l =
     × ((j : ℕ) → l.index ≤ j → (d : Entry)
     → slice_index_or l.self.entries.items j d
     ≡ slice_index_or l.initial.self.entries.items j d)
-    × ((bases : List Known) → (IsTrue l.again → EndsWith bases l.base)
+    × ((bases : List Known) → (IsTrue l.again → HasAsLast bases l.base)
     → (IsTrue l.reordered → EndsReordered bases l.base)
     → AreFilled l.initial.self.entries.items bases → (j : ℕ) → j < l.index → (d : Entry)
     → IsEntryFilled (slice_index_or l.self.entries.items j d) (bases ++ l.base ∷ []))

@@ -1,8 +1,8 @@
 use Rattle.std.proofs.Common.{ap, ◌∙◌, ◌∷◌}
 use Rattle.cat_tokens.specs.declared.token.Token.TheVariants.{Close}
-use Rattle.cat_grammar.specs.Machine.{closed, Goes, Has}
+use Rattle.cat_grammar.specs.Machine.{term_closed, Goes, Has}
 use Rattle.text_values.specs.ModelValue.{Term}
-use Rattle.cat_expressions.specs.Reading.{frame_of, stack_of}
+use Rattle.cat_expressions.specs.Reading.{frame_of, term_stack_of}
 use Rattle.text_values.specs.ModelValues.{term_of}
 use Rattle.cat_expressions.specs.declared.frames.Frame as code_frame
 use Rattle.cat_expressions.proofs.Stack.{popped_of, steps_same, applied_pushed}
@@ -11,12 +11,12 @@ use Rattle.cat_expressions.proofs.terms.OpenExpression.closed.Goals as goal
 pub returns-in-Some-Group : goal.returns-in-Some-Group
 returns-in-Some-Group c =
     steps_same Close _ _ _ _
-    (ap (closed c.args.self.now.operators) (popped_of _ _ _ _ _ c.in_ok-join.ensures
+    (ap (term_closed c.args.self.now.operators) (popped_of _ _ _ _ _ c.in_ok-join.ensures
     c.in-Some-Group.ensures.items)
     ∙ ap
-    (λ (f : code_frame.Frame). closed c.args.self.now.operators (
+    (λ (f : code_frame.Frame). term_closed c.args.self.now.operators (
       frame_of f
-          ∷ stack_of c.pop.new.self.items,
+          ∷ term_stack_of c.pop.new.self.items,
       term_of c.join.new.operand,
     ))
     c.in-Some-Group.field-0-is)
@@ -24,36 +24,36 @@ returns-in-Some-Group c =
 
 pub returns-in-Some-Square : goal.returns-in-Some-Square
 returns-in-Some-Square c =
-    ap (closed c.args.self.now.operators) (popped_of _ _ _ _ _ c.in_ok-join.ensures
+    ap (term_closed c.args.self.now.operators) (popped_of _ _ _ _ _ c.in_ok-join.ensures
     c.in-Some-Square.ensures.items)
     ∙ ap
-    (λ (f : code_frame.Frame). closed c.args.self.now.operators (
+    (λ (f : code_frame.Frame). term_closed c.args.self.now.operators (
       frame_of f
-          ∷ stack_of c.pop.new.self.items,
+          ∷ term_stack_of c.pop.new.self.items,
       term_of c.join.new.operand,
     ))
     c.in-Some-Square.field-0-is
 
 pub returns-in-Some-Prefix : goal.returns-in-Some-Prefix
 returns-in-Some-Prefix c =
-    ap (closed c.args.self.now.operators) (popped_of _ _ _ _ _ c.in_ok-join.ensures
+    ap (term_closed c.args.self.now.operators) (popped_of _ _ _ _ _ c.in_ok-join.ensures
     c.in-Some-Prefix.ensures.items)
     ∙ ap
-    (λ (f : code_frame.Frame). closed c.args.self.now.operators (
+    (λ (f : code_frame.Frame). term_closed c.args.self.now.operators (
       frame_of f
-          ∷ stack_of c.pop.new.self.items,
+          ∷ term_stack_of c.pop.new.self.items,
       term_of c.join.new.operand,
     ))
     c.in-Some-Prefix.field-0-is
 
 pub returns-in-Some-Left : goal.returns-in-Some-Left
 returns-in-Some-Left c =
-    ap (closed c.args.self.now.operators) (popped_of _ _ _ _ _ c.in_ok-join.ensures
+    ap (term_closed c.args.self.now.operators) (popped_of _ _ _ _ _ c.in_ok-join.ensures
     c.in-Some-Left.ensures.items)
     ∙ ap
-    (λ (f : code_frame.Frame). closed c.args.self.now.operators (
+    (λ (f : code_frame.Frame). term_closed c.args.self.now.operators (
       frame_of f
-          ∷ stack_of c.pop.new.self.items,
+          ∷ term_stack_of c.pop.new.self.items,
       term_of c.join.new.operand,
     ))
     c.in-Some-Left.field-0-is
@@ -61,16 +61,16 @@ returns-in-Some-Left c =
 pub returns-in_ok-push-in-Some-Applied : goal.returns-in_ok-push-in-Some-Applied
 returns-in_ok-push-in-Some-Applied c =
     steps_same Close _ _ _ _
-    (ap (closed c.args.self.now.operators) (popped_of _ _ _ _ _ c.in_ok-join.ensures
+    (ap (term_closed c.args.self.now.operators) (popped_of _ _ _ _ _ c.in_ok-join.ensures
     c.in-Some-Applied.ensures.items)
     ∙ ap
-    (λ (f : code_frame.Frame). closed c.args.self.now.operators (
+    (λ (f : code_frame.Frame). term_closed c.args.self.now.operators (
       frame_of f
-          ∷ stack_of c.pop.new.self.items,
+          ∷ term_stack_of c.pop.new.self.items,
       term_of c.join.new.operand,
     ))
     c.in-Some-Applied.field-0-is
-    ∙ ap (λ (t : Term). Goes (stack_of c.pop.new.self.items) c.args.self.now.operators (Has t))
+    ∙ ap (λ (t : Term). Goes (term_stack_of c.pop.new.self.items) c.args.self.now.operators (Has t))
     (applied_pushed c.in-Some-Applied.name c.in-Some-Applied.arguments c.push.new.self
     c.join.new.operand c.in_ok-push-in-Some-Applied.ensures.items))
     (c.goes-in-Some-Applied.ensures Close)

@@ -1,7 +1,7 @@
 use Rattle.std.proofs.Common.{ap, ◌∙◌, ◌∷◌, List}
 use Rattle.cat_tokens.specs.declared.token.Token.TheVariants.{Comma}
 use Rattle.cat_grammar.specs.Machine.{comma_read, Goes, Wants, TermFrame}
-use Rattle.cat_expressions.specs.Reading.{frame_of, stack_of}
+use Rattle.cat_expressions.specs.Reading.{frame_of, term_stack_of}
 use Rattle.text_values.specs.ModelValues.{term_of}
 use Rattle.cat_expressions.specs.declared.frames.Frame as code_frame
 use Rattle.cat_expressions.proofs.Stack.{popped_of, steps_same, comma_pushed}
@@ -13,7 +13,7 @@ returns-in-Some-Group c =
     c.in-Some-Group.ensures.items)
     ∙ ap
     (λ (f : code_frame.Frame). comma_read c.args.self.now.operators
-    (frame_of f ∷ stack_of c.pop.new.self.items, term_of c.join.new.operand))
+    (frame_of f ∷ term_stack_of c.pop.new.self.items, term_of c.join.new.operand))
     c.in-Some-Group.field-0-is
 
 pub returns-in-Some-Square : goal.returns-in-Some-Square
@@ -22,7 +22,7 @@ returns-in-Some-Square c =
     c.in-Some-Square.ensures.items)
     ∙ ap
     (λ (f : code_frame.Frame). comma_read c.args.self.now.operators
-    (frame_of f ∷ stack_of c.pop.new.self.items, term_of c.join.new.operand))
+    (frame_of f ∷ term_stack_of c.pop.new.self.items, term_of c.join.new.operand))
     c.in-Some-Square.field-0-is
 
 pub returns-in-Some-Prefix : goal.returns-in-Some-Prefix
@@ -31,7 +31,7 @@ returns-in-Some-Prefix c =
     c.in-Some-Prefix.ensures.items)
     ∙ ap
     (λ (f : code_frame.Frame). comma_read c.args.self.now.operators
-    (frame_of f ∷ stack_of c.pop.new.self.items, term_of c.join.new.operand))
+    (frame_of f ∷ term_stack_of c.pop.new.self.items, term_of c.join.new.operand))
     c.in-Some-Prefix.field-0-is
 
 pub returns-in-Some-Left : goal.returns-in-Some-Left
@@ -40,7 +40,7 @@ returns-in-Some-Left c =
     c.in-Some-Left.ensures.items)
     ∙ ap
     (λ (f : code_frame.Frame). comma_read c.args.self.now.operators
-    (frame_of f ∷ stack_of c.pop.new.self.items, term_of c.join.new.operand))
+    (frame_of f ∷ term_stack_of c.pop.new.self.items, term_of c.join.new.operand))
     c.in-Some-Left.field-0-is
 
 pub returns-in_ok-push-in-Some-Applied-2 : goal.returns-in_ok-push-in-Some-Applied-2
@@ -50,7 +50,7 @@ returns-in_ok-push-in-Some-Applied-2 c =
     c.in-Some-Applied.ensures.items)
     ∙ ap
     (λ (f : code_frame.Frame). comma_read c.args.self.now.operators
-    (frame_of f ∷ stack_of c.pop.new.self.items, term_of c.join.new.operand))
+    (frame_of f ∷ term_stack_of c.pop.new.self.items, term_of c.join.new.operand))
     c.in-Some-Applied.field-0-is
     ∙ ap (λ (fs : List TermFrame). Goes fs c.args.self.now.operators Wants) (comma_pushed
     c.pop.new.self.items c.push-in-Some-Applied.new.self.items c.in-Some-Applied.name

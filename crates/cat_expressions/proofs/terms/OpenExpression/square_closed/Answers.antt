@@ -2,7 +2,7 @@ use Rattle.std.proofs.Common.{ap, sym, ◌∙◌}
 use Rattle.cat_tokens.specs.declared.token.Token.TheVariants.{CloseSquare}
 use Rattle.cat_grammar.specs.Machine.{square_closed, Goes, Has}
 use Rattle.text_values.specs.ModelValue.{Term, On}
-use Rattle.cat_expressions.specs.Reading.{stack_of}
+use Rattle.cat_expressions.specs.Reading.{term_stack_of}
 use Rattle.text_values.specs.ModelValues.{term_of}
 use Rattle.cat_expressions.proofs.Stack.{popped_of, square_refused, square_matched, steps_same}
 use Rattle.cat_expressions.proofs.terms.OpenExpression.square_closed.Goals as goal
@@ -21,6 +21,6 @@ returns c =
     c.in-Some.ensures.items)
     ∙ square_matched c.args.self.now.operators c.in-Some.frame _ _
     (sym c.is_square.ensures ∙ c.if-not-is_square.false)
-    ∙ ap (λ (t : Term). Goes (stack_of c.pop.new.self.items) c.args.self.now.operators (Has (On t)))
+    ∙ ap (λ (t : Term). Goes (term_stack_of c.pop.new.self.items) c.args.self.now.operators (Has (On t)))
     (sym (ap term_of c.in_ok-new.ensures.ok)))
     (c.goes.ensures CloseSquare)
