@@ -9,8 +9,8 @@ pub struct Label {
     pub instruction: Vec<u8>,
 }
 
-/// Where a box stands: row 0 has the initial store of this number, row r + 1 event r of the thread
-/// of this number.
+/// Where a box stands: the top row has the initial store of this number, and the rows below it have
+/// the events of the thread of this number, in order.
 #[derive(Clone, Copy)]
 pub struct Position {
     /// The column.
