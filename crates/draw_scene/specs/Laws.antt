@@ -40,7 +40,7 @@ IsDrawnLine false d l = IsLineOfPair d l
 abbrev pub IsEventOfNumber : ℕ → Option ToldEvent → Type 0
 IsEventOfNumber n found = (e : ToldEvent) × (found ≡ Some e) × (e.number ≡ n)
 
--- in row 0 an initial store, in row r + 1 event r of the thread of the column
+-- in the top row an initial store, in the rows below it the events of the thread of the column
 abbrev pub IsBoxIn : Drawing → ℕ → (column row : ℕ) → Type 0
 IsBoxIn d n column zero = IsEventOfNumber n (slice_get d.initial.items column)
 IsBoxIn d n column (suc r) =
