@@ -4,6 +4,7 @@ pub mod Empty
 pub mod Preparing
 pub mod Indexes
 pub mod Above
+pub mod Verdicts
 pub mod Crossings
 pub mod Posted
 pub mod Contents

@@ -137,4 +137,7 @@ module _ (t u : StampedTexts) (same : AreSameTexts t u) where
     same = λ e. (
         let h = since.same (sym same.state.last ∙ e) in
         record { texts = same.texts ∙ h.texts; tests = same.state.tests ∙ h.tests; models = same.models ∙ h.models });
+    same_rows = λ e. (
+        let h = since.same_rows (sym same.state.last ∙ e) in
+        record { tests = same.state.test_rows ∙ h.tests; models = same.state.model_rows ∙ h.models });
   }

@@ -41,11 +41,18 @@ pub record HasTextsOf (t u : StampedTexts) : Type 0 where
   pub tests : u.texts.tests.items ≡ t.texts.tests.items
   pub models : u.texts.models.items ≡ t.texts.models.items
 
--- the later texts came of the earlier ones; without an edit between them they say the same
+-- the tests and the models of the later texts have the numbers that they had
+pub record HasRowsOf (t u : StampedTexts) : Type 0 where
+  pub tests : u.parts.table.tests.items ≡ t.parts.table.tests.items
+  pub models : u.parts.table.models.items ≡ t.parts.table.models.items
+
+-- the later texts came of the earlier ones; without an edit between them they say the same, of the
+-- same numbers
 pub record AreTextsSince (t u : StampedTexts) : Type 0 where
   pub sound : AreSoundTexts u
   pub since : written.IsStateSince (written_of t) (written_of u)
   pub same : u.parts.last ≡ t.parts.last → HasTextsOf t u
+  pub same_rows : u.parts.last ≡ t.parts.last → HasRowsOf t u
 
 abbrev pub stamped_net : StampedTexts → Net GivenContent
 stamped_net t = states.net_in (stamped_state t)

@@ -100,7 +100,7 @@ impl BoardTexts for StampedTexts {
     ghost use Rattle.board.specs.Legal.{last_number};
     ghost use Rattle.board.specs.Histories.{IsEditAfter, IsSettle};
     ghost use Rattle.bench_instance.specs.Texts.{AreAfter, IsAnnounced, IsWantOfMemory, SettlesCell};
-    ghost use Rattle.bench_instance.specs.Lemmas.Laws.{same_after, edits_follow, edits_after, edits_named, edits_numbered};
+    ghost use Rattle.bench_instance.specs.Lemmas.Laws.{same_after, verdicts_same, edits_follow, edits_after, edits_named, edits_numbered};
     ghost use Rattle.bench_instance.specs.Lemmas.Laws.{settles_follow, settles_named, settles_after, settles_numbered, settles_show};
     ghost use Rattle.bench_instance.specs.Lemmas.Laws.{cells_are_known};
 
@@ -153,6 +153,15 @@ impl BoardTexts for StampedTexts {
         }
     }
 
+    fn open_verdict(&self, board: &Board, index: usize) -> Option<Node> {
+        let at = cell_index(board, index);
+        match board.show_at(at) {
+            Shown::Settled(_) => None,
+            Shown::Open => self.verdict_at(at.test, at.model),
+            Shown::NoCell => self.verdict_at(at.test, at.model),
+        }
+    }
+
     fn cells_above(&self, board: &Board, node: Node) -> CellRange {
         let count = <StampedTexts as BoardTexts>::cell_count(board);
         let models = board.model_count();
@@ -175,6 +184,8 @@ impl BoardTexts for StampedTexts {
     }
 
     ghost after_same = { same_after };
+
+    ghost verdict_same = { verdicts_same };
 
     ghost number_none = { refl };
 

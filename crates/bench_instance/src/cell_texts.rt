@@ -7,7 +7,7 @@ use crate::stamped_texts::StampedTexts;
 use bench_texts::Edit;
 use bench_values::NodeValue;
 use cells::texts::CellTexts;
-use memo_core::keys::{Kind, Node};
+use memo_core::keys::Node;
 use std::alloc::{AllocError, Global};
 use verdict::Outcome;
 
@@ -103,13 +103,7 @@ impl CellTexts for StampedTexts {
     }
 
     fn verdict_of(&self, test: &[u8], model: &[u8]) -> Option<Node> {
-        let test = self.parts.table.tests.get(self.texts.test_index(test))?;
-        let model = self.parts.table.models.get(self.texts.model_index(model))?;
-        Some(Node {
-            kind: Kind::Verdict,
-            test: test.id,
-            of: model.id,
-        })
+        self.verdict_at(self.texts.test_index(test), self.texts.model_index(model))
     }
 
     fn outcome_in(value: &NodeValue) -> Option<&Outcome> {

@@ -1,17 +1,17 @@
 //! Tests and models with the stamps of their parts.
 
-ghost use Rattle.std.specs.Prelude.{◌≡◌, ◌==◌, ℕ, ◌≤◌, false, [], IfOk, IfErr, OnOk};
+ghost use Rattle.std.specs.Prelude.{◌≡◌, ◌==◌, ℕ, ◌≤◌, false, [], IfOk, IfErr, OnOk, slice_get};
 ghost use Rattle.std.specs.List.{position_or_len};
 ghost use Rattle.bench_texts.specs.Edits.{edit_of, RefusesEdit};
 ghost use Rattle.bench_texts.specs.Held.{texts_of};
-ghost use Rattle.bench_instance.specs.StampedTexts.{AreSoundTexts, stamped_net};
+ghost use Rattle.bench_instance.specs.StampedTexts.{AreSoundTexts, stamped_net, verdict_by};
 ghost use Rattle.bench_instance.specs.Edited.{most_used, AreSameTexts, IsPrepared, HasRoomForEdit};
 
 use bench_edits::{EditedParts, commit_parts, prepare_parts};
 use bench_parts::{Parts, is_same, run};
 use bench_texts::{Edit, EditFault, Prepared, Texts as BenchTexts};
 use bench_values::{Given, NodeValue};
-use memo_core::keys::{Key, Node, Output};
+use memo_core::keys::{Key, Kind, Node, Output};
 use memo_core::texts::Texts;
 use std::alloc::{AllocError, Global};
 
@@ -100,6 +100,20 @@ impl StampedTexts {
         ensures { result ≡ position_or_len (λ r. r.id == id) self.now.parts.table.tests.items }
     {
         self.parts.test_index(id)
+    }
+
+    /// The verdict of the test and the model at these indexes, if both are there.
+    pub fn verdict_at(&self, test: usize, model: usize) -> Option<Node>
+        ensures { result ≡ verdict_by (slice_get self.now.parts.table.tests.items test)
+            (slice_get self.now.parts.table.models.items model) }
+    {
+        let test = self.parts.table.tests.get(test)?;
+        let model = self.parts.table.models.get(model)?;
+        Some(Node {
+            kind: Kind::Verdict,
+            test: test.id,
+            of: model.id,
+        })
     }
 
     // What an edit needs, made beside the texts and their parts, which stay the same. Errors: the

@@ -10,6 +10,13 @@ pub trait Gate {
 
     /// The job of this claim was returned or lost.
     fn end<R: Wait>(&self, rt: &R, claim: u64);
+
+    /// Whether it is told of the end of a job before the worker takes the next one. Else the worker
+    /// returns the job and takes the next one in one turn of the desk's lock, and the end is told
+    /// after that.
+    fn hears_ends(&self) -> bool {
+        true
+    }
 }
 
 /// Nothing is told.
@@ -20,4 +27,8 @@ impl Gate for NoGate {
     fn begin<R: Wait>(&self, _rt: &R, _claim: u64) {}
 
     fn end<R: Wait>(&self, _rt: &R, _claim: u64) {}
+
+    fn hears_ends(&self) -> bool {
+        false
+    }
 }

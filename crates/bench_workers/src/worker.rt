@@ -6,6 +6,7 @@ use cells::job::{Done, Job, RunFault};
 use desk::{BoardTexts, Desk, DeskFault, Naming, Refusals};
 use desk_history::{Entry, Plate};
 use left_right::Absorb;
+use memo_core::claims::Finish;
 use std::alloc::Global;
 use std::sync::Wait;
 use value_store::StoreName;
@@ -18,6 +19,12 @@ struct Worker {
 }
 
 impl Worker {
+    // Counts a return by what it came to.
+    fn note(&mut self, finish: &Finish) {
+        self.tally.note(finish);
+        let _many = self.refusals.note(false);
+    }
+
     // Counts a refusal for memory. True if the worker goes on.
     fn goes_on(&mut self) -> bool {
         self.tally.note_refusal();
@@ -34,6 +41,41 @@ fn give_up<J: Naming + StoreName, X: BoardTexts, R: Wait + Drop, W: Wait>(
     false
 }
 
+// What a worker does next.
+#[derive(Drop)]
+enum Next<J: Naming + StoreName, X: BoardTexts> {
+    // It runs this job.
+    Run(Job<J, X>),
+    // It waits for a job.
+    Wait,
+    // It ends.
+    End,
+}
+
+// Waits for a job where the worker goes on, and ends where it does not.
+fn next_if<J: Naming + StoreName, X: BoardTexts>(goes_on: bool) -> Next<J, X> {
+    if goes_on { Next::Wait } else { Next::End }
+}
+
+// Counts a claim that was refused. True if the worker goes on.
+fn is_refused<J: Naming + StoreName, X: BoardTexts, R: Wait + Drop, W: Wait>(
+    rt: &W,
+    desk: &Desk<J, X, R>,
+    fault: DeskFault<X::Fault>,
+    worker: &mut Worker,
+) -> bool {
+    match fault {
+        DeskFault::Closed => false,
+        DeskFault::OutOfMemory => {
+            if worker.goes_on() {
+                return true;
+            }
+            give_up(rt, desk)
+        }
+        _ => give_up(rt, desk),
+    }
+}
+
 // Returns what a job made. True if the worker goes on.
 fn hand_in<J: Naming + StoreName, X: BoardTexts, R: Wait + Drop, W: Wait>(
     rt: &W,
@@ -43,11 +85,28 @@ fn hand_in<J: Naming + StoreName, X: BoardTexts, R: Wait + Drop, W: Wait>(
 ) -> bool {
     match desk.finish(rt, done) {
         Ok((finish, _posted)) => {
-            worker.tally.note(&finish);
-            let _many = worker.refusals.note(false);
+            worker.note(&finish);
             true
         }
         Err(_) => false,
+    }
+}
+
+// Returns what a job made, and takes the next job in the same turn of the lock.
+fn exchange<J: Naming + StoreName, X: BoardTexts, R: Wait + Drop, W: Wait>(
+    rt: &W,
+    desk: &Desk<J, X, R>,
+    done: Done<J, X>,
+    worker: &mut Worker,
+) -> Next<J, X> {
+    let Ok((finish, _posted, next)) = desk.exchange(rt, done) else {
+        return Next::End;
+    };
+    worker.note(&finish);
+    match next {
+        Ok(Some(job)) => Next::Run(job),
+        Ok(None) => Next::Wait,
+        Err(fault) => next_if(is_refused(rt, desk, fault, worker)),
     }
 }
 
@@ -72,7 +131,7 @@ fn lose<J: Naming + StoreName, X: BoardTexts, R: Wait + Drop, W: Wait>(
     }
 }
 
-// Runs a job, and returns it or loses it. True if the worker goes on.
+// Runs a job, and returns it or loses it.
 fn run<J: Naming + StoreName, X: BoardTexts, R: Wait + Drop, G: Gate, W: Wait>(
     rt: &W,
     alloc: Global,
@@ -80,35 +139,32 @@ fn run<J: Naming + StoreName, X: BoardTexts, R: Wait + Drop, G: Gate, W: Wait>(
     gate: &G,
     job: Job<J, X>,
     worker: &mut Worker,
-) -> bool {
+) -> Next<J, X> {
     let claim = job.claim_number();
     gate.begin(rt, claim);
-    let goes_on = match job.run(rt, alloc) {
-        Ok(done) => hand_in(rt, desk, done, worker),
-        Err((_job, fault)) => lose(rt, desk, claim, fault, worker),
+    let next = match job.run(rt, alloc) {
+        Ok(done) => {
+            if gate.hears_ends() {
+                next_if(hand_in(rt, desk, done, worker))
+            } else {
+                exchange(rt, desk, done, worker)
+            }
+        }
+        Err((_job, fault)) => next_if(lose(rt, desk, claim, fault, worker)),
     };
     gate.end(rt, claim);
-    goes_on
+    next
 }
 
-// Takes one job and runs it. True if the worker goes on.
-fn turn<J: Naming + StoreName, X: BoardTexts, R: Wait + Drop, G: Gate, W: Wait>(
+// Waits for a job.
+fn wait<J: Naming + StoreName, X: BoardTexts, R: Wait + Drop, W: Wait>(
     rt: &W,
-    alloc: Global,
     desk: &Desk<J, X, R>,
-    gate: &G,
     worker: &mut Worker,
-) -> bool {
+) -> Next<J, X> {
     match desk.next_job(rt) {
-        Ok(job) => run(rt, alloc, desk, gate, job, worker),
-        Err(DeskFault::Closed) => false,
-        Err(DeskFault::OutOfMemory) => {
-            if worker.goes_on() {
-                return true;
-            }
-            give_up(rt, desk)
-        }
-        Err(_) => give_up(rt, desk),
+        Ok(job) => Next::Run(job),
+        Err(fault) => next_if(is_refused(rt, desk, fault, worker)),
     }
 }
 
@@ -125,10 +181,13 @@ pub fn work<J: Naming + StoreName, X: BoardTexts, R: Wait + Drop, G: Gate, W: Wa
         tally: Tally::new(),
         refusals: Refusals::new(),
     };
+    let mut next = Next::Wait;
     for _ in rt.forever() {
-        if !turn(rt, alloc, desk, gate, &mut worker) {
-            return worker.tally;
-        }
+        next = match next {
+            Next::Run(job) => run(rt, alloc, desk, gate, job, &mut worker),
+            Next::Wait => wait(rt, desk, &mut worker),
+            Next::End => return worker.tally,
+        };
     }
     unreachable!()
 }

@@ -3,3 +3,4 @@ pub mod Appending
 pub mod Growing
 pub mod Refusing
 pub mod Returning
+pub mod Exchanging

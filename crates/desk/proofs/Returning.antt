@@ -187,6 +187,20 @@ module _ {T E V G O : Type 0} (net : T → Net G) (of : Cells T E V O) where
   posted_same old new cells t m posted test model o s =
       posted test model o (cell_same old new t m test model o s)
 
+  -- so are those of texts that say the same
+  pub posted_refused : (old new : Bench T V) (cells : List (BoardCell O))
+      → net new.texts ≡ net old.texts → new.memos ≡ old.memos
+      → ((test model : List ℕ)
+      → of.verdict_of new.texts test model ≡ of.verdict_of old.texts test model)
+      → ArePosted net of old cells → ArePosted net of new cells
+  posted_refused old new cells n m same posted test model o s =
+      posted test model o (record {
+        verdict = s.verdict;
+        is = sym (same test model) ∙ s.is;
+        settled = rw (n, m) at s.settled;
+        carries = rw m at s.carries;
+      })
+
   -- one memo more
   but_put : (old new : Bench T V) (m : Memo V) (cells : List (BoardCell O)) → new.texts ≡ old.texts
       → new.memos ≡ put_memo m old.memos → ArePosted net of old cells

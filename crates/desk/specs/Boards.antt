@@ -33,6 +33,19 @@ pub record IsSettledOn {O : Type 0} (cells : List (BoardCell O)) (test model : L
   pub model_is : cell.model ≡ model
   pub settled : IsSome cell.outcome
 
+-- the cell at the index has this verdict
+abbrev pub HasVerdictAt : {O : Type 0} → (List ℕ → List ℕ → Option Node) → List (BoardCell O) → ℕ
+    → Node → Type 0
+HasVerdictAt {O} verdict_of cells index n =
+    (c : BoardCell O) × (slice_get cells index ≡ Some c) × (verdict_of c.test c.model ≡ Some n)
+
+-- the cell at the index is settled, or has no verdict
+abbrev pub HasNoneToPost : {O : Type 0} → (List ℕ → List ℕ → Option Node) → List (BoardCell O) → ℕ
+    → Type 0
+HasNoneToPost {O} verdict_of cells index =
+    (c : BoardCell O) → slice_get cells index ≡ Some c
+    → IsSome c.outcome ⊎ (verdict_of c.test c.model ≡ None)
+
 -- every cell is settled
 abbrev pub AreSettled : {O : Type 0} → List (BoardCell O) → Type 0
 AreSettled {O} cells =

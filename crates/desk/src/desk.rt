@@ -13,26 +13,17 @@ use crate::seed::DeskSeed;
 use crate::state::DeskState;
 use crate::texts::BoardTexts;
 use cells::job::{Done, Job};
+use crossbeam_utils::Backoff;
 use desk_history::{Entry, Naming, Plate, Viewer};
 use left_right::Absorb;
 use memo_core::claims::Finish;
 use memo_engine::graph::LAST;
-use std::hint::spin_loop;
 use std::mem::drop;
 use std::sync::{Condvar, Mutex, MutexGuard, Wait};
 use value_store::StoreName;
 
-// How often the lock is tried before the thread sleeps, and how long it pauses between two tries.
-const TRIES: u32 = 100;
-
-const PAUSES: u32 = 10;
-
-// Lets about a thousand cycles pass.
-fn pause() {
-    for _ in 0..PAUSES {
-        spin_loop();
-    }
-}
+// How often the lock is tried before the thread sleeps. The pauses between two tries grow.
+const TRIES: u32 = 20;
 
 /// A bench that threads share. Each call takes its lock once. A view that is held makes publishing
 /// wait until it is left, under the lock, and so each call beside it. Whoever holds a view must
@@ -62,11 +53,12 @@ impl<J: Naming + StoreName, X: BoardTexts, R: Wait + Drop> Desk<J, X, R> {
     // Takes the lock. As others have it for some microseconds only, it is tried for so long before
     // the thread sleeps.
     fn lock<W: Wait>(&self, rt: &W) -> MutexGuard<DeskState<J, X, R>> {
+        let backoff = Backoff::new();
         for _ in 0..TRIES {
             if let Some(state) = self.state.try_lock() {
                 return state;
             }
-            pause();
+            backoff.spin();
         }
         self.state.lock(rt)
     }
@@ -148,6 +140,31 @@ impl<J: Naming + StoreName, X: BoardTexts, R: Wait + Drop> Desk<J, X, R> {
         let mut state = self.lock(rt);
         let changes = state.change_count();
         let answer = state.finish(rt, done);
+        self.leave(state, changes);
+        answer
+    }
+
+    /// Takes a return as `finish` does, and gives out a job as `claim` does, in one turn of the
+    /// lock. Errors: K1; then no job is given out.
+    #[tactic(auto, using(crate::proofs::Refusing::closed_only, crate::proofs::Exchanging::exchange_refused))]
+    pub fn exchange<W: Wait>(
+        &self,
+        rt: &W,
+        done: Done<J, X>,
+    ) -> Result<
+        (
+            Finish,
+            Posted,
+            Result<Option<Job<J, X>>, DeskFault<X::Fault>>,
+        ),
+        DeskFault<X::Fault>,
+    >
+        ensures closed { IfErr result (λ fault. fault ≡ DeskFault.Closed) }
+        ensures next { IfOk result (λ r. IfErr r.2 (IsClaimRefusedBy ⊤)) }
+    {
+        let mut state = self.lock(rt);
+        let changes = state.change_count();
+        let answer = state.exchange(rt, done);
         self.leave(state, changes);
         answer
     }

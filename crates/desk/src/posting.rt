@@ -1,6 +1,6 @@
 //! Appends the cells that are settled on the bench and open on the board.
 
-ghost use Rattle.std.specs.Prelude.{◌<◌, ◌≤◌, ℕ, length, IsTrue, IfOk, IfSome, IfNone, fold};
+ghost use Rattle.std.specs.Prelude.{◌≡◌, ◌<◌, ◌≤◌, ℕ, List, length, IsTrue, IfOk, IfSome, IfNone, fold};
 ghost use Rattle.cells.specs.Cells.{cells as cells_of};
 ghost use Rattle.desk.specs.Boards.{AreCellsKept, ArePostedFor, AreSettled, HoldsFor};
 ghost use Rattle.desk.specs.Posts.{IsPosted, SettlesRight, Posts};
@@ -21,17 +21,20 @@ fn settle_of<K: StoreName, X: BoardTexts>(
     board: &X::Board,
     index: usize,
 ) -> Result<Option<X::Op>, AllocError>
-    requires { index < length (X.cells board.now) }
+    requires valid { X.is_valid bench.now.texts }
+    requires after { (ops : List X.Op) × X.are_after bench.now.texts ops
+        × (board.now ≡ fold X.after X.none ops) }
+    requires at { index < length (X.cells board.now) }
     ensures made { IfOk result (λ r. IfSome r (λ op. SettlesRight X.settles
         (X.from_scratch bench.now.texts) board.now (X.cells board.now) index op)) }
     ensures none { IfOk result (λ r. IfNone r (IsPosted X.net
         (cells_of X.verdict_of X.outcome_in X.from_scratch X.reaches) bench.now
         (X.cells board.now) index)) }
 {
-    let Some(names) = X::open_cell(board, index) else {
+    let Some(verdict) = bench.texts().open_verdict(board, index) else {
         return Ok(None);
     };
-    match bench.shown(names.test, names.model) {
+    match bench.shown_at(verdict) {
         Shown::Settled(outcome) => Ok(Some(X::settle(alloc, board, index, outcome)?)),
         Shown::Open => Ok(None),
         Shown::NoCell => Ok(None),

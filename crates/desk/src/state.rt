@@ -105,6 +105,7 @@ fn make_edit<J: Naming + StoreName, X: BoardTexts>(
 }
 
 impl<J: Naming + StoreName, X: BoardTexts, R: Wait + Drop> DeskState<J, X, R> {
+    ghost use Rattle.desk.specs.Exchanges.{TakesAndClaims};
     ghost use Rattle.desk.specs.Held.{held, accepted_number, AppendsSettles, IsEditTurn, IsRefusedTurn, IsShownOrOwed, Publishes, PublishesOr, IsSettlingTurn, TellsEdit};
 
     /// A bench without texts, and a board that shows nothing.
@@ -156,7 +157,7 @@ impl<J: Naming + StoreName, X: BoardTexts, R: Wait + Drop> DeskState<J, X, R> {
 
     /// Makes an edit, publishes it and tells this viewer. Errors: K1 if the desk is closed, K2 if
     /// the viewer has seen more than this desk has, the bench's refusals, want of memory; the
-    /// viewer's list and the operations stay what they are.
+    /// viewer's list and the operations stay what they are then, and nothing more is owed.
     pub fn edit<W: Wait>(
         &mut self,
         rt: &W,
@@ -174,6 +175,7 @@ impl<J: Naming + StoreName, X: BoardTexts, R: Wait + Drop> DeskState<J, X, R> {
         ensures err { OnErr result (IsRefusedTurn
             (meaning X.net X.is_valid X.since X.makes X.keeps X.edited X.last) self.old
             self.new × (me.new ≡ me.old)) }
+        ensures debt { OnErr result (self.new.owes ≡ self.old.owes) }
         ensures unspent { OnOk result (self.old.bench.taken < LAST) }
         ensures turn { IfOk result (λ a. IsEditTurn
             (meaning X.net X.is_valid X.since X.makes X.keeps X.edited X.last) X.is_edit
@@ -192,7 +194,6 @@ impl<J: Naming + StoreName, X: BoardTexts, R: Wait + Drop> DeskState<J, X, R> {
         if !self.ledger.begins_with(me) {
             return Err(DeskFault::NoSeat);
         }
-        self.owes = true;
         let number = make_edit(self.alloc, &mut self.bench, &mut self.ledger, edit)?;
         self.owes = !self.ledger.post(self.alloc, &self.bench, None);
         if !self.ledger.publish(rt) {
@@ -334,6 +335,34 @@ impl<J: Naming + StoreName, X: BoardTexts, R: Wait + Drop> DeskState<J, X, R> {
         let (finish, above) = take(&mut self.bench, &self.ledger, owed, done);
         let posted = self.catch_up(rt, above);
         Ok((finish, posted))
+    }
+
+    /// Takes a return as `finish` does, and then gives out a job as `claim` does. The return stays
+    /// taken where the claim is refused. Errors: K1; then no job is given out either.
+    pub fn exchange<W: Wait>(
+        &mut self,
+        rt: &W,
+        done: Done<J, X>,
+    ) -> Result<
+        (
+            Finish,
+            Posted,
+            Result<Option<Job<J, X>>, DeskFault<X::Fault>>,
+        ),
+        DeskFault<X::Fault>,
+    >
+        ensures closed { (result ≡ Err DeskFault.Closed) ↔ (self.old.closed ≡ true) }
+        ensures only { OnErr result (self.old.closed ≡ true) }
+        ensures err { OnErr result (self.new ≡ self.old) }
+        ensures turns { IfOk result (λ r. TakesAndClaims
+            (meaning X.net X.is_valid X.since X.makes X.keeps X.edited X.last) X.is_settle
+            (λ bench ops. ArePosted X.net
+            (cells_of X.verdict_of X.outcome_in X.from_scratch X.reaches) bench
+            (X.cells (fold X.after X.none ops))) LAST done self.old r.0 r.1 r.2 self.new) }
+    {
+        let (finish, posted) = self.finish(rt, done)?;
+        let next = self.claim(rt);
+        Ok((finish, posted, next))
     }
 
     /// Closes a claim, and says whether it was out. Errors: K1.

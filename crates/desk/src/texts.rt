@@ -3,7 +3,7 @@
 
 ghost use Rattle.std.specs.Prelude.{◌≡◌, ◌<◌, ◌≤◌, ◌↔◌, ℕ, List, [], ◌∷◌, ◌++◌, Some, IfOk, IfSome, IfNone, IsSome, IsTrue, length, slice_get, fold};
 ghost use Rattle.memo_core.specs.declared.keys.Node.{Node as NodeRecord};
-ghost use Rattle.desk.specs.Boards.{BoardCell, HoldsAbove, open_of, with_outcome};
+ghost use Rattle.desk.specs.Boards.{BoardCell, HoldsAbove, HasVerdictAt, HasNoneToPost, open_of, with_outcome};
 
 use cells::texts::CellTexts;
 use desk_history::Operations;
@@ -88,6 +88,17 @@ pub trait BoardTexts: CellTexts + Operations {
         ensures settled { IfNone result ((c : BoardCell Self.Outcome)
             → slice_get (cells board.now) index ≡ Some c → IsSome c.outcome) };
 
+    /// The verdict of the cell at an index of the board of these texts, if the cell is open there.
+    fn open_verdict(&self, board: &Self::Board, index: usize) -> Option<Node>
+        requires valid { Self.is_valid self.now }
+        requires after { (ops : List Self.Op) × are_after self.now ops
+            × (board.now ≡ fold Self.after Self.none ops) }
+        requires at { index < length (cells board.now) }
+        ensures open { IfSome result (HasVerdictAt (Self.verdict_of self.now) (cells board.now)
+            index) }
+        ensures none { IfNone result (HasNoneToPost (Self.verdict_of self.now) (cells board.now)
+            index) };
+
     /// Where on the board of these texts the cells stand whose verdicts stand on a node.
     fn cells_above(&self, board: &Self::Board, node: Node) -> CellRange
         requires valid { Self.is_valid self.now }
@@ -110,6 +121,11 @@ pub trait BoardTexts: CellTexts + Operations {
     /// Texts are after the same operations as those that they came of without an edit.
     ghost after_same: { (t u : Self) (ops : List Self.Op) → Self.is_valid t
         → Self.last u ≡ Self.last t → Self.since t u → are_after t ops → are_after u ops };
+
+    /// So cells have the verdicts that they had.
+    ghost verdict_same: { (t u : Self) (test model : List ℕ) → Self.is_valid t
+        → Self.last u ≡ Self.last t → Self.since t u
+        → Self.verdict_of u test model ≡ Self.verdict_of t test model };
 
     /// No operation has a number above 0.
     ghost number_none: { last_number [] ≡ 0 };

@@ -12,6 +12,8 @@ use Rattle.text_values.specs.TestValue.{Content, content_of}
 use Rattle.verdict.specs.declared.answer.Outcome.{Outcome}
 use Rattle.memo_core.specs.declared.keys.Node.{Node}
 use Rattle.from_scratch.specs.FromScratch.{IsFromScratch}
+use Rattle.bench_nodes.specs.declared.table.ModelRow.{ModelRow}
+use Rattle.bench_nodes.specs.declared.table.TestRow.{TestRow}
 use Rattle.bench_texts.specs.declared.edit.Edit.{Edit}
 use Rattle.bench_texts.specs.declared.fault.EditFault.TheVariants as faults
 use Rattle.bench_texts.specs.declared.model.NamedModel.{NamedModel}
@@ -28,6 +30,7 @@ use Rattle.desk_history.proofs.Showing.{fold_push}
 use Rattle.desk.specs.Boards.{BoardCell, with_outcome}
 use Rattle.board.specs.declared.operation.BoardOp.{BoardOp}
 use Rattle.board.specs.declared.operation.BoardOp.TheVariants as ops
+use Rattle.board.specs.declared.operation.CellIndex.{CellIndex}
 use Rattle.board.specs.Contents.{RowContent, ColumnContent, BoardContent}
 use Rattle.board.specs.Legal.{TestsAndModels, tests_and_models, tests_and_models_with, tests_and_models_after, no_tests_or_models, texts_after, IsRightAt}
 use Rattle.board.specs.Legal.{number_after, last_number, MayFollow}
@@ -37,11 +40,11 @@ use Rattle.board.proofs.Names.{IsNamed, as_many, names_from, one_more_is_legal}
 use Rattle.board.proofs.Changed.{map-kept}
 use Rattle.bench_instance.specs.declared.stamped_texts.StampedTexts.{StampedTexts}
 use Rattle.bench_instance.specs.declared.stamped_texts.PreparedEdit.{PreparedEdit}
-use Rattle.bench_instance.specs.StampedTexts.{AreSoundTexts, AreTextsSince, verdict_of}
+use Rattle.bench_instance.specs.StampedTexts.{AreSoundTexts, AreTextsSince, verdict_by, verdict_of}
 use Rattle.bench_instance.specs.Edited.{IsPrepared, IsCommitted}
 use Rattle.bench_instance.specs.StampedCells.{cell_from_scratch, scratch_by, test_of, model_of}
 use Rattle.bench_instance.specs.Lemmas.CellProofs.{cell_in, is_named, stands_there, tests_apart, models_apart}
-use Rattle.bench_instance.specs.Cells.{cell_with, all_cells, IsCountable, board_cells}
+use Rattle.bench_instance.specs.Cells.{cell_with, all_cells, IsCountable, IsCellIndexOf, board_cells}
 use Rattle.board.specs.Histories.{contents_with, contents_after, IsMadeOn, AreMadeFrom, IsHistory, MayComeNext, IsEditAfter, IsSettle}
 use Rattle.bench_instance.specs.Texts.{AreAfter}
 use Rattle.bench_instance.specs.Texts.{IsAnnounced, SettlesCell}
@@ -129,6 +132,25 @@ same_after t u all sound last since a =
       few_tests = a.few_tests;
       few_models = a.few_models;
     }
+
+-- so are the verdicts of cells
+pub verdicts_same : (t u : StampedTexts) (test model : List ℕ)
+    → AreSoundTexts t → u.parts.last ≡ t.parts.last → AreTextsSince t u
+    → verdict_of u test model ≡ verdict_of t test model
+verdicts_same t u test model sound last since =
+    let rows = since.same_rows last in
+    let i : ℕ = test_index test (texts_of t.texts).tests in
+    let j : ℕ = model_index model (texts_of t.texts).models in
+    ap
+    (λ (b : BenchTexts).
+    verdict_by (slice_get u.parts.table.tests.items (test_index test b.tests))
+    (slice_get u.parts.table.models.items (model_index model b.models))) (since.same last).texts
+    ∙ (ap
+    (λ (rs : List TestRow). verdict_by (slice_get rs i)
+    (slice_get u.parts.table.models.items j)) rows.tests
+    ∙ ap
+    (λ (ms : List ModelRow). verdict_by (slice_get t.parts.table.tests.items i) (slice_get ms j))
+    rows.models)
 
 prepared_held : (t u : StampedTexts) (e : Edit) (p : PreparedEdit) → IsPrepared t e p u
     → tests_and_models u.texts ≡ tests_and_models t.texts
@@ -405,6 +427,53 @@ model_here t j model name sound there named =
     stands_there (λ (k : PlainModel). k.name) plain.plain_model name t.texts.models.items j model
     (models_apart t sound) there named in
     ap (slice_get t.texts.models.items) at ∙ there
+
+-- the test and the model of a cell stand at its indexes
+cell_indexes : (t : StampedTexts) (all : List BoardOp) (index : ℕ) (c : BoardCell Outcome)
+    (at : CellIndex)
+    → AreSoundTexts t → AreAfter t all → IsCountable (board_after all)
+    → IsCellIndexOf (board_after all) index at
+    → slice_get (board_cells (board_after all)) index ≡ Some c
+    → (test_index c.test (texts_of t.texts).tests ≡ at.test)
+    × (model_index c.model (texts_of t.texts).models ≡ at.model)
+cell_indexes t all index c at sound a countable is h =
+    let b = board_after all in
+    let texts = texts_after all in
+    let listed : slice_get (all_cells b.columns b.rows) (at.test * length b.columns + at.model) ≡ Some c =
+    ap (λ (k : ℕ). slice_get (all_cells b.columns b.rows) k) (sym is.0)
+    ∙
+    (ap (λ (cs : List (BoardCell Outcome)). slice_get cs index) (sym (are_all b countable)) ∙ h) in
+    let cell = cell_here b.columns (slice_get b.rows at.test) at.model c
+    (sym (all_get b.columns b.rows at.test at.model is.1) ∙ listed) in
+    let test = named_there (λ r. r.name) (λ x. x.name) b.rows texts.tests at.test cell.of_test (a.names).tests cell.row_is in
+    let model = named_there (λ m. m.name) (λ x. x.name) b.columns texts.models at.model cell.of_model (a.names).models cell.column_is in
+    let test_there = ap (λ (g : TestsAndModels). slice_get g.tests at.test) a.held ∙ test.1 in
+    let model_there = ap (λ (g : TestsAndModels). slice_get g.models at.model) a.held ∙ model.1 in
+    let test_is : test_index c.test (texts_of t.texts).tests ≡ at.test =
+    stands_there (λ (k : Content). k.name) content_of c.test t.texts.tests.items at.test test.0
+    (tests_apart t sound) test_there (test.2 ∙ cell.test_is) in
+    let model_is : model_index c.model (texts_of t.texts).models ≡ at.model =
+    stands_there (λ (k : PlainModel). k.name) plain.plain_model c.model t.texts.models.items at.model model.0
+    (models_apart t sound) model_there (model.2 ∙ cell.model_is) in
+    (test_is, model_is)
+
+-- the verdict of a cell is that of the test and the model at its indexes
+pub verdict_here : (t : StampedTexts) (all : List BoardOp) (index : ℕ) (c : BoardCell Outcome)
+    (at : CellIndex)
+    → AreSoundTexts t → AreAfter t all → IsCountable (board_after all)
+    → IsCellIndexOf (board_after all) index at
+    → slice_get (board_cells (board_after all)) index ≡ Some c
+    → verdict_of t c.test c.model
+    ≡ verdict_by (slice_get t.parts.table.tests.items at.test)
+    (slice_get t.parts.table.models.items at.model)
+verdict_here t all index c at sound a countable is h =
+    let here = cell_indexes t all index c at sound a countable is h in
+    ap
+    (λ (i : ℕ). verdict_by (slice_get t.parts.table.tests.items i)
+    (slice_get t.parts.table.models.items (model_index c.model (texts_of t.texts).models))) here.0
+    ∙ ap
+    (λ (j : ℕ). verdict_by (slice_get t.parts.table.tests.items at.test)
+    (slice_get t.parts.table.models.items j)) here.1
 
 pub settles_follow : (t : StampedTexts) (all : List BoardOp) (index : ℕ) (c : BoardCell Outcome)
     (o : Outcome) (op : BoardOp)

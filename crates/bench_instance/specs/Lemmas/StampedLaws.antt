@@ -38,6 +38,7 @@ since_itself t sound = record {
   sound = sound;
   since = later.since_itself (written_of t) (whole_of t sound);
   same = λ e. record { texts = refl; tests = refl; models = refl };
+  same_rows = λ e. record { tests = refl; models = refl };
 }
 
 pub given_stays : GivenStays AreSoundTexts AreTextsSince stamped_net
@@ -72,6 +73,7 @@ since_edited t u w e number since after =
           later.since_stamped (written_of t) (written_of u) (written_of w) number since.since
           stamped;
       same = λ e. absurd (omega (arith, e, stamped.last, stamped.above, since.since.later));
+      same_rows = λ e. absurd (omega (arith, e, stamped.last, stamped.above, since.since.later));
     }
 
 pub valid_edited : (t u : StampedTexts) (e : Edit) (number : ℕ) → AreSoundTexts t → IsEdited t e number u

@@ -1,9 +1,10 @@
-use Rattle.std.proofs.Common.{◌<◌, length, List, refl, ap, sym, ◌∙◌, subst}
+use Rattle.std.proofs.Common.{◌<◌, length, List, fold, refl, ap, sym, ◌∙◌, subst}
 use mathlib.Core.List.{IsPrefix}
+use Rattle.cells.specs.Cells.{cells as cells_of}
 use Rattle.desk.specs.Held.{Held}
 use Rattle.desk.proofs.Growing.{begins_edit}
 use Rattle.desk.proofs.Refusing.{never, not_ok, not_seat, other_closed, other_seat, seat_not_ok}
-use Rattle.desk.proofs.Returning.{ahead_of, behind_of, has_edit, was_so}
+use Rattle.desk.proofs.Returning.{ahead_of, behind_of, has_edit, posted_refused, was_so}
 use Rattle.desk.proofs.state.DeskState.edit.Goals as goal
 
 pub invariant_of-self-2 : goal.invariant_of-self-2
@@ -56,8 +57,24 @@ returns-then-not-publish-clause-told g c =
 
 pub invariant_of-self : goal.invariant_of-self
 invariant_of-self g c =
+    let inv = c.self.invariant in
     let made = c.make_edit.ensures in
-    (made.valid, made.after, made.last, λ owes. absurd (never owes))
+    let refused = c.in_err-number.ensures.err in
+    let of = cells_of g.X.CellTexts.verdict_of g.X.CellTexts.outcome_in g.X.CellTexts.from_scratch g.X.CellTexts.reaches in
+    let old = c.self.inside.bench in
+    let new = c.make_edit.new.bench in
+    let cells = (g.X.BoardTexts.cells (fold g.X.Operations.after g.X.Operations.none c.self.inside.ledger.all)) in
+    let since = refused.0.texts.since old.texts (g.met.X.Texts.since_same old.texts inv.0) in (
+      made.valid,
+      made.after,
+      made.last,
+      λ owes. rw refused.1 (
+        (inv.3 owes).0,
+        posted_refused g.X.Texts.net of old new cells refused.0.texts.net refused.0.memos
+            (λ test model. g.met.X.BoardTexts.verdict_same old.texts new.texts test model inv.0
+            refused.0.texts.last since) (inv.3 owes).1,
+      ),
+    )
 
 pub invariant_of-self-then-not-publish : goal.invariant_of-self-then-not-publish
 invariant_of-self-then-not-publish g c =
