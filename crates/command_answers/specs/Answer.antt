@@ -27,6 +27,7 @@ use Rattle.command_line.specs.declared.fault.SessionFault.{SessionFault}
 use Rattle.command_line.specs.declared.fault.SessionFault.TheVariants as session_faults
 use Rattle.command_answers.specs.Cut.{IsInputCut}
 use Rattle.outcome_texts.specs.Log.{log_of}
+use Rattle.session_script.specs.Calls.{HasCalled}
 use Rattle.session_edits.specs.Answer.{refused_line}
 use Rattle.command_answers.specs.Made.{IsAnswerWritten}
 
@@ -150,18 +151,20 @@ IsStreamed left old new (Err session_faults.Read) = Keeps old new
 IsStreamed left old new (Err session_faults.Memory) = Keeps old new
 IsStreamed left old new (Err session_faults.Shared) = ⊥
 
--- a read is refused: one call failed, or, where none did, the input has so many bytes that it is
--- taken for one that does not end
-abbrev pub IsReadFault : ℕ → ℕ → Option (List ℕ) → Type 0
-IsReadFault old new left =
-    (new ≡ old + 1) ⊎ ((new ≡ old) × IfSome left (λ all. 16777216 ≤ length all))
+-- A read is refused: one call failed; or, where none did, so many calls were made that the input is
+-- taken for one that does not end. Where its bytes are known there are as many of them at least.
+abbrev pub IsReadFault : (old new calls calls_now : ℕ) → Option (List ℕ) → Type 0
+IsReadFault old new calls calls_now left =
+    (new ≡ old + 1)
+    ⊎ ((new ≡ old) × HasCalled 16777216 calls calls_now
+    × IfSome left (λ all. 16777216 ≤ length all))
 
--- how many reads have failed, before and after: `Read` comes after a refused read, and all else after
--- none
-abbrev pub AreReadsCounted : {T : Type 0} → ℕ → ℕ → Option (List ℕ) → Result T SessionFault
-    → Type 0
-AreReadsCounted old new left result =
-    (result ≡ Err session_faults.Read → IsReadFault old new left)
+-- how many reads have failed and how many were made, before and after: `Read` comes after a refused
+-- read, and all else after no failed one
+abbrev pub AreReadsCounted : {T : Type 0} → (old new calls calls_now : ℕ) → Option (List ℕ)
+    → Result T SessionFault → Type 0
+AreReadsCounted old new calls calls_now left result =
+    (result ≡ Err session_faults.Read → IsReadFault old new calls calls_now left)
     × (result ≢ Err session_faults.Read → new ≡ old)
 
 -- how many writes have failed, before and after: `Write` comes after one failed write, and all else

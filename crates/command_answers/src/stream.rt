@@ -210,7 +210,7 @@ fn read_first<S: ByteSource>(
         IfSome (S.remaining source.old) (λ all. v.items ≡ take most all)) }
     ensures end { OnOk result (IsAtEnd (S.remaining source.new)) }
     ensures calls { AreReadsCounted (S.failed_calls source.old) (S.failed_calls source.new)
-        (S.remaining source.old) result }
+        (S.calls source.old) (S.calls source.new) (S.remaining source.old) result }
     ensures fault { result ≢ Err SessionFault.Write }
     ensures own { result ≢ Err SessionFault.Shared }
 {
@@ -232,7 +232,7 @@ pub fn read_text<S: ByteSource>(alloc: Global, source: &mut S) -> Result<Vec<u8>
     ensures end { OnOk result (IsAtEnd (S.remaining source.new)) }
     // `Read` comes after one failed call or at the bound, and all else after none.
     ensures calls { AreReadsCounted (S.failed_calls source.old) (S.failed_calls source.new)
-        (S.remaining source.old) result }
+        (S.calls source.old) (S.calls source.new) (S.remaining source.old) result }
     // Nothing is written, and there is no desk.
     ensures fault { result ≢ Err SessionFault.Write }
     ensures own { result ≢ Err SessionFault.Shared }
@@ -270,7 +270,7 @@ pub fn eval_stream_heard<R: AllocGlobal, S: ByteSource, W: ByteSink, L: AnswerLi
     // `Read` comes after one failed read or at the bound, `Write` after one failed write, and all
     // else after none.
     ensures reads { AreReadsCounted (S.failed_calls source.old) (S.failed_calls source.new)
-        (S.remaining source.old) result }
+        (S.calls source.old) (S.calls source.new) (S.remaining source.old) result }
     ensures writes { AreWritesCounted (W.failed_calls sink.old) (W.failed_calls sink.new) result }
 {
     let bytes = match read_first(rt.alloc(), source, MOST_OF_INPUT) {
@@ -303,7 +303,7 @@ pub fn eval_stream<R: AllocGlobal, S: ByteSource, W: ByteSink>(
     // `Read` comes after one failed read or at the bound, `Write` after one failed write, and all
     // else after none.
     ensures reads { AreReadsCounted (S.failed_calls source.old) (S.failed_calls source.new)
-        (S.remaining source.old) result }
+        (S.calls source.old) (S.calls source.new) (S.remaining source.old) result }
     ensures writes { AreWritesCounted (W.failed_calls sink.old) (W.failed_calls sink.new) result }
 {
     eval_stream_heard(rt, source, sink, &mut NoListener)

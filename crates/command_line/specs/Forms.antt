@@ -1,6 +1,6 @@
 -- What the words of a command line ask for. The first word is the program's own name. Read Options
 -- and Words first.
-use Rattle.std.specs.Prelude.{◌≡◌, ℕ, ◌==◌, ◌&&◌, ◌||◌, List, Bool, true, false, not, Option, Some, None, if◌then◌else◌, nat_lt, length, take, drop, codes, option_map}
+use Rattle.std.specs.Prelude.{◌≡◌, ℕ, ◌==◌, ◌&&◌, ◌||◌, List, [], ◌∷◌, Bool, true, false, not, Option, Some, None, if◌then◌else◌, nat_lt, length, take, drop, codes, option_map}
 use denote.Ref.{Bor}
 use Rattle.session_script.specs.Requests.{is_word, word_at}
 use Rattle.command_usage.specs.declared.fault.UsageFault.{UsageFault}
@@ -26,7 +26,7 @@ use Rattle.command_line.specs.Words.{Words, borrowed_words, words_given}
 -- under models, with drawings of all tests or of those that tell models apart, so many at most; a
 -- session of a file's script, or of standard input's, with so many workers; why a model forbids what
 -- a test asks for, by a forbidden execution and in depth where these are asked for; the tests of
--- files under a model as the files change, with so many workers, and looks so far apart; pictures of
+-- files under models as the files change, with so many workers, and looks so far apart; pictures of
 -- these executions
 pub data CommandAsked : Type 0 where
   Stream : CommandAsked
@@ -36,7 +36,7 @@ pub data CommandAsked : Type 0 where
   Report : List (List ℕ) → List (List ℕ) → Bool → ℕ → CommandAsked
   Session : Option (List ℕ) → ℕ → CommandAsked
   Why : List ℕ → List ℕ → Bool → Bool → CommandAsked
-  Watch : List ℕ → List (List ℕ) → ℕ → ℕ → CommandAsked
+  Watch : List (List ℕ) → List (List ℕ) → ℕ → ℕ → CommandAsked
   Draw : List ℕ → List ℕ → Drawn → Pictures → CommandAsked
 
 abbrev pub borrowed_word : Option (Bor (List ℕ)) → Option (List ℕ)
@@ -54,8 +54,8 @@ asked_by_form (forms.Report models tests is_all most) =
 asked_by_form (forms.Session script workers) = Session (borrowed_word script) workers
 asked_by_form (forms.Why model test is_forbidden is_deep) =
     Why model.now test.now is_forbidden is_deep
-asked_by_form (forms.Watch model tests workers poll) =
-    Watch model.now (borrowed_words tests.items) workers poll
+asked_by_form (forms.Watch models tests workers poll) =
+    Watch (borrowed_words models.items) (borrowed_words tests.items) workers poll
 asked_by_form (forms.Draw model test drawn pictures) = Draw model.now test.now drawn pictures
 
 abbrev pub asked_if : Bool → CommandAsked → Option CommandAsked
@@ -183,10 +183,19 @@ abbrev pub poll_in : List GivenOption → Option ℕ
 poll_in options = number_within names.Poll 500 0 60000 options
 
 -- MODEL TEST ..
+abbrev pub watch_model : Words → (workers poll : ℕ) → Option CommandAsked
+watch_model g workers poll =
+    asked_if (nat_lt 1 (length g.paths))
+    (Watch (word_at g.paths 0 ∷ []) (drop 1 g.paths) workers poll)
+
+-- MODEL .. -- TEST ..
+abbrev pub watch_models : Words → (workers poll : ℕ) → Option CommandAsked
+watch_models g workers poll = asked_if (has_both g) (Watch g.paths g.last_paths workers poll)
+
 abbrev pub watch_with : Words → Option ℕ → Option ℕ → Option CommandAsked
 watch_with g (Some workers) (Some poll) =
-    asked_if (nat_lt 1 (length g.paths))
-    (Watch (word_at g.paths 0) (drop 1 g.paths) workers poll)
+    if has_option names.Dashes g.options then watch_models g workers poll
+    else watch_model g workers poll
 watch_with g workers poll = None
 
 abbrev pub watch_of : Words → Option CommandAsked

@@ -115,6 +115,7 @@ takes_option commands.Report Most = true
 takes_option commands.Session Workers = true
 takes_option commands.Why Forbidden = true
 takes_option commands.Why Deep = true
+takes_option commands.Watch Dashes = true
 takes_option commands.Watch Workers = true
 takes_option commands.Watch Poll = true
 takes_option commands.Draw name = is_of_draw name

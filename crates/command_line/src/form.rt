@@ -4,7 +4,7 @@ ghost use Rattle.std.specs.Prelude.{◌≡◌, IfOk, IfErr, option_map, drop};
 ghost use Rattle.session_script.specs.Requests.{word_at};
 ghost use Rattle.command_line.specs.declared.option.OptionName.TheVariants as names;
 ghost use Rattle.command_line.specs.Words.{words_of, borrowed_words, words_given};
-ghost use Rattle.command_line.specs.Forms.{borrowed_word, asked_by_form, IsFormOf, IsNoForm, command_of, format_by, format_in, number_within, drawn_by, drawn_in, one_picture, more_pictures, pictures_by, pictures_in, workers_in, eval_of, table_command, diff_of, most_in, report_of, script_in, session_of, why_of, poll_in, watch_of, draw_of, taken, by_words, asked_by_words};
+ghost use Rattle.command_line.specs.Forms.{borrowed_word, asked_by_form, IsFormOf, IsNoForm, command_of, format_by, format_in, number_within, drawn_by, drawn_in, one_picture, more_pictures, pictures_by, pictures_in, workers_in, eval_of, table_command, diff_of, most_in, report_of, script_in, session_of, why_of, poll_in, watch_model, watch_models, watch_of, draw_of, taken, by_words, asked_by_words};
 
 use crate::option::{Command, GivenOption, OptionName, has_option, number_given, takes_all};
 use crate::words::{GivenWords, words_given};
@@ -113,10 +113,10 @@ pub enum Form<'a> {
         is_forbidden: bool,
         is_deep: bool,
     },
-    /// The tests of some files under the model of another, again whenever a file changes, with so
+    /// The tests of some files under the models of others, again whenever a file changes, with so
     /// many workers. The files are looked at so often, in milliseconds, and not at all by 0.
     Watch {
-        model: &'a str,
+        models: Vec<&'a str>,
         tests: Vec<&'a str>,
         workers: u64,
         poll: u64,
@@ -369,16 +369,55 @@ fn poll_in(options: &[GivenOption]) -> Option<u64>
     number_within(options, OptionName::Poll, USUAL_POLL, 0, LONGEST_POLL)
 }
 
-fn watch_form<'a>(alloc: Global, words: &GivenWords<'a>) -> Result<Option<Form<'a>>, AllocError>
-    ensures { IfOk result (λ f. option_map asked_by_form f ≡ watch_of (words_of words.now)) }
+// The first path is of a model, and the others are of tests.
+fn watch_model_form<'a>(
+    alloc: Global,
+    words: &GivenWords<'a>,
+    workers: u64,
+    poll: u64,
+) -> Result<Option<Form<'a>>, AllocError>
+    ensures { IfOk result (λ f. option_map asked_by_form f
+        ≡ watch_model (words_of words.now) workers poll) }
+{
+    if words.paths.len() < 2 {
+        return Ok(None);
+    }
+    let mut models = Vec::new(alloc);
+    models.push(word_at(&words.paths, 0))?;
+    Ok(Some(Form::Watch {
+        models,
+        tests: words_from(alloc, &words.paths, 1)?,
+        workers,
+        poll,
+    }))
+}
+
+// The paths before `--` are of models, and those behind it of tests.
+fn watch_models_form<'a>(words: GivenWords<'a>, workers: u64, poll: u64) -> Option<Form<'a>>
+    ensures { option_map asked_by_form result ≡ watch_models (words_of words.entry) workers poll }
+{
+    if words.paths.is_empty() || words.last_paths.is_empty() {
+        return None;
+    }
+    Some(Form::Watch {
+        models: words.paths,
+        tests: words.last_paths,
+        workers,
+        poll,
+    })
+}
+
+fn watch_form<'a>(alloc: Global, words: GivenWords<'a>) -> Result<Option<Form<'a>>, AllocError>
+    ensures { IfOk result (λ f. option_map asked_by_form f ≡ watch_of (words_of words.entry)) }
 {
     match (workers_in(&words.options), poll_in(&words.options)) {
-        (Some(workers), Some(poll)) if words.paths.len() > 1 => Ok(Some(Form::Watch {
-            model: word_at(&words.paths, 0),
-            tests: words_from(alloc, &words.paths, 1)?,
-            workers,
-            poll,
-        })),
+        (Some(workers), Some(poll)) => {
+            if has_option(&words.options, OptionName::Dashes) {
+                Ok(watch_models_form(words, workers, poll))
+            } else {
+                watch_model_form(alloc, &words, workers, poll)
+            }
+        }
         _ => Ok(None),
     }
 }
@@ -439,7 +478,7 @@ fn taken_form<'a>(
         Command::Report => Ok(report_form(words)),
         Command::Session => Ok(session_form(&words)),
         Command::Why => Ok(why_form(&words)),
-        Command::Watch => watch_form(alloc, &words),
+        Command::Watch => watch_form(alloc, words),
         Command::Draw => Ok(draw_form(&words)),
     }
 }

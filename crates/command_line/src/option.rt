@@ -201,7 +201,10 @@ pub(crate) fn takes(command: Command, name: OptionName) -> bool
         }
         Command::Session => matches!(name, OptionName::Workers),
         Command::Why => matches!(name, OptionName::Forbidden | OptionName::Deep),
-        Command::Watch => matches!(name, OptionName::Workers | OptionName::Poll),
+        Command::Watch => matches!(
+            name,
+            OptionName::Dashes | OptionName::Workers | OptionName::Poll
+        ),
         Command::Draw => is_of_draw(name),
     }
 }

@@ -17,7 +17,7 @@ const ABOUT: &str =
 const AFTER: &str =
     "What was asked for goes to standard output. Exit status: 0 done, 1 a text or a \
     command was refused, 2 usage or help, 3 a fault of reading, writing or memory. A path that begins with `-` \
-    or `@` is written `./-..`; in a list of paths `@FILE` stands for those that the file holds, one a line.\n\nExample: pipitsolder table sc.cat power.cat -- MP.litmus CoWR.litmus";
+    or `@` is written with `./` before it; in a list of paths `@FILE` stands for those that the file holds, one a line.\n\nExample: pipitsolder table sc.cat power.cat -- MP.litmus CoWR.litmus";
 
 const VERSION: &str = "0.1.0";
 
@@ -85,6 +85,12 @@ const TESTS: Argument = Argument {
     kind: Kind::Files,
 };
 
+const WATCHED_TESTS: Argument = Argument {
+    name: "TEST",
+    help: "Files of tests",
+    kind: Kind::Files,
+};
+
 const MODELS: Argument = Argument {
     name: "MODEL",
     help: "Files of models, or `@FILE`",
@@ -111,7 +117,7 @@ const JSON: Argument = Argument {
 
 const EVAL: Form = Form {
     name: "eval",
-    about: "The same, with the model and the test in two files",
+    about: "Which final states a model allows a test to end in, from two files",
     arguments: &[
         Argument {
             name: "MODEL",
@@ -132,7 +138,9 @@ const TABLE: Form = Form {
     name: "table",
     about: "A table of the tests of some files under the models of others",
     arguments: &[MODELS, LAST_TESTS, TAB, JSON],
-    after: "Example: pipitsolder table --tab sc.cat power.cat -- MP.litmus @more",
+    after: "With --json each test has a line under each model: the Observation and the witnesses, or its \
+        refusal. `eval --json` has the states too.\n\n\
+        Example: pipitsolder table --tab sc.cat power.cat -- MP.litmus @more",
 };
 
 const DIFF: Form = Form {
@@ -158,7 +166,8 @@ const DIFF: Form = Form {
 
 const REPORT: Form = Form {
     name: "report",
-    about: "A page of the tests of some files under the models of others, for a browser",
+    about: "A page of the tests of some files under the models of others, for a browser: standard \
+        output is one file of HTML",
     arguments: &[
         MODELS,
         LAST_TESTS,
@@ -254,12 +263,18 @@ const DRAW: Form = Form {
     after: DRAW_AFTER,
 };
 
+const WATCH_AFTER: &str =
+    "Several models stand before `--`, and the tests behind it. A path that is typed is read \
+    again at once. `jobs` says how many computations a version took. The end of the input (control-D) ends it.\n\n\
+    Example: pipitsolder watch power.cat MP.litmus CoWR.litmus\n\
+    Example: pipitsolder watch sc.cat power.cat -- MP.litmus CoWR.litmus";
+
 const WATCH: Form = Form {
     name: "watch",
-    about: "Tests under a model, and what changes with each later version of a file",
+    about: "Tests under models, and what changes with each later version of a file",
     arguments: &[
         MODEL,
-        TESTS,
+        WATCHED_TESTS,
         Argument {
             name: "N",
             help: "How many threads run the jobs, 0 to 32: 0 is the program itself",
@@ -267,12 +282,12 @@ const WATCH: Form = Form {
         },
         Argument {
             name: "MS",
-            help: "The files are looked at so often, in milliseconds, 0 to 60000: otherwise 500; by \
-                0 only where standard input names one",
+            help: "How many milliseconds lie between two looks at the files, 0 to 60000: otherwise 500; 0 is no \
+                look, so a file is read where it is typed",
             kind: Kind::Number("poll"),
         },
     ],
-    after: "Example: pipitsolder watch power.cat MP.litmus CoWR.litmus",
+    after: WATCH_AFTER,
 };
 
 // In the order of the usage.

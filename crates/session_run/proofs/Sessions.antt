@@ -4,6 +4,7 @@ use Rattle.std.proofs.lemmas.List.{append-nil}
 use Rattle.std.specs.Io.KnownBytes.{prepend_known, Keeps, Appends}
 use Rattle.session_script.specs.declared.command.Command.{Command}
 use Rattle.session_script.specs.Commands.{commands_of}
+use Rattle.session_script.specs.Calls.{AreTurnsCalled}
 use Rattle.session_script.specs.Reading.{IsNextCommand, IsPaid}
 use Rattle.bench_texts.specs.BenchTexts.{BenchTexts, no_texts}
 use Rattle.session_answers.specs.Sessions.{IsOutput, Nothing, OneMore}
@@ -12,6 +13,7 @@ use Rattle.command_line.specs.declared.fault.SessionFault.TheVariants as faults
 use Rattle.session_edits.specs.Answer.{SessionAnswer}
 use Rattle.session_run.specs.Sessions.{IsWholeSession, IsSessionPrefix, IsSession, IsReplied, IsReplyStopped, IsTurnFault}
 use Rattle.command_answers.specs.Answer.{IsReadFault}
+use Rattle.session_script.proofs.Calls.{called_none, called_to_end}
 use Rattle.session_script.proofs.Joined.{appends_joined}
 use Rattle.session_run.specs.Faults.{IsOwnFault}
 
@@ -237,11 +239,21 @@ paid_to_end turns mid None between h k = tt
 paid_to_end turns mid (Some first) None h k = absurd h
 paid_to_end turns mid (Some first) (Some between) h k = omega arith
 
--- no read failed before, and each turn that was taken gave a byte
-pub read_refused : (mid first now new : ℕ) (left between : Option (List ℕ))
-    → IsPaid 16777216 mid left between → now ≡ first → IsTurnFault mid now new between
-    → IsReadFault first new left
-read_refused mid first now new left between paid e (inl failed) =
+-- no turn was taken yet
+pub starts_called : (turns calls : ℕ) → turns ≡ 16777216 → AreTurnsCalled 16777216 turns calls calls
+starts_called turns calls e =
+    subst (λ (n : ℕ). AreTurnsCalled 16777216 n calls calls) (sym e) (called_none 16777216 calls)
+
+-- no read failed before, and each turn that was taken was a call that gave a byte
+pub read_refused : (mid first now new calls between_calls last : ℕ)
+    (left between : Option (List ℕ)) → IsPaid 16777216 mid left between
+    → AreTurnsCalled 16777216 mid calls between_calls → now ≡ first
+    → IsTurnFault mid now new between_calls last between → IsReadFault first new calls last left
+read_refused mid first now new calls between_calls last left between paid called e (inl failed) =
     inl (failed ∙ ap (λ (n : ℕ). n + 1) e)
-read_refused mid first now new left between paid e (inr (same, long)) =
-    inr (same ∙ e, paid_to_end 16777216 mid left between paid long)
+read_refused mid first now new calls between_calls last left between paid called e (inr h) =
+    inr (
+      h.0 ∙ e,
+      called_to_end 16777216 mid calls between_calls last called h.1,
+      paid_to_end 16777216 mid left between paid h.2,
+    )

@@ -3,6 +3,7 @@
 use Rattle.std.specs.Prelude.{◌≡◌, ℕ, ◌+◌, ◌≤◌, ◌⊎◌, List, [], ◌∷◌, ◌++◌, length, take, Bool, Option, Result, Ok, Err, IfSome}
 use Rattle.std.specs.Io.KnownBytes.{Keeps, Appends}
 use Rattle.session_script.specs.declared.command.Command.{Command}
+use Rattle.session_script.specs.Calls.{HasCalled}
 use Rattle.session_script.specs.Commands.{commands_of}
 use Rattle.bench_texts.specs.BenchTexts.{BenchTexts}
 use Rattle.session_edits.specs.Answer.{SessionAnswer}
@@ -77,8 +78,9 @@ IsReplyStopped t command old new faults.Memory = Keeps old new
 IsReplyStopped t command old new faults.Shared = Keeps old new
 IsReplyStopped t command old new faults.Read = ⊥
 
--- A read is refused: one call failed, or, where none did, no turn is left, and what is left of the
--- source has that many bytes at least.
-abbrev pub IsTurnFault : (turns old new : ℕ) → Option (List ℕ) → Type 0
-IsTurnFault turns old new left =
-    (new ≡ old + 1) ⊎ ((new ≡ old) × IfSome left (λ all. turns ≤ length all))
+-- A read is refused: one call failed; or, where none did, each turn that was left was a call. Where
+-- the bytes of the source are known there are as many of them at least.
+abbrev pub IsTurnFault : (turns old new calls calls_now : ℕ) → Option (List ℕ) → Type 0
+IsTurnFault turns old new calls calls_now left =
+    (new ≡ old + 1)
+    ⊎ ((new ≡ old) × HasCalled turns calls calls_now × IfSome left (λ all. turns ≤ length all))

@@ -1,5 +1,5 @@
--- Why the viewer of a session was not told of its edit. Read after Faults.
-use Rattle.std.specs.Prelude.{◌≡◌, ◌≢◌, ℕ, List, [], leb}
+-- Why the viewer of a session was not told of its edit, and when that is `Shared`. Read after Faults.
+use Rattle.std.specs.Prelude.{◌≡◌, ◌≢◌, ℕ, ◌≤◌, ◌-◌, ◌^◌, List, [], leb}
 use Rattle.bench_texts.specs.declared.edit.Edit.{Edit}
 use Rattle.bench_texts.specs.declared.fault.EditFault.{EditFault}
 use Rattle.bench_texts.specs.Edits.{edit_of, RefusesEdit}
@@ -12,6 +12,7 @@ use Rattle.bench_instance.specs.declared.stamped_texts.StampedTexts.{StampedText
 use Rattle.bench_instance.specs.StampedTexts.{AreSoundTexts}
 use Rattle.bench_instance.specs.Texts.{AreAfter, IsWantOfMemory}
 use Rattle.desk.specs.declared.fault.DeskFault.{DeskFault}
+use Rattle.desk.specs.declared.fault.DeskFault.TheVariants as desk_faults
 use Rattle.desk.specs.Held.{IsRefusedAfter, IsRefusedBy}
 use Rattle.session_views.specs.Knowing.{HasOwnEdit}
 use Rattle.command_line.specs.declared.fault.SessionFault.{SessionFault}
@@ -36,3 +37,11 @@ pub data IsUntold (e : Edit) (seen : List BoardOp) (fault : SessionFault) : Type
       → fault ≡ faults.Memory → IsUntold e seen fault
   IsRefused : (refusal : DeskFault EditFault) → IsRefusedEdit e seen refusal
       → fault ≡ fault_for refusal → IsUntold e seen fault
+
+-- Why an edit that the own texts accept ends a session as shared: the texts of the desk's bench
+-- refuse it by a rule; or so many edits were made that a count of edits, which stops at 2^64 - 1,
+-- would not tell one more from others.
+pub data IsDisputed (e : Edit) (made : ℕ) (seen : List BoardOp) : Type 0 where
+  IsRefusedByRule : (fault : EditFault) → IsRefusedEdit e seen (desk_faults.Edit fault)
+      → IsDisputed e made seen
+  EndsCount : 2 ^ 64 - 2 ≤ made → IsDisputed e made seen

@@ -1,6 +1,6 @@
 //! Questions of a session.
 
-ghost use Rattle.std.specs.Prelude.{◌≡◌, IfOk, IfErr, IfSome, OnOk};
+ghost use Rattle.std.specs.Prelude.{◌≡◌, ◌≢◌, true, IfOk, IfErr, IfSome, OnOk, Err};
 ghost use mathlib.Core.List.{IsPrefix};
 ghost use Rattle.bench_texts.specs.Held.{texts_of};
 ghost use Rattle.board.specs.Edits.{edit_count};
@@ -25,7 +25,7 @@ use std::sync::Wait;
 use value_store::StoreName;
 
 // Has the desk show what is settled.
-#[tactic(auto, using(crate::proofs::Viewers::told_begins))]
+#[tactic(auto, using(crate::proofs::Viewers::told_begins, crate::proofs::Viewers::seat_fault))]
 fn settle_turn<J: Naming + StoreName, R: Wait + Drop, W: Wait>(
     rt: &W,
     desk: &RunningDesk<J, R>,
@@ -36,6 +36,8 @@ fn settle_turn<J: Naming + StoreName, R: Wait + Drop, W: Wait>(
     ensures ready { OnOk result (KnowsTexts session.new.viewer session.new.made
         (texts_of session.new.texts)) }
     ensures fault { IfErr result IsOwnFault }
+    // K1 and K2 are all that the desk answers.
+    ensures unshared { result ≢ Err SessionFault.Shared }
 {
     later_is_known();
     match desk.settle_turn(rt, &mut session.viewer) {
@@ -58,6 +60,7 @@ fn answer_in<J: Naming>(
     ensures reply { IfOk result (λ r. IfSome r (IsReply (texts_of texts.now) question.now)) }
     ensures own { IfOk result (λ r. IfSome r (λ answer. edit_count view.now ≡ made)) }
     ensures fault { IfErr result IsOwnFault }
+    ensures shared { result ≡ Err SessionFault.Shared → edit_count view.now ≢ made }
 {
     own_texts_are_shown();
     if edit_count_in(view) != made {
@@ -116,6 +119,8 @@ fn look_at<'q, J: Naming, L: ProgressListener>(
     ensures own { IfOk result.1 (λ r.
         IfSome r (λ answer. edit_count result.0 ≡ looking.entry.made)) }
     ensures fault { IfErr result.1 IsOwnFault }
+    ensures shared { result.1 ≡ Err SessionFault.Shared
+        → edit_count result.0 ≢ looking.entry.made }
 {
     let Looking {
         alloc,
@@ -153,6 +158,9 @@ fn look<J: Naming, L: ProgressListener>(
     ensures own { IfOk result (λ r.
         IfSome r (λ answer. edit_count session.new.viewer ≡ session.new.made)) }
     ensures fault { IfErr result IsOwnFault }
+    // `Shared` comes only from a view with more edits or fewer.
+    ensures shared { result ≡ Err SessionFault.Shared
+        → edit_count session.new.viewer ≢ session.new.made }
 {
     later_is_known();
     let looking = Looking {
@@ -165,8 +173,31 @@ fn look<J: Naming, L: ProgressListener>(
     replace_with(&mut session.viewer, looking, look_at)
 }
 
-// Goes on where a cell was open: runs jobs, or waits for a change where workers run them; either
-// ends a row of refusals. A board of which each cell is settled shows the answer.
+// Runs jobs where there are no workers, or else waits for a change of the board. Where there are no
+// workers and no job is left, others at the desk have the jobs, and a change is waited for too.
+fn work_or_wait<J: Naming + StoreName, R: Wait + Drop, W: Wait>(
+    rt: &W,
+    alloc: Global,
+    desk: &RunningDesk<J, R>,
+    has_workers: bool,
+    changes: u64,
+) -> Result<(), SessionFault>
+    ensures fault { IfErr result IsOwnFault }
+    ensures unshared { has_workers ≡ true → result ≢ Err SessionFault.Shared }
+{
+    if !has_workers {
+        let has_run = run_some(rt, alloc, desk)?;
+        if has_run {
+            return Ok(());
+        }
+    }
+    desk.wait_past(rt, changes);
+    Ok(())
+}
+
+// Goes on where the board showed a cell open that a question asks for. A job or a wait ends a row
+// of refusals. Where each cell was settled before that look, an edit of someone else has opened one
+// since, and the next look counts that edit.
 fn go_on<J: Naming + StoreName, R: Wait + Drop, W: Wait>(
     rt: &W,
     alloc: Global,
@@ -175,16 +206,13 @@ fn go_on<J: Naming + StoreName, R: Wait + Drop, W: Wait>(
     settling: Settling,
     refusals: &mut Refusals,
 ) -> Result<(), SessionFault>
-    ensures { IfErr result IsOwnFault }
+    ensures fault { IfErr result IsOwnFault }
+    ensures unshared { has_workers ≡ true → result ≢ Err SessionFault.Shared }
 {
     let is_refused = match settling {
-        Settling::Done => return Err(SessionFault::Shared),
+        Settling::Done => false,
         Settling::Waits(changes) => {
-            if has_workers {
-                desk.wait_past(rt, changes);
-            } else {
-                run_some(rt, alloc, desk)?;
-            }
+            work_or_wait(rt, alloc, desk, has_workers, changes)?;
             false
         }
         Settling::Refused => true,
@@ -211,8 +239,13 @@ pub(crate) fn ask<J: Naming + StoreName, R: Wait + Drop, W: Wait, L: ProgressLis
     ensures ready { OnOk result (KnowsTexts session.new.viewer session.new.made
         (texts_of session.new.texts)) }
     ensures reply { IfOk result (IsReply (texts_of session.old.texts) question.now) }
+    // An answer comes only from a view with as many edits as the session made.
     ensures own { IfOk result (λ answer. edit_count session.new.viewer ≡ session.new.made) }
     ensures fault { IfErr result IsOwnFault }
+    // `Shared` comes only from a view with more edits or fewer; without workers also from a claim
+    // for which no number is left.
+    ensures shared { result ≡ Err SessionFault.Shared → has_workers ≡ true
+        → edit_count session.new.viewer ≢ session.new.made }
 {
     let mut refusals = Refusals::new();
     for _ in rt.forever() {

@@ -2,6 +2,7 @@
 
 ghost use Rattle.std.specs.Prelude.{◌≡◌, ◌≢◌, ◌+◌, ◌-◌, ◌<◌, ◌^◌, IfOk, IfErr, IfSome, OnOk, OnErr, Err};
 ghost use Rattle.std.specs.Io.KnownBytes.{Appends};
+ghost use Rattle.session_script.specs.Calls.{AreTurnsCalled};
 ghost use Rattle.session_script.specs.Reading.{left_to, turns_of, work_of, IsNextCommand, IsPaid};
 ghost use Rattle.bench_texts.specs.Held.{texts_of};
 ghost use Rattle.bench_texts.specs.BenchTexts.{no_texts};
@@ -35,9 +36,11 @@ fn read_command<S: ByteSource>(
     ensures work { IfOk result (λ c. IfSome c (λ some. work_of script.new < work_of script.old)) }
     ensures paid { IfOk result (λ c. IsPaid (turns_of script.old) (turns_of script.new)
         (S.remaining source.old) (S.remaining source.new)) }
+    ensures called { IfOk result (λ c. AreTurnsCalled (turns_of script.old) (turns_of script.new)
+        (S.calls source.old) (S.calls source.new)) }
     ensures read { result ≡ Err SessionFault.Read
         → IsTurnFault (turns_of script.old) (S.failed_calls source.old) (S.failed_calls source.new)
-        (S.remaining source.old) }
+        (S.calls source.old) (S.calls source.new) (S.remaining source.old) }
     ensures same { result ≢ Err SessionFault.Read
         → S.failed_calls source.new ≡ S.failed_calls source.old }
     ensures fault { result ≢ Err SessionFault.Write }
@@ -196,7 +199,7 @@ pub(crate) fn answer_commands<
     ensures written { IsSession (S.remaining source.old) (K.contents sink.old) (K.contents sink.new)
         result }
     ensures reads { AreReadsCounted (S.failed_calls source.old) (S.failed_calls source.new)
-        (S.remaining source.old) result }
+        (S.calls source.old) (S.calls source.new) (S.remaining source.old) result }
     ensures writes { AreWritesCounted (K.failed_calls sink.old) (K.failed_calls sink.new) result }
 {
     let mut script = ScriptReader::new(alloc);

@@ -1,12 +1,12 @@
 //! Edits of a session.
 
-ghost use Rattle.std.specs.Prelude.{◌≡◌, ℕ, IfOk, IfErr, OnOk, OnErr};
+ghost use Rattle.std.specs.Prelude.{◌≡◌, ℕ, IfOk, IfErr, OnOk, OnErr, Err};
 ghost use Rattle.bench_texts.specs.Edits.{edit_of};
 ghost use Rattle.bench_texts.specs.Held.{texts_of};
 ghost use Rattle.session_edits.specs.Edits.{IsEditAnswer};
 ghost use Rattle.session_views.specs.Knowing.{KnowsTexts, HasOwnEdit};
 ghost use Rattle.session_run.specs.Faults.{IsOwnFault};
-ghost use Rattle.session_run.specs.Untold.{IsUntold};
+ghost use Rattle.session_run.specs.Untold.{IsUntold, IsDisputed};
 
 use crate::fault::fault_of;
 use crate::state::Session;
@@ -44,6 +44,7 @@ fn tell_desk<J: Naming + StoreName, R: Wait + Drop, W: Wait>(
 
 /// Makes an edit of the session's own texts, and an accepted one at the desk. The answer is that of
 /// the own texts.
+#[tactic(auto, using(crate::proofs::Viewers::disputed, crate::proofs::Viewers::uncounted))]
 pub(crate) fn make_edit<J: Naming + StoreName, R: Wait + Drop, W: Wait>(
     rt: &W,
     alloc: Global,
@@ -58,6 +59,8 @@ pub(crate) fn make_edit<J: Naming + StoreName, R: Wait + Drop, W: Wait>(
     ensures ready { OnOk result (KnowsTexts session.new.viewer session.new.made
         (texts_of session.new.texts)) }
     ensures fault { IfErr result IsOwnFault }
+    ensures shared { result ≡ Err SessionFault.Shared
+        → IsDisputed edit session.old.made session.old.viewer }
 {
     own_edits_are_known(&session.texts);
     let answer = match answer_edit(alloc, &mut session.texts, &edit) {

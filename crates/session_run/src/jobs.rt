@@ -54,22 +54,20 @@ fn run_one<J: Naming + StoreName, R: Wait + Drop, W: Wait>(
     }
 }
 
-/// Runs some jobs, as long as there are any. Errors: those of the desk, and `Shared` where there is
-/// none.
+/// Runs some jobs, as long as there are any. False where there is none. Errors: those of the desk.
 pub(crate) fn run_some<J: Naming + StoreName, R: Wait + Drop, W: Wait>(
     rt: &W,
     alloc: Global,
     desk: &RunningDesk<J, R>,
-) -> Result<(), SessionFault>
+) -> Result<bool, SessionFault>
     ensures { IfErr result IsOwnFault }
 {
     for done in 0..MOST_JOBS {
         match run_one(rt, alloc, desk) {
             Ok(true) => {}
-            Ok(false) if done == 0 => return Err(SessionFault::Shared),
-            Ok(false) => return Ok(()),
+            Ok(false) => return Ok(done > 0),
             Err(fault) => return Err(fault),
         }
     }
-    Ok(())
+    Ok(true)
 }

@@ -44,7 +44,7 @@ where
     ensures written { IsSession (S.remaining source.old) (K.contents sink.old) (K.contents sink.new)
         result }
     ensures reads { AreReadsCounted (S.failed_calls source.old) (S.failed_calls source.new)
-        (S.remaining source.old) result }
+        (S.calls source.old) (S.calls source.new) (S.remaining source.old) result }
     ensures writes { AreWritesCounted (K.failed_calls sink.old) (K.failed_calls sink.new) result }
 {
     let alloc = rt.alloc();
@@ -100,10 +100,10 @@ where
     // answer after `Write`.
     ensures written { IsSession (S.remaining source.old) (K.contents sink.old) (K.contents sink.new)
         result }
-    // `Read` comes after one failed read, or where the script has so many bytes that it is taken
-    // for one that does not end; `Write` comes after one failed write, and all else after none.
+    // `Read` comes after one failed read, or after so many reads that the script is taken for one
+    // that does not end; `Write` after one failed write, and all else after none.
     ensures reads { AreReadsCounted (S.failed_calls source.old) (S.failed_calls source.new)
-        (S.remaining source.old) result }
+        (S.calls source.old) (S.calls source.new) (S.remaining source.old) result }
     ensures writes { AreWritesCounted (K.failed_calls sink.old) (K.failed_calls sink.new) result }
 {
     let Ok(opened) = OpenedDesk::new(rt.alloc()) else {
@@ -120,9 +120,12 @@ where
 /// the job that it is at, or is cut off where the program ends first. The bytes are the same for
 /// each number of workers, unless the jobs fill the store of values. Errors: `Read` where a read
 /// failed or the script did not end within 16,777,216 reads that gave bytes, `Write`, `Memory`, or
-/// `Shared` where the desk is not the session's alone; what was written by then is the output of
-/// the first commands, and of the next answer a front where a write failed. A gate hears of each
-/// job of a worker: the workers have a copy of it.
+/// `Shared`. What was written by then is the output of the first commands, and of the next answer a
+/// front where a write failed. `Memory` comes where a growth is refused, the store is full, a
+/// worker gave up, or the desk gives no viewer or no view. `Shared` says that the desk is not the
+/// session's alone: it refuses an edit by a rule, has no number left for a claim, or shows another
+/// count of edits than the session made. A gate hears of each job of a worker: the workers have a
+/// copy of it.
 pub fn session<R, S, K, G>(
     rt: &R,
     source: &mut S,
@@ -141,10 +144,10 @@ where
     // answer after `Write`.
     ensures written { IsSession (S.remaining source.old) (K.contents sink.old) (K.contents sink.new)
         result }
-    // `Read` comes after one failed read, or where the script has so many bytes that it is taken
-    // for one that does not end; `Write` comes after one failed write, and all else after none.
+    // `Read` comes after one failed read, or after so many reads that the script is taken for one
+    // that does not end; `Write` after one failed write, and all else after none.
     ensures reads { AreReadsCounted (S.failed_calls source.old) (S.failed_calls source.new)
-        (S.remaining source.old) result }
+        (S.calls source.old) (S.calls source.new) (S.remaining source.old) result }
     ensures writes { AreWritesCounted (K.failed_calls sink.old) (K.failed_calls sink.new) result }
 {
     session_heard(rt, source, sink, workers, gate, &mut NoListener)

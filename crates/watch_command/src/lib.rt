@@ -1,4 +1,4 @@
-//! Watching the host's files: a model over some tests, by `watch_run::watch`. Changes are found by
+//! Watching the host's files: models over some tests, by `watch_run::watch`. Changes are found by
 //! looking at the files (`watch_polls`), or named by standard input.
 #![tactic(auto)]
 

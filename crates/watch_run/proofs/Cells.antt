@@ -3,7 +3,7 @@ use Rattle.std.proofs.Common.{◌≡◌, ◌⊎◌, ℕ, ◌<◌, ◌≤◌, ◌
 use Rattle.std.proofs.lemmas.Bool.{cases_lt}
 use Rattle.std.specs.Prelude.{◌≢◌, slice_get, option_map, bytes_eq, Vec}
 use Rattle.std.specs.Borrow.{Bor}
-use Rattle.std.specs.List.{AllByRecursion as Each}
+use Rattle.std.specs.List.{AllByRecursion as Each, AllZip}
 use Rattle.std.specs.declared.alloc.AllocError.{AllocError}
 use Rattle.std.specs.declared.alloc.Global.{Global}
 use mathlib.Core.List.{IsPrefix}
@@ -25,9 +25,9 @@ use Rattle.session_answers.specs.Cells.{test_named, model_named}
 use Rattle.session_answers.proofs.Named.{clauses_of-items}
 use Rattle.session_views.proofs.Counts.{knows_later, knows_nothing}
 use Rattle.session_views.specs.Knowing.{KnowsOwn, KnowsTexts}
-use Rattle.watch_run.specs.Holding.{bench_model_name, no_names}
+use Rattle.watch_run.specs.Holding.{no_names}
 use Rattle.watch_run.specs.Lines.{IsTestCell, AreLinesOf}
-use Rattle.watch_run.specs.Boards.{shown_lines, IsClosedBy, AreOwnLines, lists_of, standing_of}
+use Rattle.watch_run.specs.Boards.{shown_cells, AreCellsClosed, shown_lines, IsClosedBy, AreOwnLines, lists_of, standing_of}
 use Rattle.watch_run.specs.Runs.{at_first}
 use Rattle.watch_run.proofs.Lists.{found_mapped}
 
@@ -48,20 +48,20 @@ model_there ops t same name =
     ∙ found_mapped plain_model (λ m. bytes_eq m.name name) (texts_after ops).models
 
 cell_right : (ops : List BoardOp) (t : BenchTexts) → contents_after ops ≡ t
-    → (name : List ℕ) (cell : Cell)
-    → cell ≢ Open → IsRightCell (texts_after ops) name bench_model_name cell → IsTestCell t name cell
-cell_right ops t same name NoCell closed lacks = elim lacks [
+    → (name under : List ℕ) (cell : Cell)
+    → cell ≢ Open → IsRightCell (texts_after ops) name under cell → IsTestCell t name under cell
+cell_right ops t same name under NoCell closed lacks = elim lacks [
   | inl none ↦ inl (test_there ops t same name ∙ ap (λ o. option_map content_of o) none)
-  | inr none ↦ inr (model_there ops t same bench_model_name ∙ ap (λ o. option_map plain_model o) none)
+  | inr none ↦ inr (model_there ops t same under ∙ ap (λ o. option_map plain_model o) none)
 ]
-cell_right ops t same name Open closed both = absurd (closed refl)
-cell_right ops t same name (Settled outcome) closed r =
+cell_right ops t same name under Open closed both = absurd (closed refl)
+cell_right ops t same name under (Settled outcome) closed r =
     let long : length r.under.numbers.items ≡ length r.under.text.items.items = omega (arith, r.under.paired, r.under.numbers.ok.0, r.under.text.items.ok.0) in
     record {
       test = content_of r.content;
       model = plain_model r.under;
       test_is = test_there ops t same name ∙ ap (λ o. option_map content_of o) r.test_is;
-      model_is = model_there ops t same bench_model_name ∙ ap (λ o. option_map plain_model o) r.model_is;
+      model_is = model_there ops t same under ∙ ap (λ o. option_map plain_model o) r.model_is;
       right = record {
         test = r.content;
         model = r.under.text;
@@ -71,21 +71,29 @@ cell_right ops t same name (Settled outcome) closed r =
       };
     }
 
+cells_right : (ops : List BoardOp) (t : BenchTexts) → contents_after ops ≡ t → ShowsRightCells ops
+    → (name : List ℕ) (models : List (List ℕ)) → AreCellsClosed ops name models
+    → AllZip (IsTestCell t name) models (shown_cells ops name models)
+cells_right ops t same right name [] closed = tt
+cells_right ops t same right name (under ∷ models) closed = (
+  cell_right ops t same name under (cell_named (board_after ops) name under) closed.0
+      (right name under),
+  cells_right ops t same right name models closed.1,
+)
+
 lines_right : (ops : List BoardOp) (t : BenchTexts) → contents_after ops ≡ t → ShowsRightCells ops
-    → (names : List (Option (List ℕ)))
-    → Each (IsClosedBy ops) names → AreLinesOf t names (shown_lines ops names)
-lines_right ops t same right [] closed = tt
-lines_right ops t same right (None ∷ names) closed =
-    (refl, lines_right ops t same right names closed.1)
-lines_right ops t same right (Some name ∷ names) closed = (
+    → (models : List (List ℕ)) (names : List (Option (List ℕ)))
+    → Each (IsClosedBy ops models) names → AreLinesOf models t names (shown_lines ops models names)
+lines_right ops t same right models [] closed = tt
+lines_right ops t same right models (None ∷ names) closed =
+    (refl, lines_right ops t same right models names closed.1)
+lines_right ops t same right models (Some name ∷ names) closed = (
   record {
-    cell = cell_named (board_after ops) name bench_model_name;
-    right =
-        cell_right ops t same name (cell_named (board_after ops) name bench_model_name) closed.0
-        (right name bench_model_name);
+    cells = shown_cells ops name models;
+    right = cells_right ops t same right name models closed.0;
     is = refl;
   },
-  lines_right ops t same right names closed.1,
+  lines_right ops t same right models names closed.1,
 )
 
 -- the viewer goes on from what it saw
@@ -116,59 +124,67 @@ as_many (t ∷ tests) = ap suc (as_many tests)
 
 -- nothing is held at the start, no line was written and no text refused
 pub stands_first : (texts : Texts) (names : Vec (Option (List ℕ)) Global)
-    (lines : Vec (Vec ℕ Global) Global) (tests : List (Bor (List ℕ))) (count : ℕ)
+    (lines : Vec (Vec ℕ Global) Global) (models tests : List (Bor (List ℕ))) (count : ℕ)
     → texts_of texts ≡ no_texts → names.items ≡ no_names count → count ≡ length tests
     → lines.items ≡ []
-    → standing_of texts names lines false
-    ≡ at_first (length (map (λ t. t.now) tests)) (lists_of lines.items)
-stands_first texts names lines tests count none empty long first =
+    → standing_of (length models) texts names lines false
+    ≡ at_first (length (map (λ m. m.now) models)) (length (map (λ t. t.now) tests))
+    (lists_of lines.items)
+stands_first texts names lines models tests count none empty long first =
     let named : names.items ≡ no_names (length (map (λ t. t.now) tests)) = empty ∙ ap no_names (long ∙ sym (as_many tests)) in
     ap
     (λ (t : BenchTexts). record {
+      models = length models;
       held = record { texts = t; names = names.items };
       lines = lists_of lines.items;
       refused = false;
     }) none
     ∙ ap
     (λ (l : List (Option (List ℕ))). record {
+      models = length models;
       held = record { texts = no_texts; names = l };
       lines = lists_of lines.items;
       refused = false;
     }) named
+    ∙ ap
+    (λ (n : ℕ). at_first n (length (map (λ t. t.now) tests)) (lists_of lines.items))
+    (sym (as_many models))
 
 -- lines of a board that counts no edits but the own are those of the own texts
-pub own_lines : (ops : List BoardOp) (made : ℕ) (t : BenchTexts) (names : List (Option (List ℕ)))
-    (lines : List (List ℕ))
-    → KnowsTexts ops made t → AreOwnLines ops made names lines → AreLinesOf t names lines
-own_lines ops made t names lines knows own =
+pub own_lines : (ops : List BoardOp) (made : ℕ) (t : BenchTexts) (models : List (List ℕ))
+    (names : List (Option (List ℕ))) (lines : List (List ℕ))
+    → KnowsTexts ops made t → AreOwnLines ops made models names lines
+    → AreLinesOf models t names lines
+own_lines ops made t models names lines knows own =
     let none : ops ++ [] ≡ ops = append_none ops in
     let count : edits_in ops ≡ made = all_counted (edits_in ops) made (cases_lt (2 ^ 64 - 1) (edits_in ops)) own.counted knows.0 in
     let texts : contents_after ops ≡ t = ap contents_after (sym none) ∙ knows.1.alone [] (ap edits_in none ∙ count) in
-    subst (λ (l : List (List ℕ)). AreLinesOf t names l) (sym own.shown.are)
-    (lines_right ops t texts own.shown.right names own.shown.closed)
+    subst (λ (l : List (List ℕ)). AreLinesOf models t names l) (sym own.shown.are)
+    (lines_right ops t texts own.shown.right models names own.shown.closed)
 
 -- so it is where there are lines
-pub lines_of_own : (ops : List BoardOp) (made : ℕ) (t : BenchTexts) (names : List (Option (List ℕ)))
-    (r : Result (Option (Vec (Vec ℕ Global) Global)) AllocError)
-    → KnowsTexts ops made t → IfOk r (λ o. IfSome o (λ v. AreOwnLines ops made names (lists_of v.items)))
-    → IfOk r (λ o. IfSome o (λ v. AreLinesOf t names (lists_of v.items)))
-lines_of_own ops made t names (Ok (Some v)) knows own =
-    own_lines ops made t names (lists_of v.items) knows own
-lines_of_own ops made t names (Ok None) knows own = tt
-lines_of_own ops made t names (Err fault) knows own = tt
+pub lines_of_own : (ops : List BoardOp) (made : ℕ) (t : BenchTexts) (models : List (List ℕ))
+    (names : List (Option (List ℕ))) (r : Result (Option (Vec (Vec ℕ Global) Global)) AllocError)
+    → KnowsTexts ops made t
+    → IfOk r (λ o. IfSome o (λ v. AreOwnLines ops made models names (lists_of v.items)))
+    → IfOk r (λ o. IfSome o (λ v. AreLinesOf models t names (lists_of v.items)))
+lines_of_own ops made t models names (Ok (Some v)) knows own =
+    own_lines ops made t models names (lists_of v.items) knows own
+lines_of_own ops made t models names (Ok None) knows own = tt
+lines_of_own ops made t models names (Err fault) knows own = tt
 
 -- lines that are those of a view
-pub view_lines : (ops view : List BoardOp) (made : ℕ) (names : List (Option (List ℕ)))
-    (r : Result (Option (Vec (Vec ℕ Global) Global)) AllocError)
+pub view_lines : (ops view : List BoardOp) (made : ℕ) (models : List (List ℕ))
+    (names : List (Option (List ℕ))) (r : Result (Option (Vec (Vec ℕ Global) Global)) AllocError)
     → ops ≡ view → ShowsRightCells view → IsLegal view → edit_count view ≡ made
-    → IfOk r (λ o. IfSome o (λ v. lists_of v.items ≡ shown_lines view names))
-    → IfOk r (λ o. IfSome o (λ v. Each (IsClosedBy view) names))
-    → IfOk r (λ o. IfSome o (λ v. AreOwnLines ops made names (lists_of v.items)))
-view_lines ops view made names (Ok (Some v)) same right legal counted lines closed =
-    subst (λ (l : List BoardOp). AreOwnLines l made names (lists_of v.items)) (sym same)
+    → IfOk r (λ o. IfSome o (λ v. lists_of v.items ≡ shown_lines view models names))
+    → IfOk r (λ o. IfSome o (λ v. Each (IsClosedBy view models) names))
+    → IfOk r (λ o. IfSome o (λ v. AreOwnLines ops made models names (lists_of v.items)))
+view_lines ops view made models names (Ok (Some v)) same right legal counted lines closed =
+    subst (λ (l : List BoardOp). AreOwnLines l made models names (lists_of v.items)) (sym same)
     (record {
       shown = record { are = lines; closed = closed; right = right; legal = legal };
       counted = counted;
     })
-view_lines ops view made names (Ok None) same right legal counted lines closed = tt
-view_lines ops view made names (Err fault) same right legal counted lines closed = tt
+view_lines ops view made models names (Ok None) same right legal counted lines closed = tt
+view_lines ops view made models names (Err fault) same right legal counted lines closed = tt

@@ -1,12 +1,13 @@
 -- Reads that failed: of a file at the start, and of a source that is read in turns.
-use Rattle.std.proofs.Common.{◌≡◌, ℕ, zero, suc, ◌+◌, ◌<◌, ◌≤◌, List, [], ◌∷◌, ◌++◌, length, map, take, drop, get_or, Option, Some, None, IfSome, refl, sym, ap, ◌∙◌, arith}
-use Rattle.std.specs.Borrow.{Bor}
+use Rattle.std.proofs.Common.{◌≡◌, ℕ, zero, suc, ◌+◌, ◌<◌, ◌≤◌, List, [], ◌∷◌, ◌++◌, length, map, take, drop, Option, Some, None, IfSome, refl, sym, ap, ◌∙◌, arith}
+use Rattle.std.specs.Prelude.{slice_get}
 use Rattle.std.specs.Io.KnownBytes.{Consumes}
 use Rattle.std.proofs.lemmas.List.{length-append, map-append}
+use Rattle.std.proofs.lemmas.Option.{same_Some}
 use Rattle.session_script.specs.Reading.{IsPaid}
 use Rattle.watch_run.specs.declared.versions.Version.TheVariants.{Text, Unread}
 use Rattle.watch_run.specs.Readings.{FileReading, AreReadBetween}
-use Rattle.watch_run.specs.Holding.{TestFile, ModelFile, FilePath, test_files, all_files}
+use Rattle.watch_run.specs.Holding.{FilePath}
 use Rattle.watch_run.specs.Runs.{Standing, AreFilesBegun, NoFile, Begun, NotBegun, HasBegunFiles, EndsUnread}
 use Rattle.watch_run.proofs.Gaining.{read_more}
 
@@ -37,62 +38,31 @@ begun_paths files old new read told
     one_path before file readings (record { path = file.path; version = Text text }) refl
     (begun_paths before from middle readings said begun)
 
-files_split : (n i : ℕ) (tests : List (Bor (List ℕ))) (d : Bor (List ℕ)) → i < length tests
-    → test_files n (map (λ t. t.now) tests)
-    ≡ take i (test_files n (map (λ t. t.now) tests))
-    ++ record { file = TestFile (n + i); path = (get_or tests i d).now }
-    ∷ drop (suc i) (test_files n (map (λ t. t.now) tests))
-files_split n i [] d lt = absurd (omega (arith, lt))
-files_split n zero (x ∷ xs) d lt =
-    let same : n ≡ n + 0 = omega arith in
-    ap
-    (λ (k : ℕ). record { file = TestFile k; path = x.now }
-    ∷ test_files (n + 1) (map (λ t. t.now) xs)) same
-files_split n (suc i) (x ∷ xs) d lt =
-    let files = test_files (n + 1) (map (λ t. t.now) xs) in
-    let same : (n + 1) + i ≡ n + suc i = omega arith in
-    ap (λ (l : List FilePath). record { file = TestFile n; path = x.now } ∷ l)
-    (files_split (n + 1) i xs d (omega (arith, lt))
-    ∙ ap
-    (λ (k : ℕ). take i files
-    ++ record { file = TestFile k; path = (get_or xs i d).now } ∷ drop (suc i) files) same)
+files_split : (files : List FilePath) (i : ℕ) (file : FilePath) → slice_get files i ≡ Some file
+    → files ≡ take i files ++ file ∷ drop (suc i) files
+files_split [] i file there = absurd cc
+files_split (x ∷ xs) zero file there =
+    ap (λ (f : FilePath). f ∷ xs) (same_Some x file there)
+files_split (x ∷ xs) (suc i) file there =
+    ap (λ (l : List FilePath). x ∷ l) (files_split xs i file there)
 
--- the file of the model cannot be read
-pub unread_first : (model : List ℕ) (tests : List (Bor (List ℕ))) (r s : Option (List FileReading))
-    → AreReadBetween r s (record { path = model; version = Unread } ∷ [])
-    → EndsUnread (all_files model (map (λ t. t.now) tests)) r s
-unread_first model tests r s unread = record {
-  begun = [];
-  file = record { file = ModelFile; path = model };
-  later = test_files 0 (map (λ t. t.now) tests);
-  all = refl;
-  read = [];
-  paths = refl;
-  reads = unread;
+-- a file cannot be read, behind those that were begun
+pub unread_next : (files : List FilePath) (i : ℕ) (file : FilePath) (old new : Standing)
+    (r s t : Option (List FileReading)) (told : List ℕ) → slice_get files i ≡ Some file
+    → HasBegunFiles (take i files) old new r s told
+    → AreReadBetween s t (record { path = file.path; version = Unread } ∷ [])
+    → EndsUnread files r t
+unread_next files i file old new r s t told there begun unread = record {
+  begun = take i files;
+  file = file;
+  later = drop (suc i) files;
+  all = files_split files i file there;
+  read = begun.read;
+  paths = begun_paths (take i files) old new begun.read told begun.begun;
+  reads =
+      read_more r s t begun.read (record { path = file.path; version = Unread } ∷ []) begun.reads
+      unread;
 }
-
--- or that of a test, behind those that were begun
-pub unread_next : (model : List ℕ) (tests : List (Bor (List ℕ))) (i : ℕ) (d : Bor (List ℕ))
-    (old new : Standing) (r s t : Option (List FileReading)) (told : List ℕ) → i < length tests
-    → HasBegunFiles
-    (record { file = ModelFile; path = model } ∷ take i (test_files 0 (map (λ t. t.now) tests)))
-    old new r s told
-    → AreReadBetween s t (record { path = (get_or tests i d).now; version = Unread } ∷ [])
-    → EndsUnread (all_files model (map (λ t. t.now) tests)) r t
-unread_next model tests i d old new r s t told lt begun unread =
-    let first : FilePath = record { file = ModelFile; path = model } in
-    let files = test_files 0 (map (λ t. t.now) tests) in
-    record {
-      begun = first ∷ take i files;
-      file = record { file = TestFile (0 + i); path = (get_or tests i d).now };
-      later = drop (suc i) files;
-      all = ap (λ (l : List FilePath). first ∷ l) (files_split 0 i tests d lt);
-      read = begun.read;
-      paths = begun_paths (first ∷ take i files) old new begun.read told begun.begun;
-      reads =
-          read_more r s t begun.read
-          (record { path = (get_or tests i d).now; version = Unread } ∷ []) begun.reads unread;
-    }
 
 -- ---- turns
 

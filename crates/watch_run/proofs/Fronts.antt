@@ -7,7 +7,9 @@ use Rattle.std.proofs.Math.Seq.{take-append-add}
 use Rattle.std.proofs.lemmas.List.{take_all, length-append}
 use Rattle.std.proofs.lemmas.Option.{same_Some}
 use Rattle.session_script.specs.Written.{WritesPrefix}
+use Rattle.watch_run.specs.declared.watched.Paths.{Paths}
 use Rattle.watch_run.specs.Readings.{FileReading, AreReadBetween, HasReadAtMost}
+use Rattle.watch_run.specs.Edits.{model_paths, test_paths}
 use Rattle.watch_run.specs.Holding.{file_at, all_files}
 use Rattle.watch_run.specs.Runs.{Standing, NoAnswer, OneMore, HasLineAnswers, HasBegunRun, IsLineAnswered, line_before, lines_from, IsLineAlone, AreIn, AreOfTurn, NothingYet, FirstLines, IsCutRun, HasAnswersPrefix, IsPrefixOfLine, ArePrefixIn, ArePrefixOf}
 use Rattle.watch_run.proofs.Gaining.{answers_joined, line_first, append_none, read_more}
@@ -55,10 +57,10 @@ and_none a b xs are = subst (λ (l : List FileReading). AreReadBetween a b l) (s
 -- ---- answers
 
 -- nothing was answered
-pub front_none : (model : List ℕ) (tests : List (List ℕ)) (asks : List (List ℕ) → Type 0)
+pub front_none : (models tests : List (List ℕ)) (asks : List (List ℕ) → Type 0)
     (old : Standing) (r s : Option (List FileReading)) (a : Option (List ℕ))
-    → asks [] → HasReadAtMost 1 r s → HasAnswersPrefix model tests asks old r s a a
-front_none model tests asks old r s a asked one = record {
+    → asks [] → HasReadAtMost 1 r s → HasAnswersPrefix models tests asks old r s a a
+front_none models tests asks old r s a asked one = record {
   lines = [];
   asked = asked;
   new = old;
@@ -72,12 +74,12 @@ front_none model tests asks old r s a asked one = record {
 }
 
 -- one line was, and a front of it is written
-pub front_one : (model : List ℕ) (tests : List (List ℕ)) (asks : List (List ℕ) → Type 0)
+pub front_one : (models tests : List (List ℕ)) (asks : List (List ℕ) → Type 0)
     (line : List ℕ) (old new : Standing) (r s : Option (List FileReading)) (said : List ℕ)
     (a b : Option (List ℕ))
-    → asks (line ∷ []) → IsLineAnswered line (file_at model tests line) old new r s said
-    → WritesPrefix a b said → HasAnswersPrefix model tests asks old r s a b
-front_one model tests asks line old new r s said a b asked answered written = record {
+    → asks (line ∷ []) → IsLineAnswered line (file_at models tests line) old new r s said
+    → WritesPrefix a b said → HasAnswersPrefix models tests asks old r s a b
+front_one models tests asks line old new r s said a b asked answered written = record {
   lines = [] ++ line ∷ [];
   asked = asked;
   new = new;
@@ -91,11 +93,11 @@ front_one model tests asks line old new r s said a b asked answered written = re
 }
 
 -- the same, asked in another way
-pub front_so : (model : List ℕ) (tests : List (List ℕ)) (asks so : List (List ℕ) → Type 0)
+pub front_so : (models tests : List (List ℕ)) (asks so : List (List ℕ) → Type 0)
     (old : Standing) (r s : Option (List FileReading)) (a b : Option (List ℕ))
-    → ((lines : List (List ℕ)) → asks lines → so lines) → HasAnswersPrefix model tests asks old r s a b
-    → HasAnswersPrefix model tests so old r s a b
-front_so model tests asks so old r s a b law x = record {
+    → ((lines : List (List ℕ)) → asks lines → so lines) → HasAnswersPrefix models tests asks old r s a b
+    → HasAnswersPrefix models tests so old r s a b
+front_so models tests asks so old r s a b law x = record {
   lines = x.lines;
   asked = law x.lines x.asked;
   new = x.new;
@@ -109,12 +111,12 @@ front_so model tests asks so old r s a b law x = record {
 }
 
 -- behind others that are written
-pub front_behind : (model : List ℕ) (tests : List (List ℕ)) (one two all : List (List ℕ) → Type 0)
+pub front_behind : (models tests : List (List ℕ)) (one two all : List (List ℕ) → Type 0)
     (old middle : Standing) (r s t : Option (List FileReading)) (a b c : Option (List ℕ))
     → ((x y : List (List ℕ)) → one x → two y → all (x ++ y))
-    → HasLineAnswers model tests one old middle r s a b → HasAnswersPrefix model tests two middle s t b c
-    → HasAnswersPrefix model tests all old r t a c
-front_behind model tests one two all old middle r s t a b c law x y = record {
+    → HasLineAnswers models tests one old middle r s a b → HasAnswersPrefix models tests two middle s t b c
+    → HasAnswersPrefix models tests all old r t a c
+front_behind models tests one two all old middle r s t a b c law x y = record {
   lines = x.lines ++ y.lines;
   asked = law x.lines y.lines x.asked y.asked;
   new = y.new;
@@ -122,7 +124,7 @@ front_behind model tests one two all old middle r s t a b c law x y = record {
   more = y.more;
   text = x.text ++ y.text;
   answers =
-      answers_joined model tests x.lines y.lines old middle y.new x.read y.read x.text y.text
+      answers_joined models tests x.lines y.lines old middle y.new x.read y.read x.text y.text
       x.answers y.answers;
   few = y.few;
   reads = read_behind r s t x.read y.read y.more x.reads y.reads;
@@ -130,11 +132,11 @@ front_behind model tests one two all old middle r s t a b c law x y = record {
 }
 
 -- all of some that are written
-pub front_of_all : (model : List ℕ) (tests : List (List ℕ)) (one all : List (List ℕ) → Type 0)
+pub front_of_all : (models tests : List (List ℕ)) (one all : List (List ℕ) → Type 0)
     (old new : Standing) (r s : Option (List FileReading)) (a b : Option (List ℕ))
-    → ((x : List (List ℕ)) → one x → all x) → HasLineAnswers model tests one old new r s a b
-    → HasAnswersPrefix model tests all old r s a b
-front_of_all model tests one all old new r s a b law x = record {
+    → ((x : List (List ℕ)) → one x → all x) → HasLineAnswers models tests one old new r s a b
+    → HasAnswersPrefix models tests all old r s a b
+front_of_all models tests one all old new r s a b law x = record {
   lines = x.lines;
   asked = law x.lines x.asked;
   new = new;
@@ -146,6 +148,14 @@ front_of_all model tests one all old new r s a b law x = record {
   reads = and_none r s x.read x.reads;
   front = front_whole a b x.text x.gains;
 }
+
+-- over the same paths
+pub front_over : (p q : Paths) (asks : List (List ℕ) → Type 0) (old : Standing)
+    (r s : Option (List FileReading)) (a b : Option (List ℕ)) → p ≡ q
+    → HasAnswersPrefix (model_paths p) (test_paths p) asks old r s a b
+    → HasAnswersPrefix (model_paths q) (test_paths q) asks old r s a b
+front_over p q asks old r s a b same x =
+    subst (λ (k : Paths). HasAnswersPrefix (model_paths k) (test_paths k) asks old r s a b) same x
 
 -- ---- which lines
 
@@ -219,13 +229,13 @@ front_turns front middle a b x first =
 
 -- ---- a whole run
 
-pub cut_none : (model : List ℕ) (tests lasts : List (List ℕ)) (source : Option (List ℕ))
+pub cut_none : (models tests lasts : List (List ℕ)) (source : Option (List ℕ))
     (r s : Option (List FileReading)) (a : Option (List ℕ))
-    → HasReadAtMost (length (all_files model tests)) r s → IsCutRun model tests lasts source r s a a
-cut_none model tests lasts source r s a few = record {
+    → HasReadAtMost (length (all_files models tests)) r s → IsCutRun models tests lasts source r s a a
+cut_none models tests lasts source r s a few = record {
   read = [];
   more = few.read;
-  most = length (all_files model tests);
+  most = length (all_files models tests);
   text = [];
   is = NothingYet;
   few = few.few;
@@ -233,11 +243,11 @@ cut_none model tests lasts source r s a few = record {
   front = nothing_written a;
 }
 
-pub cut_first : (model : List ℕ) (tests lasts : List (List ℕ)) (source : Option (List ℕ))
+pub cut_first : (models tests lasts : List (List ℕ)) (source : Option (List ℕ))
     (begins : Standing) (r s : Option (List FileReading)) (first : List ℕ) (a b : Option (List ℕ))
-    → HasBegunRun model tests lasts begins r s first → WritesPrefix a b first
-    → IsCutRun model tests lasts source r s a b
-cut_first model tests lasts source begins r s first a b begun written = record {
+    → HasBegunRun models tests lasts begins r s first → WritesPrefix a b first
+    → IsCutRun models tests lasts source r s a b
+cut_first models tests lasts source begins r s first a b begun written = record {
   read = begun.read ++ [];
   more = [];
   most = 1;
@@ -250,12 +260,12 @@ cut_first model tests lasts source begins r s first a b begun written = record {
   front = subst (λ (l : List ℕ). WritesPrefix a b l) (sym (append_none first)) written;
 }
 
-pub cut_later : (model : List ℕ) (tests lasts : List (List ℕ)) (source : Option (List ℕ))
+pub cut_later : (models tests lasts : List (List ℕ)) (source : Option (List ℕ))
     (begins : Standing) (r s t : Option (List FileReading)) (first : List ℕ) (a b c : Option (List ℕ))
-    → HasBegunRun model tests lasts begins r s first → Appends a b first
-    → HasAnswersPrefix model tests (ArePrefixOf [] source) begins s t b c
-    → IsCutRun model tests lasts source r t a c
-cut_later model tests lasts source begins r s t first a b c begun gained more = record {
+    → HasBegunRun models tests lasts begins r s first → Appends a b first
+    → HasAnswersPrefix models tests (ArePrefixOf [] source) begins s t b c
+    → IsCutRun models tests lasts source r t a c
+cut_later models tests lasts source begins r s t first a b c begun gained more = record {
   read = begun.read ++ more.read;
   more = more.more;
   most = 1;

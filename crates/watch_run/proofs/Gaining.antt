@@ -1,11 +1,11 @@
 -- Answers that a sink gained, one after another, and what was read for them.
 use Rattle.std.proofs.Common.{◌≡◌, Bool, true, false, inl, inr, ℕ, zero, suc, ◌+◌, ◌<◌, ◌≤◌, List, [], ◌∷◌, ◌++◌, length, map, take, get_or, true, false, Option, Some, None, Result, Ok, refl, sym, ap, subst, ◌∙◌, append_assoc, arith}
-use Rattle.std.specs.Prelude.{Vec, codes, Err, IfOk, ◌==◌}
-use Rattle.std.specs.Borrow.{Bor}
+use Rattle.std.specs.Prelude.{Vec, codes, Err, IfOk, ◌==◌, slice_get}
 use Rattle.std.specs.declared.alloc.Global.{Global}
 use Rattle.std.proofs.KnownBytes.{Appends-nil, Appends-trans}
 use Rattle.std.specs.Io.KnownBytes.{Appends}
-use Rattle.std.proofs.lemmas.List.{length-append, length-take-le}
+use Rattle.std.proofs.lemmas.List.{take_all, length-append, length-take-le}
+use Rattle.std.proofs.lemmas.Option.{same_Some, slice_get_within}
 use Rattle.std.proofs.lemmas.Bool.{cases_Bool, false≢true}
 use Rattle.std.proofs.lemmas.Bool.Decides.{Decides-eqb}
 use Rattle.command_line.specs.declared.fault.SessionFault.{SessionFault}
@@ -13,8 +13,13 @@ use Rattle.bench_texts.specs.declared.fault.EditFault.{EditFault}
 use Rattle.watch_run.specs.declared.versions.Version.{Version}
 use Rattle.watch_run.specs.declared.versions.Version.TheVariants.{Text, Unread}
 use Rattle.watch_run.specs.Readings.{FileReading, AreReadBetween, HasReadAtMost}
-use Rattle.watch_run.specs.Holding.{Holding, IsFileTaken, IsVersionRefused, File, TestFile, ModelFile, FilePath, file_at, test_files, all_files}
-use Rattle.watch_run.specs.Boards.{lists_of}
+use Rattle.watch_run.specs.Holding.{Holding, bench_model_names, IsFileTaken, IsVersionRefused, File, FilePath, file_at}
+use Rattle.bench_texts.specs.Held.{texts_of}
+use Rattle.bench_texts.specs.declared.texts.Texts.{Texts}
+use Rattle.watch_run.specs.declared.watched.Paths.{Paths}
+use Rattle.watch_run.specs.Edits.{model_paths, test_paths, holding_of}
+use Rattle.watch_run.specs.Lines.{AreLinesOf, AreLinesWritten}
+use Rattle.watch_run.specs.Boards.{lists_of, standing_of}
 use Rattle.watch_run.specs.Runs.{Standing, AreLinesSettled, IsTextNoted, file_refusal, AreLineAnswers, NoAnswer, OneMore, AreFilesBegun, NoFile, Begun, NotBegun, IsWatchRun, HasLineAnswers, line_before, lines_from, IsLineAlone, AreIn, AreOfTurn, AreAll, IsLineAnswered, HasBegunFiles, BeginsFile, HasBegunRun, NotedTaken, NotedRefused, IsTextAnswer, TextAccepted, TextRefused, IsLineAnswer, Unwatched, NotRead, Refused, Accepted}
 
 pub append_none : {A : Type 0} (xs : List A) → xs ++ [] ≡ xs
@@ -51,19 +56,19 @@ few_read n m r s within h =
 -- ---- answers
 
 -- nothing was answered
-pub gains_none : (model : List ℕ) (tests : List (List ℕ)) (asks : List (List ℕ) → Type 0)
+pub gains_none : (models tests : List (List ℕ)) (asks : List (List ℕ) → Type 0)
     (standing : Standing) (r : Option (List FileReading)) (a : Option (List ℕ))
-    → asks [] → HasLineAnswers model tests asks standing standing r r a a
-gains_none model tests asks standing r a asked =
+    → asks [] → HasLineAnswers models tests asks standing standing r r a a
+gains_none models tests asks standing r a asked =
     record { lines = []; asked = asked; read = []; text = []; answers = NoAnswer standing; reads = read_none r; gains = Appends-nil a }
 
 -- one line was
-pub gains_one : (model : List ℕ) (tests : List (List ℕ)) (asks : List (List ℕ) → Type 0)
+pub gains_one : (models tests : List (List ℕ)) (asks : List (List ℕ) → Type 0)
     (line : List ℕ) (old new : Standing) (r s : Option (List FileReading)) (said : List ℕ)
     (a b : Option (List ℕ))
-    → asks (line ∷ []) → IsLineAnswered line (file_at model tests line) old new r s said
-    → Appends a b said → HasLineAnswers model tests asks old new r s a b
-gains_one model tests asks line old new r s said a b asked answered gained = record {
+    → asks (line ∷ []) → IsLineAnswered line (file_at models tests line) old new r s said
+    → Appends a b said → HasLineAnswers models tests asks old new r s a b
+gains_one models tests asks line old new r s said a b asked answered gained = record {
   lines = [] ++ line ∷ [];
   asked = asked;
   read = [] ++ answered.read;
@@ -73,52 +78,60 @@ gains_one model tests asks line old new r s said a b asked answered gained = rec
   gains = gained;
 }
 
-pub answers_joined : (model : List ℕ) (tests : List (List ℕ)) (before after : List (List ℕ))
+pub answers_joined : (models tests : List (List ℕ)) (before after : List (List ℕ))
     (old middle new : Standing) (read more : List FileReading) (x y : List ℕ)
-    → AreLineAnswers model tests before old middle read x
-    → AreLineAnswers model tests after middle new more y
-    → AreLineAnswers model tests (before ++ after) old new (read ++ more) (x ++ y)
-answers_joined model tests before after old middle new read more x y first (NoAnswer standing) =
-    subst (λ (ls : List (List ℕ)). AreLineAnswers model tests ls old standing (read ++ []) (x ++ []))
+    → AreLineAnswers models tests before old middle read x
+    → AreLineAnswers models tests after middle new more y
+    → AreLineAnswers models tests (before ++ after) old new (read ++ more) (x ++ y)
+answers_joined models tests before after old middle new read more x y first (NoAnswer standing) =
+    subst (λ (ls : List (List ℕ)). AreLineAnswers models tests ls old standing (read ++ []) (x ++ []))
     (sym (append_none before))
-    (subst (λ (r : List FileReading). AreLineAnswers model tests before old standing r (x ++ []))
+    (subst (λ (r : List FileReading). AreLineAnswers models tests before old standing r (x ++ []))
     (sym (append_none read))
-    (subst (λ (text : List ℕ). AreLineAnswers model tests before old standing read text)
+    (subst (λ (text : List ℕ). AreLineAnswers models tests before old standing read text)
     (sym (append_none x)) first))
-answers_joined model tests before after old middle new read more x y first
+answers_joined models tests before after old middle new read more x y first
     (OneMore lines line from through to readings others text said answered answer) =
     subst
     (λ (ls : List (List ℕ)).
-    AreLineAnswers model tests ls old new (read ++ (readings ++ others)) (x ++ (text ++ said)))
+    AreLineAnswers models tests ls old new (read ++ (readings ++ others)) (x ++ (text ++ said)))
     (append_assoc before lines (line ∷ []))
     (subst
     (λ (r : List FileReading).
-    AreLineAnswers model tests ((before ++ lines) ++ line ∷ []) old new r (x ++ (text ++ said)))
+    AreLineAnswers models tests ((before ++ lines) ++ line ∷ []) old new r (x ++ (text ++ said)))
     (append_assoc read readings others)
     (subst
-    (λ (all : List ℕ). AreLineAnswers model tests ((before ++ lines) ++ line ∷ []) old new
+    (λ (all : List ℕ). AreLineAnswers models tests ((before ++ lines) ++ line ∷ []) old new
     ((read ++ readings) ++ others) all)
     (append_assoc x text said)
     (OneMore (before ++ lines) line old through new (read ++ readings) others (x ++ text) said
-    (answers_joined model tests before lines old middle through read readings x text first answered)
+    (answers_joined models tests before lines old middle through read readings x text first answered)
     answer)))
 
-pub gains_joined : (model : List ℕ) (tests : List (List ℕ)) (one two all : List (List ℕ) → Type 0)
+pub gains_joined : (models tests : List (List ℕ)) (one two all : List (List ℕ) → Type 0)
     (old middle new : Standing) (r s t : Option (List FileReading)) (a b c : Option (List ℕ))
     → ((x y : List (List ℕ)) → one x → two y → all (x ++ y))
-    → HasLineAnswers model tests one old middle r s a b → HasLineAnswers model tests two middle new s t b c
-    → HasLineAnswers model tests all old new r t a c
-gains_joined model tests one two all old middle new r s t a b c law x y = record {
+    → HasLineAnswers models tests one old middle r s a b → HasLineAnswers models tests two middle new s t b c
+    → HasLineAnswers models tests all old new r t a c
+gains_joined models tests one two all old middle new r s t a b c law x y = record {
   lines = x.lines ++ y.lines;
   asked = law x.lines y.lines x.asked y.asked;
   read = x.read ++ y.read;
   text = x.text ++ y.text;
   answers =
-      answers_joined model tests x.lines y.lines old middle new x.read y.read x.text y.text
+      answers_joined models tests x.lines y.lines old middle new x.read y.read x.text y.text
       x.answers y.answers;
   reads = read_more r s t x.read y.read x.reads y.reads;
   gains = Appends-trans a b c x.text y.text x.gains y.gains;
 }
+
+-- over the same paths
+pub gains_over : (p q : Paths) (asks : List (List ℕ) → Type 0) (old new : Standing)
+    (r s : Option (List FileReading)) (a b : Option (List ℕ)) → p ≡ q
+    → HasLineAnswers (model_paths p) (test_paths p) asks old new r s a b
+    → HasLineAnswers (model_paths q) (test_paths q) asks old new r s a b
+gains_over p q asks old new r s a b same x =
+    subst (λ (k : Paths). HasLineAnswers (model_paths k) (test_paths k) asks old new r s a b) same x
 
 -- ---- which lines
 
@@ -224,9 +237,15 @@ start_turn line a none =
 
 -- ---- the beginning
 
-pub begun_none : (standing : Standing) (r : Option (List FileReading))
+begun_none : (standing : Standing) (r : Option (List FileReading))
     → HasBegunFiles [] standing standing r r []
 begun_none standing r = record { read = []; begun = NoFile standing; reads = read_none r }
+
+pub nothing_told : (standing : Standing) (r : Option (List FileReading)) (told : List ℕ) → told ≡ []
+    → HasBegunFiles [] standing standing r r told
+nothing_told standing r told none =
+    subst (λ (l : List ℕ). HasBegunFiles [] standing standing r r l) (sym none)
+    (begun_none standing r)
 
 -- with one file more
 pub begun_more : (files : List FilePath) (file : FilePath) (old middle new : Standing)
@@ -269,85 +288,32 @@ begun_more files file old middle new r s t before after h
           reads;
     }
 
--- the files of tests up to one more
-pub one_file : (n i : ℕ) (tests : List (Bor (List ℕ))) (d : Bor (List ℕ)) → i < length tests
-    → take (suc i) (test_files n (map (λ t. t.now) tests))
-    ≡ take i (test_files n (map (λ t. t.now) tests))
-    ++ record { file = TestFile (n + i); path = (get_or tests i d).now } ∷ []
-one_file n i [] d lt = absurd (omega (arith, lt))
-one_file n zero (x ∷ xs) d lt =
-    let same : n ≡ n + 0 = omega arith in
-    ap (λ (k : ℕ). record { file = TestFile k; path = x.now } ∷ []) same
-one_file n (suc i) (x ∷ xs) d lt =
-    let same : (n + 1) + i ≡ n + suc i = omega arith in
-    ap (λ (l : List FilePath). record { file = TestFile n; path = x.now } ∷ l)
-    (one_file (n + 1) i xs d (omega (arith, lt))
-    ∙ ap
-    (λ (k : ℕ). take i (test_files (n + 1) (map (λ t. t.now) xs))
-    ++ record { file = TestFile k; path = (get_or xs i d).now } ∷ []) same)
+-- with the next of some files
+one_file : (files : List FilePath) (i : ℕ) (file : FilePath) → slice_get files i ≡ Some file
+    → take (suc i) files ≡ take i files ++ file ∷ []
+one_file [] i file there = absurd cc
+one_file (x ∷ xs) zero file there =
+    ap (λ (f : FilePath). f ∷ []) (same_Some x file there)
+one_file (x ∷ xs) (suc i) file there =
+    ap (λ (l : List FilePath). x ∷ l) (one_file xs i file there)
 
--- the file of the model is begun
-pub begun_first : (model : List ℕ) (tests : List (Bor (List ℕ))) (old new : Standing)
-    (r s : Option (List FileReading)) (after : List ℕ)
-    → BeginsFile (record { file = ModelFile; path = model }) old new r s [] after
-    → HasBegunFiles
-    (record { file = ModelFile; path = model } ∷ take 0 (test_files 0 (map (λ t. t.now) tests)))
-    old new r s after
-begun_first model tests old new r s after begins =
-    begun_more [] (record { file = ModelFile; path = model }) old old new r r s [] after
-    (begun_none old r) begins
-
--- and the file of one test more
-pub begun_next : (model : List ℕ) (tests : List (Bor (List ℕ))) (i : ℕ) (d : Bor (List ℕ))
-    (old middle new : Standing) (r s t : Option (List FileReading)) (before after : List ℕ)
-    → i < length tests
-    → HasBegunFiles
-    (record { file = ModelFile; path = model } ∷ take i (test_files 0 (map (λ t. t.now) tests)))
-    old middle r s before
-    → BeginsFile (record { file = TestFile i; path = (get_or tests i d).now }) middle new s t before
-    after
-    → HasBegunFiles
-    (record { file = ModelFile; path = model }
-    ∷ take (i + 1) (test_files 0 (map (λ t. t.now) tests))) old new r t after
-begun_next model tests i d old middle new r s t before after lt begun begins =
-    let first : FilePath = record { file = ModelFile; path = model } in
-    let files = test_files 0 (map (λ t. t.now) tests) in
-    let path = (get_or tests i d).now in
+pub begun_next : (files : List FilePath) (i : ℕ) (file : FilePath) (old middle new : Standing)
+    (r s t : Option (List FileReading)) (before after : List ℕ)
+    → slice_get files i ≡ Some file → HasBegunFiles (take i files) old middle r s before
+    → BeginsFile file middle new s t before after
+    → HasBegunFiles (take (i + 1) files) old new r t after
+begun_next files i file old middle new r s t before after there begun begins =
     let one : suc i ≡ i + 1 = omega arith in
-    let none : 0 + i ≡ i = omega arith in
-    let more : take (suc i) files ≡ take i files ++ record { file = TestFile i; path = path } ∷ [] =
-    one_file 0 i tests d lt
-    ∙ ap (λ (k : ℕ). take i files ++ record { file = TestFile k; path = path } ∷ []) none in
-    let all : (first ∷ take i files) ++ record { file = TestFile i; path = path } ∷ [] ≡ first ∷ take (i + 1) files =
-    ap (λ (l : List FilePath). first ∷ l) (sym more ∙ ap (λ (n : ℕ). take n files) one) in
-    subst (λ (l : List FilePath). HasBegunFiles l old new r t after) all
-    (begun_more (first ∷ take i files) (record { file = TestFile i; path = path }) old middle new r
-    s t before after begun begins)
-
-files_long : (n : ℕ) (tests : List (Bor (List ℕ)))
-    → length (test_files n (map (λ t. t.now) tests)) ≡ length tests
-files_long n [] = refl
-files_long n (x ∷ xs) = ap suc (files_long (n + 1) xs)
-
-taken_all : (i : ℕ) (files : List FilePath) → length files ≤ i → take i files ≡ files
-taken_all zero [] le = refl
-taken_all (suc i) [] le = refl
-taken_all zero (x ∷ xs) le = absurd (omega (arith, le))
-taken_all (suc i) (x ∷ xs) le = ap (λ l. x ∷ l) (taken_all i xs (omega (arith, le)))
+    let more : (take i files) ++ file ∷ [] ≡ take (i + 1) files = sym (one_file files i file there) ∙ ap (λ (n : ℕ). take n files) one in
+    subst (λ (l : List FilePath). HasBegunFiles l old new r t after) more
+    (begun_more (take i files) file old middle new r s t before after begun begins)
 
 -- all files were begun
-pub begun_all : (model : List ℕ) (tests : List (Bor (List ℕ))) (i : ℕ) (old new : Standing)
-    (r s : Option (List FileReading)) (told : List ℕ) → length tests ≤ i
-    → HasBegunFiles
-    (record { file = ModelFile; path = model } ∷ take i (test_files 0 (map (λ t. t.now) tests)))
-    old new r s told
-    → HasBegunFiles (all_files model (map (λ t. t.now) tests)) old new r s told
-begun_all model tests i old new r s told end begun =
-    let files = test_files 0 (map (λ t. t.now) tests) in
-    subst
-    (λ (l : List FilePath).
-    HasBegunFiles (record { file = ModelFile; path = model } ∷ l) old new r s told)
-    (taken_all i files (omega (arith, end, files_long 0 tests))) begun
+pub begun_all : (files : List FilePath) (i : ℕ) (old new : Standing)
+    (r s : Option (List FileReading)) (told : List ℕ) → length files ≤ i
+    → HasBegunFiles (take i files) old new r s told → HasBegunFiles files old new r s told
+begun_all files i old new r s told end begun =
+    subst (λ (l : List FilePath). HasBegunFiles l old new r s told) (take_all i files end) begun
 
 -- for each file that was begun one was read
 begun_long : (files : List FilePath) (old new : Standing) (read : List FileReading) (told : List ℕ)
@@ -374,56 +340,97 @@ begun_few files old new r s told begun = record {
   are = begun.reads;
 }
 
--- the files of the model and of tests so far, and one more
-pub begun_and_one : (model : List ℕ) (tests : List (Bor (List ℕ))) (i : ℕ) (old new : Standing)
-    (r s t : Option (List FileReading)) (told : List ℕ) → i < length tests
-    → HasBegunFiles
-    (record { file = ModelFile; path = model }
-    ∷ take i (test_files 0 (map (λ t. t.now) tests))) old new r s told
-    → HasReadAtMost 1 s t
-    → HasReadAtMost (length (all_files model (map (λ t. t.now) tests))) r t
-begun_and_one model tests i old new r s t told lt begun one =
-    let files = test_files 0 (map (λ t. t.now) tests) in
-    let long : length files ≡ length tests = files_long 0 tests in
-    let taken : length (take i files) ≡ i = length-take-le i files (omega (arith, lt, long)) in
-    let first : length begun.read ≡ suc (length (take i files)) = begun_long (record { file = ModelFile; path = model } ∷ take i files) old new begun.read told begun.begun in
-    let whole : length (all_files model (map (λ t. t.now) tests)) ≡ suc (length files) = refl in
+-- the files so far, and one more
+pub begun_and_one : (files : List FilePath) (i : ℕ) (file : FilePath) (old new : Standing)
+    (r s t : Option (List FileReading)) (told : List ℕ) → slice_get files i ≡ Some file
+    → HasBegunFiles (take i files) old new r s told → HasReadAtMost 1 s t
+    → HasReadAtMost (length files) r t
+begun_and_one files i file old new r s t told there begun one =
+    let inside : i < length files = slice_get_within files i file there in
+    let taken : length (take i files) ≡ i = length-take-le i files (omega (arith, inside)) in
+    let first : length begun.read ≡ length (take i files) = begun_long (take i files) old new begun.read told begun.begun in
     record {
       read = begun.read ++ one.read;
       few =
-          omega (arith, length-append begun.read one.read, first, taken, long, whole, lt, one.few);
+          omega (arith, length-append begun.read one.read, first, taken, inside, one.few);
       are = read_more r s t begun.read one.read begun.reads one.are;
     }
 
 -- a text is taken
-pub noted_taken : (file : File) (path text : List ℕ) (old new : Holding)
+pub noted_taken : (models now : ℕ) (file : File) (path text : List ℕ) (old new : Holding)
     (lines others : Vec (Vec ℕ Global) Global) (was is : Bool) (before after : List ℕ)
-    → IsFileTaken file text old new → others ≡ lines → is ≡ was → after ≡ before
-    → IsTextNoted file path text (record { held = old; lines = lists_of lines.items; refused = was })
-    (record { held = new; lines = lists_of others.items; refused = is }) before after true
-noted_taken file path text old new lines others was is before after taken same refused told =
+    → IsFileTaken file text old new → now ≡ models → others ≡ lines → is ≡ was → after ≡ before
+    → IsTextNoted file path text
+    (record { models = models; held = old; lines = lists_of lines.items; refused = was })
+    (record { models = now; held = new; lines = lists_of others.items; refused = is }) before after
+    true
+noted_taken models now file path text old new lines others was is before after taken many same
+    refused told =
     NotedTaken new taken
     (ap
+    (λ (n : ℕ).
+    record { models = n; held = new; lines = lists_of others.items; refused = is }) many
+    ∙ ap
     (λ (v : Vec (Vec ℕ Global) Global).
-    record { held = new; lines = lists_of v.items; refused = is }) same
-    ∙ ap (λ (b : Bool). record { held = new; lines = lists_of lines.items; refused = b }) refused)
+    record { models = models; held = new; lines = lists_of v.items; refused = is }) same
+    ∙ ap
+    (λ (b : Bool).
+    record { models = models; held = new; lines = lists_of lines.items; refused = b }) refused)
     told
 
 -- or refused
-pub noted_refused : (file : File) (path text : List ℕ) (old new : Holding)
+pub noted_refused : (models now : ℕ) (file : File) (path text : List ℕ) (old new : Holding)
     (lines others : Vec (Vec ℕ Global) Global) (fault : EditFault) (was : Bool)
     (before after : List ℕ)
-    → IsVersionRefused file text old.texts fault → new ≡ old → others ≡ lines
+    → IsVersionRefused file text old.texts fault → new ≡ old → now ≡ models → others ≡ lines
     → after ≡ before ++ file_refusal path fault
-    → IsTextNoted file path text (record { held = old; lines = lists_of lines.items; refused = was })
-    (record { held = new; lines = lists_of others.items; refused = true }) before after false
-noted_refused file path text old new lines others fault was before after refused same kept told =
+    → IsTextNoted file path text
+    (record { models = models; held = old; lines = lists_of lines.items; refused = was })
+    (record { models = now; held = new; lines = lists_of others.items; refused = true }) before
+    after false
+noted_refused models now file path text old new lines others fault was before after refused same
+    many kept told =
     NotedRefused fault refused
-    (ap (λ (h : Holding). record { held = h; lines = lists_of others.items; refused = true }) same
+    (ap
+    (λ (n : ℕ).
+    record { models = n; held = new; lines = lists_of others.items; refused = true }) many
+    ∙ ap
+    (λ (h : Holding).
+    record { models = models; held = h; lines = lists_of others.items; refused = true }) same
     ∙ ap
     (λ (v : Vec (Vec ℕ Global) Global).
-    record { held = old; lines = lists_of v.items; refused = true }) kept)
+    record { models = models; held = old; lines = lists_of v.items; refused = true }) kept)
     told
+
+-- the lines under the models are those of what is held, and were written
+pub lines_settled : (models : ℕ) (names : List (List ℕ)) (old now : Texts)
+    (held after : Vec (Option (List ℕ)) Global) (lines others : Vec (Vec ℕ Global) Global)
+    (lasts nows : List (Vec ℕ Global)) (refused : Bool) (text said : List ℕ)
+    → names ≡ bench_model_names models → now ≡ old → after ≡ held
+    → AreLinesOf names (texts_of now) after.items (lists_of others.items)
+    → lasts ≡ lines.items → nows ≡ others.items
+    → AreLinesWritten (lists_of lasts) (lists_of nows) text said
+    → AreLinesSettled (standing_of models old held lines refused)
+    (standing_of models now after others refused) text said
+lines_settled models names old now held after lines others lasts nows refused text said named same
+    kept are last new written = record {
+      models = refl;
+      held =
+          ap (λ (t : Texts). holding_of t after) same
+          ∙ ap (λ (v : Vec (Option (List ℕ)) Global). holding_of old v) kept;
+      refused = refl;
+      right =
+          subst
+          (λ (l : List (List ℕ)). AreLinesOf l (texts_of now) after.items (lists_of others.items))
+          named are;
+      written =
+          subst
+          (λ (l : List (Vec ℕ Global)). AreLinesWritten (lists_of l) (lists_of others.items) text said)
+          last
+          (subst
+          (λ (l : List (Vec ℕ Global)). AreLinesWritten (lists_of lasts) (lists_of l) text said) new
+          written);
+    }
 
 -- ---- one answer
 
@@ -508,13 +515,13 @@ unwatched_answered path file standing r said is told = record {
 
 -- ---- a whole run
 
-pub run_of : (model : List ℕ) (tests lasts : List (List ℕ)) (source : Option (List ℕ))
+pub run_of : (models tests lasts : List (List ℕ)) (source : Option (List ℕ))
     (begins ends : Standing) (r s t : Option (List FileReading)) (first : List ℕ)
     (a b c : Option (List ℕ))
-    → HasBegunRun model tests lasts begins r s first → Appends a b first
-    → HasLineAnswers model tests (AreAll source) begins ends s t b c
-    → IsWatchRun model tests lasts ends.refused source r t a c
-run_of model tests lasts source begins ends r s t first a b c begun gained more = record {
+    → HasBegunRun models tests lasts begins r s first → Appends a b first
+    → HasLineAnswers models tests (AreAll source) begins ends s t b c
+    → IsWatchRun models tests lasts ends.refused source r t a c
+run_of models tests lasts source begins ends r s t first a b c begun gained more = record {
   begins = begins;
   ends = ends;
   first_read = begun.read;

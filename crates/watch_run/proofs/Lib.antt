@@ -1,4 +1,5 @@
 pub mod Lists
+pub mod Names
 pub mod Cells
 pub mod Taking
 pub mod Gaining

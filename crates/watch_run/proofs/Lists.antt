@@ -1,5 +1,5 @@
 -- Lists with one element put at an index, and the first element that passes a test.
-use Rattle.std.proofs.Common.{◌≡◌, ℕ, zero, suc, ◌+◌, ◌<◌, ◌≤◌, List, [], ◌∷◌, length, map, Bool, true, Some, refl, sym, ap, ◌∙◌, inl, inr, arith}
+use Rattle.std.proofs.Common.{◌≡◌, ℕ, zero, suc, ◌+◌, ◌<◌, ◌≤◌, List, [], ◌∷◌, length, map, Bool, true, false, Some, refl, sym, ap, ◌∙◌, inl, inr, arith}
 use Rattle.std.specs.Prelude.{slice_get, option_map, get_or, set}
 use Rattle.std.specs.List.{position_or_len}
 use Rattle.std.proofs.lemmas.Bool.{cases_Bool}
@@ -57,6 +57,45 @@ found_mapped f p (x ∷ xs) = elim (cases_Bool (p (f x))) [
   | inl t ↦ rw t refl
   | inr t ↦ rw t (rw (one_more (position_or_len p (map f xs))) (rw
       (one_more (position_or_len (λ y. p (f y)) xs)) (found_mapped f p xs)))
+]
+
+another_first : {A : Type 0} (x y : A) (ys : List A) (n : ℕ)
+    → slice_get (x ∷ ys) (1 + n) ≡ slice_get (y ∷ ys) (1 + n)
+another_first x y ys n = rw (one_more n) refl
+
+-- another element is put, or one is changed, and the first that passes another test stays
+pub found_beside : {A : Type 0} (p q : A → Bool) (x : A) (xs : List A) → q x ≡ false
+    → ((y : A) → p y ≡ true → q y ≡ false)
+    → slice_get (put_at (position_or_len p xs) x xs)
+    (position_or_len q (put_at (position_or_len p xs) x xs))
+    ≡ slice_get xs (position_or_len q xs)
+found_beside p q x [] fails apart = rw fails refl
+found_beside p q x (y ∷ ys) fails apart = elim (cases_Bool (p y)) [
+  | inl t ↦ rw t (rw fails (rw (apart y t)
+      (another_first x y ys (position_or_len q ys))))
+  | inr t ↦ rw t (rw (one_more (position_or_len p ys)) (elim (cases_Bool (q y)) [
+    | inl u ↦ rw u refl
+    | inr u ↦ rw u (rw
+        (one_more (position_or_len q (put_at (position_or_len p ys) x ys)))
+        (rw (one_more (position_or_len q ys)) (found_beside p q x ys fails apart)))
+  ]))
+]
+
+pub found_unchanged : {A : Type 0} (p q : A → Bool) (f : A → A) (xs : List A)
+    → ((y : A) → q (f y) ≡ q y) → ((y : A) → p y ≡ true → q y ≡ false)
+    → slice_get (changed_at (position_or_len p xs) f xs)
+    (position_or_len q (changed_at (position_or_len p xs) f xs))
+    ≡ slice_get xs (position_or_len q xs)
+found_unchanged p q f [] keeps apart = refl
+found_unchanged p q f (y ∷ ys) keeps apart = elim (cases_Bool (p y)) [
+  | inl t ↦ rw t (rw (keeps y) (rw (apart y t)
+      (another_first (f y) y ys (position_or_len q ys))))
+  | inr t ↦ rw t (rw (one_more (position_or_len p ys)) (elim (cases_Bool (q y)) [
+    | inl u ↦ rw u refl
+    | inr u ↦ rw u (rw
+        (one_more (position_or_len q (changed_at (position_or_len p ys) f ys)))
+        (rw (one_more (position_or_len q ys)) (found_unchanged p q f ys keeps apart)))
+  ]))
 ]
 
 -- ---- an element set

@@ -1,6 +1,6 @@
 -- What edits and versions make of the texts.
 use Rattle.std.proofs.Common.{◌≡◌, ℕ, suc, ◌+◌, ◌<◌, List, [], ◌∷◌, length, map, Bool, true, false, nat_lt, Option, Some, None, inl, inr, refl, sym, ap, subst, ◌∙◌, arith}
-use Rattle.std.specs.Prelude.{slice_get, bytes_eq, Vec, vec_len, ◌==◌, IsTrue}
+use Rattle.std.specs.Prelude.{◌≢◌, slice_get, insert, remove, bytes_eq, Vec, vec_len, ◌==◌, IsTrue}
 use Rattle.std.specs.declared.alloc.Global.{Global}
 use Rattle.std.proofs.lemmas.Bool.Decides.{Decides-eqb}
 use Rattle.std.specs.List.{position_or_len}
@@ -14,8 +14,8 @@ use Rattle.text_values.specs.ModelValues.{clauses_of}
 use Rattle.litmus_grammar.specs.Texts.{ReadsTest}
 use Rattle.bench_texts.specs.declared.fault.EditFault.{EditFault}
 use Rattle.bench_texts.specs.declared.fault.EditFault.TheVariants as faults
-use Rattle.bench_texts.specs.BenchTexts.{BenchTexts, test_index, put_at, changed_at, with_init, with_thread, with_condition, with_observed}
-use Rattle.bench_texts.specs.Edits.{Edit, PutTest, DropTest, SetInit, SetThread, SetCond, SetLocations, PutModel, DropModel, SetItem, InsertItem, RemoveItem, Applies, has_test, thread_count, unless}
+use Rattle.bench_texts.specs.BenchTexts.{BenchTexts, PlainModel, test_index, model_index, put_at, changed_at, with_init, with_thread, with_condition, with_observed, with_items, with_models, numbered_items}
+use Rattle.bench_texts.specs.Edits.{Edit, PutTest, DropTest, SetInit, SetThread, SetCond, SetLocations, PutModel, DropModel, SetItem, InsertItem, RemoveItem, Applies, has_test, thread_count, index_in, index_before, unless}
 use Rattle.bench_texts.specs.declared.model.NamedModel.{NamedModel}
 use Rattle.bench_texts.specs.Held.{plain_model}
 use Rattle.session_answers.specs.Cells.{test_named, model_named}
@@ -26,9 +26,9 @@ use Rattle.watch_edits.specs.Edits.{IsPartEdit, item_edit}
 use Rattle.watch_edits.specs.declared.items.ItemChange.{ItemChange}
 use Rattle.watch_edits.specs.declared.items.ItemChange.TheVariants as changes
 use Rattle.watch_edits.specs.declared.parts.TestPart.{TestPart}
-use Rattle.watch_run.specs.Holding.{Holding, bench_model_name, held_name, without_unheld, tests_left, HoldsItems, IsTestTaken}
+use Rattle.watch_run.specs.Holding.{Holding, held_name, without_unheld, tests_left, HoldsItems, IsSameButModel, IsTestTaken}
 use Rattle.watch_run.specs.Edits.{IsEditTried, IsModelEdit, AreChanges, AreTestParts, AreSameBut}
-use Rattle.watch_run.proofs.Lists.{put_same, put_twice, IsPut, changed_is_put, index_put, nothing_of}
+use Rattle.watch_run.proofs.Lists.{put_same, put_twice, IsPut, changed_is_put, index_put, found_beside, found_unchanged, nothing_of}
 
 -- ---- bytes
 
@@ -53,31 +53,83 @@ test_inside t test later e =
 
 -- ---- edits of models
 
-pub model_keeps_tests : (t : BenchTexts) (e : Edit) → IsModelEdit e
-    → (o : Option EditFault) (new : BenchTexts) → IsEditTried t e o new → new.tests ≡ t.tests
-model_keeps_tests t (PutTest text) of o new made = absurd of
-model_keeps_tests t (DropTest test) of o new made = absurd of
-model_keeps_tests t (SetInit test text) of o new made = absurd of
-model_keeps_tests t (SetThread test thread text) of o new made = absurd of
-model_keeps_tests t (SetCond test text) of o new made = absurd of
-model_keeps_tests t (SetLocations test text) of o new made = absurd of
-model_keeps_tests t (DropModel model) of o new made = absurd of
-model_keeps_tests t (PutModel model text) of (Some f) new made =
-    ap (λ (x : BenchTexts). x.tests) made.2
-model_keeps_tests t (PutModel model text) of None new made =
-    ap (λ (x : BenchTexts). x.tests) made.makes.2
-model_keeps_tests t (SetItem model item text) of (Some f) new made =
-    ap (λ (x : BenchTexts). x.tests) made.2
-model_keeps_tests t (SetItem model item text) of None new made =
-    ap (λ (x : BenchTexts). x.tests) made.makes.2
-model_keeps_tests t (InsertItem model before text) of (Some f) new made =
-    ap (λ (x : BenchTexts). x.tests) made.2
-model_keeps_tests t (InsertItem model before text) of None new made =
-    ap (λ (x : BenchTexts). x.tests) made.makes.3
-model_keeps_tests t (RemoveItem model item) of (Some f) new made =
-    ap (λ (x : BenchTexts). x.tests) made.2
-model_keeps_tests t (RemoveItem model item) of None new made =
-    ap (λ (x : BenchTexts). x.tests) made.makes
+unlike : (name other : List ℕ) (m : PlainModel) → other ≢ name → bytes_eq m.name name ≡ true
+    → bytes_eq m.name other ≡ false
+unlike name other m differ is = elim (cases_Bool (bytes_eq m.name other)) [
+  | inl t ↦ absurd (differ (sym (same_bytes m.name other t) ∙ same_bytes m.name name is))
+  | inr f ↦ f
+]
+
+pub alone_same : (name : List ℕ) (t new : BenchTexts) → new ≡ t → IsSameButModel name t new
+alone_same name t new same = record {
+  tests = ap (λ (x : BenchTexts). x.tests) same;
+  models = λ other differ. ap (λ (x : BenchTexts). model_named x other) same;
+}
+
+alone_put : (name model : List ℕ) (t new : BenchTexts) (m : PlainModel) (next : ℕ) → model ≡ name
+    → m.name ≡ model → new ≡ with_models (put_at (model_index model t.models) m) next t
+    → IsSameButModel name t new
+alone_put name model t new m next of named is = record {
+  tests = ap (λ (x : BenchTexts). x.tests) is;
+  models = λ other differ.
+      let apart : other ≢ model = λ e. differ (e ∙ of) in
+      ap (λ (x : BenchTexts). model_named x other) is
+      ∙ found_beside (λ x. bytes_eq x.name model) (λ x. bytes_eq x.name other) m t.models
+      (unlike model other m apart (bytes_same m.name model named))
+      (λ x there. unlike model other x apart there);
+}
+
+alone_changed : (f : PlainModel → PlainModel) → ((m : PlainModel) → (f m).name ≡ m.name)
+    → (name model : List ℕ) (t new : BenchTexts) (next : ℕ) → model ≡ name
+    → new ≡ with_models (changed_at (model_index model t.models) f) next t
+    → IsSameButModel name t new
+alone_changed f keeps name model t new next of is = record {
+  tests = ap (λ (x : BenchTexts). x.tests) is;
+  models = λ other differ.
+      let apart : other ≢ model = λ e. differ (e ∙ of) in
+      ap (λ (x : BenchTexts). model_named x other) is
+      ∙ found_unchanged (λ x. bytes_eq x.name model) (λ x. bytes_eq x.name other) f t.models
+      (λ x. ap (λ (n : List ℕ). bytes_eq n other) (keeps x))
+      (λ x there. unlike model other x apart there);
+}
+
+pub model_alone : (name : List ℕ) (t : BenchTexts) (e : Edit) → IsModelEdit name e
+    → (o : Option EditFault) (new : BenchTexts) → IsEditTried t e o new → IsSameButModel name t new
+model_alone name t (PutTest text) of o new made = absurd of
+model_alone name t (DropTest test) of o new made = absurd of
+model_alone name t (SetInit test text) of o new made = absurd of
+model_alone name t (SetThread test thread text) of o new made = absurd of
+model_alone name t (SetCond test text) of o new made = absurd of
+model_alone name t (SetLocations test text) of o new made = absurd of
+model_alone name t (DropModel model) of o new made = absurd of
+model_alone name t (PutModel model text) of (Some f) new made = alone_same name t new made.2
+model_alone name t (PutModel model text) of None new made =
+    alone_put name model t new
+    (record { name = model; items = numbered_items t.next made.makes.0 })
+    (t.next + length made.makes.0) of refl made.makes.2
+model_alone name t (SetItem model item text) of (Some f) new made = alone_same name t new made.2
+model_alone name t (SetItem model item text) of None new made =
+    alone_changed (with_items (put_at (index_in t model item)
+    (record { number = item; clause = made.makes.0 }))) (λ m. refl) name model t new t.next of
+    made.makes.2
+model_alone name t (InsertItem model before text) of (Some f) new made =
+    alone_same name t new made.2
+model_alone name t (InsertItem model before text) of None new made =
+    alone_changed (with_items (λ is. insert is (index_before t model before)
+    (record { number = t.next; clause = made.makes.0 }))) (λ m. refl) name model t new (t.next + 1)
+    of made.makes.3
+model_alone name t (RemoveItem model item) of (Some f) new made = alone_same name t new made.2
+model_alone name t (RemoveItem model item) of None new made =
+    alone_changed (with_items (λ is. remove is (index_in t model item))) (λ m. refl) name model t
+    new t.next of made.makes
+
+-- one after another
+pub alone_again : (name : List ℕ) (a b c : BenchTexts) → IsSameButModel name a b
+    → IsSameButModel name b c → IsSameButModel name a c
+alone_again name a b c first then = record {
+  tests = then.tests ∙ first.tests;
+  models = λ other differ. then.models other differ ∙ first.models other differ;
+}
 
 -- ---- edits of a test
 
@@ -217,10 +269,10 @@ put_whole a t new text c only but made =
 
 -- ---- what changes and parts make
 
-pub changes_of : (t : BenchTexts) (m : NamedModel) (new : List Clause) (cs : List ItemChange)
-    → Some (plain_model m) ≡ model_named t bench_model_name
-    → with_changes new cs (clauses_of m.text.items.items) ≡ new → AreChanges t new cs
-changes_of t m new cs there applied =
+pub changes_of : (name : List ℕ) (t : BenchTexts) (m : NamedModel) (new : List Clause)
+    (cs : List ItemChange) → Some (plain_model m) ≡ model_named t name
+    → with_changes new cs (clauses_of m.text.items.items) ≡ new → AreChanges name t new cs
+changes_of name t m new cs there applied =
     let long : length m.numbers.items ≡ length m.text.items.items = omega (arith, m.paired, m.numbers.ok.0, m.text.items.ok.0) in
     record {
       model = plain_model m;
@@ -235,9 +287,10 @@ none_in v e =
     let zero_long : vec_len v ≡ 0 = (Decides-eqb (vec_len v) 0).0 e in
     nothing_of v.items (omega (arith, zero_long, v.ok.0))
 
-pub items_held : (t : BenchTexts) (new : List Clause) (v : Vec ItemChange Global) (is : Bool)
-    → AreChanges t new v.items → is ≡ (vec_len v == 0) → IsTrue is → HoldsItems new t
-items_held t new v is lead empty full =
+pub items_held : (name : List ℕ) (t : BenchTexts) (new : List Clause) (v : Vec ItemChange Global)
+    (is : Bool) → AreChanges name t new v.items → is ≡ (vec_len v == 0) → IsTrue is
+    → HoldsItems name new t
+items_held name t new v is lead empty full =
     let none : v.items ≡ [] = none_in v (sym empty ∙ full) in
     record { model = lead.model; there = lead.there; are = subst (λ (cs : List ItemChange). with_changes new cs (map (λ i. i.clause) lead.model.items) ≡ new) none lead.applied }
 
@@ -253,14 +306,26 @@ test_held t new v is lead empty full =
     let same : lead.test ≡ new = subst (λ (ps : List TestPart). with_parts new ps lead.test ≡ new) none lead.put in
     lead.there ∙ ap (λ (c : Content). Some c) same
 
-pub change_of_model : (e : Edit) (name numbers : List ℕ) (new : List Clause) (change : ItemChange)
-    → e ≡ item_edit name numbers new change → IsModelEdit e
-change_of_model e name numbers new (changes.Set i) is =
-    subst (λ (x : Edit). IsModelEdit x) (sym is) tt
-change_of_model e name numbers new (changes.Insert i) is =
-    subst (λ (x : Edit). IsModelEdit x) (sym is) tt
-change_of_model e name numbers new (changes.Remove i) is =
-    subst (λ (x : Edit). IsModelEdit x) (sym is) tt
+-- the name of the model at the index that a name has
+model_name_there : (name : List ℕ) (ms : List PlainModel) (m : PlainModel)
+    → slice_get ms (model_index name ms) ≡ Some m → m.name ≡ name
+model_name_there name ms m e =
+    same_bytes m.name name (passes_there (λ x. bytes_eq x.name name) ms m e)
+
+pub change_of_model : (name : List ℕ) (t : BenchTexts) (m : NamedModel) (e : Edit)
+    (numbers : List ℕ) (new : List Clause) (change : ItemChange)
+    → Some (plain_model m) ≡ model_named t name
+    → e ≡ item_edit (plain_model m).name numbers new change
+    → IsModelEdit name e
+change_of_model name t m e numbers new (changes.Set i) there is =
+    subst (λ (x : Edit). IsModelEdit name x) (sym is)
+    (model_name_there name t.models (plain_model m) (sym there))
+change_of_model name t m e numbers new (changes.Insert i) there is =
+    subst (λ (x : Edit). IsModelEdit name x) (sym is)
+    (model_name_there name t.models (plain_model m) (sym there))
+change_of_model name t m e numbers new (changes.Remove i) there is =
+    subst (λ (x : Edit). IsModelEdit name x) (sym is)
+    (model_name_there name t.models (plain_model m) (sym there))
 
 pub part_tests : (t : BenchTexts) (e : Edit) (name : List ℕ) → IsPartEdit name e
     → (o : Option EditFault) (new : BenchTexts) → IsEditTried t e o new

@@ -1,8 +1,8 @@
 -- The lines of files as a board shows them, and what a viewer knows of its texts. Read after Runs.
-use Rattle.std.specs.Prelude.{◌≡◌, ◌≢◌, ℕ, Bool, List, [], map, Option, Some, None, Vec}
+use Rattle.std.specs.Prelude.{◌≡◌, ◌≢◌, ℕ, Bool, List, [], map, length, Option, Some, None, Vec}
 use Rattle.std.specs.declared.alloc.Global.{Global}
 use Rattle.std.specs.List.{AllByRecursion as Each}
-use Rattle.outcome_texts.specs.Cells.{Open}
+use Rattle.outcome_texts.specs.Cells.{Cell, Open}
 use Rattle.bench_texts.specs.BenchTexts.{BenchTexts}
 use Rattle.bench_texts.specs.Held.{texts_of}
 use Rattle.bench_texts.specs.declared.texts.Texts.{Texts}
@@ -13,60 +13,68 @@ use Rattle.board.specs.Legal.{IsLegal}
 use Rattle.board.specs.Results.{ShowsRightCells}
 use Rattle.board.specs.Edits.{edit_count}
 use Rattle.session_views.specs.Knowing.{KnowsTexts}
-use Rattle.watch_run.specs.Holding.{Holding, bench_model_name}
+use Rattle.watch_run.specs.Holding.{Holding}
 use Rattle.watch_run.specs.Lines.{test_table, behind_line}
 use Rattle.watch_run.specs.Edits.{holding_of}
 use Rattle.watch_run.specs.Runs.{Standing}
 use Rattle.watch_run.specs.declared.watched.Watched.{Watched}
 use Rattle.watch_run.specs.declared.answers.Run.{Run}
 
--- the line of a test on the board after these operations
-abbrev pub shown_line : List BoardOp → List ℕ → List ℕ
-shown_line ops name = behind_line (test_table name (cell_named (board_after ops) name bench_model_name))
+-- the cells of a test under these models on the board after these operations
+abbrev pub shown_cells : List BoardOp → (name : List ℕ) → (models : List (List ℕ)) → List Cell
+shown_cells ops name models = map (cell_named (board_after ops) name) models
 
--- the cell of the test is settled, or there is none
-abbrev pub IsCellClosed : List BoardOp → List ℕ → Type 0
-IsCellClosed ops name = cell_named (board_after ops) name bench_model_name ≢ Open
+-- each of them is settled, or there is none
+abbrev pub AreCellsClosed : List BoardOp → (name : List ℕ) → (models : List (List ℕ)) → Type 0
+AreCellsClosed ops name models = Each (λ m. cell_named (board_after ops) name m ≢ Open) models
+
+-- the line of a test on that board
+abbrev pub shown_line : List BoardOp → (models : List (List ℕ)) → (name : List ℕ) → List ℕ
+shown_line ops models name = behind_line (test_table models name (shown_cells ops name models))
 
 -- the same of the test that a file holds
-abbrev pub shown_line_of : List BoardOp → Option (List ℕ) → List ℕ
-shown_line_of ops None = []
-shown_line_of ops (Some name) = shown_line ops name
+abbrev pub shown_line_of : List BoardOp → (models : List (List ℕ)) → Option (List ℕ) → List ℕ
+shown_line_of ops models None = []
+shown_line_of ops models (Some name) = shown_line ops models name
 
-abbrev pub IsClosedBy : List BoardOp → Option (List ℕ) → Type 0
-IsClosedBy ops None = Unit {0}
-IsClosedBy ops (Some name) = IsCellClosed ops name
+abbrev pub IsClosedBy : List BoardOp → (models : List (List ℕ)) → Option (List ℕ) → Type 0
+IsClosedBy ops models None = Unit {0}
+IsClosedBy ops models (Some name) = AreCellsClosed ops name models
 
 -- the lines of all files on the board after these operations
-abbrev pub shown_lines : List BoardOp → List (Option (List ℕ)) → List (List ℕ)
-shown_lines ops names = map (shown_line_of ops) names
+abbrev pub shown_lines : List BoardOp → (models : List (List ℕ)) → List (Option (List ℕ))
+    → List (List ℕ)
+shown_lines ops models names = map (shown_line_of ops models) names
 
 -- These are the lines of the files on the board after these operations, whose cells are closed, and
 -- right for its texts.
-pub record AreBoardLines (ops : List BoardOp) (names : List (Option (List ℕ)))
-    (lines : List (List ℕ))
-    : Type 0 where
-  pub are : lines ≡ shown_lines ops names
-  pub closed : Each (IsClosedBy ops) names
+pub record AreBoardLines (ops : List BoardOp) (models : List (List ℕ))
+    (names : List (Option (List ℕ))) (lines : List (List ℕ)) : Type 0 where
+  pub are : lines ≡ shown_lines ops models names
+  pub closed : Each (IsClosedBy ops models) names
   pub right : ShowsRightCells ops
   pub legal : IsLegal ops
 
 -- So it is, and the board counts so many edits.
-pub record AreOwnLines (ops : List BoardOp) (made : ℕ) (names : List (Option (List ℕ)))
-    (lines : List (List ℕ)) : Type 0 where
-  pub shown : AreBoardLines ops names lines
+pub record AreOwnLines (ops : List BoardOp) (made : ℕ) (models : List (List ℕ))
+    (names : List (Option (List ℕ))) (lines : List (List ℕ)) : Type 0 where
+  pub shown : AreBoardLines ops models names lines
   pub counted : edit_count ops ≡ made
 
 -- the lists in vectors
 abbrev pub lists_of : List (Vec ℕ Global) → List (List ℕ)
 lists_of lines = map (λ v. v.items) lines
 
--- how things stand with these texts and names, the lines that were last written, and whether a text
--- was refused
-abbrev pub standing_of : Texts → Vec (Option (List ℕ)) Global → Vec (Vec ℕ Global) Global → Bool
-    → Standing
-standing_of texts names lines refused =
-    record { held = holding_of texts names; lines = lists_of lines.items; refused = refused }
+-- how things stand with so many models, these texts and names, the lines that were last written,
+-- and whether a text was refused
+abbrev pub standing_of : (models : ℕ) → Texts → Vec (Option (List ℕ)) Global
+    → Vec (Vec ℕ Global) Global → Bool → Standing
+standing_of models texts names lines refused = record {
+  models = models;
+  held = holding_of texts names;
+  lines = lists_of lines.items;
+  refused = refused;
+}
 
 -- ---- an author with its texts, and a run
 
@@ -81,4 +89,6 @@ holding watched = holding_of watched.texts watched.names
 
 -- how things stand for a run
 abbrev pub standing : {A : Type 0} → Run A → Standing
-standing run = standing_of run.watched.texts run.watched.names run.lines run.is_refused
+standing run =
+    standing_of (length run.paths.models.now) run.watched.texts run.watched.names run.lines
+    run.is_refused

@@ -17,16 +17,16 @@ use Rattle.watch_edits.specs.declared.parts.TestPart.{TestPart}
 use Rattle.watch_run.specs.declared.watched.Paths.{Paths}
 use Rattle.watch_run.specs.declared.watched.WatchedFile.{WatchedFile}
 use Rattle.watch_run.specs.declared.watched.WatchedFile.TheVariants as files
-use Rattle.watch_run.specs.Holding.{Holding, File, ModelFile, TestFile, bench_model_name, IsFileTaken, IsVersionRefused}
+use Rattle.watch_run.specs.Holding.{Holding, File, ModelFile, TestFile, IsFileTaken, IsVersionRefused}
 
 -- the file that a value of the code names
 abbrev pub file_of : WatchedFile → File
-file_of files.Model = ModelFile
+file_of (files.Model index) = ModelFile index
 file_of (files.Test index) = TestFile index
 
 -- the paths of the files
-abbrev pub model_path : Paths → List ℕ
-model_path paths = paths.model.now
+abbrev pub model_paths : Paths → List (List ℕ)
+model_paths paths = map (λ m. m.now) paths.models.now
 
 abbrev pub test_paths : Paths → List (List ℕ)
 test_paths paths = map (λ t. t.now) paths.tests.now
@@ -46,19 +46,19 @@ IsVersionTaken file text old None new = IsFileTaken file text old new
 IsVersionTaken file text old (Some fault) new =
     IsVersionRefused file text old.texts fault × (new ≡ old)
 
--- the edit is of a model
-abbrev pub IsModelEdit : Edit → Type 0
-IsModelEdit (PutModel model text) = Unit {0}
-IsModelEdit (SetItem model item text) = Unit {0}
-IsModelEdit (InsertItem model before text) = Unit {0}
-IsModelEdit (RemoveItem model item) = Unit {0}
-IsModelEdit _ = ⊥
+-- the edit puts the model of this name, or changes its items
+abbrev pub IsModelEdit : (name : List ℕ) → Edit → Type 0
+IsModelEdit name (PutModel model text) = model ≡ name
+IsModelEdit name (SetItem model item text) = model ≡ name
+IsModelEdit name (InsertItem model before text) = model ≡ name
+IsModelEdit name (RemoveItem model item) = model ≡ name
+IsModelEdit name _ = ⊥
 
--- these changes make the new items of those of the model
-pub record AreChanges (t : BenchTexts) (new : List Clause) (changes : List ItemChange)
-    : Type 0 where
+-- these changes make the new items of those of the model of this name
+pub record AreChanges (name : List ℕ) (t : BenchTexts) (new : List Clause)
+    (changes : List ItemChange) : Type 0 where
   pub model : PlainModel
-  pub there : model_named t bench_model_name ≡ Some model
+  pub there : model_named t name ≡ Some model
   pub applied : with_changes new changes (map (λ i. i.clause) model.items) ≡ new
 
 -- these parts make the new test of the one of its name

@@ -1,6 +1,6 @@
 -- Read this first: what is held of the watched files, and what a version of a file makes of it.
-use Rattle.std.specs.Prelude.{◌≡◌, false, Bool, ℕ, ◌+◌, List, [], ◌∷◌, length, map, replicate, get_or, remove, nat_lt, bytes_eq, if◌then◌else◌, Option, Some, None, codes}
-use Rattle.std.specs.List.{list_any, position_or_len}
+use Rattle.std.specs.Prelude.{◌≡◌, ◌≢◌, false, Bool, ℕ, zero, suc, ◌+◌, List, [], ◌∷◌, ◌++◌, map, replicate, get_or, remove, bytes_eq, if◌then◌else◌, Option, Some, None, codes, decimal}
+use Rattle.std.specs.List.{list_any}
 use Rattle.text_values.specs.TestValue.{Content}
 use Rattle.text_values.specs.ModelValue.{Clause}
 use Rattle.cat_grammar.specs.declared.form.Form.TheVariants as forms
@@ -12,9 +12,14 @@ use Rattle.bench_texts.specs.declared.fault.EditFault.{EditFault}
 use Rattle.session_answers.specs.Cells.{model_named}
 use Rattle.session_edits.specs.Faults.{HasFaultLine}
 
--- the name of the model on the bench
-abbrev pub bench_model_name : List ℕ
-bench_model_name = codes "model"
+-- the name on the bench of the model that the file of this index holds
+abbrev pub bench_model_name : (index : ℕ) → List ℕ
+bench_model_name index = codes "model" ++ decimal index
+
+-- the names of the models of so many files, in their order
+abbrev pub bench_model_names : (count : ℕ) → List (List ℕ)
+bench_model_names zero = []
+bench_model_names (suc count) = bench_model_names count ++ bench_model_name count ∷ []
 
 -- What is held of the files: the texts of the bench, and for the file of each test the name of the
 -- test that it holds, or none where no version of it was accepted.
@@ -26,14 +31,15 @@ pub record Holding : Type 0 where
 abbrev pub no_names : ℕ → List (Option (List ℕ))
 no_names count = replicate count None
 
--- of so many files of tests, and of the model's, nothing is held
+-- nothing is held of so many files of tests, nor of any of a model
 abbrev pub empty_holding : (count : ℕ) → Holding
 empty_holding count = record { texts = no_texts; names = no_names count }
 
 -- ---- the watched files, by their paths
 
+-- the file of a model or of a test, by its index among those of its kind
 pub data File : Type 0 where
-  ModelFile : File
+  ModelFile : (index : ℕ) → File
   TestFile : (index : ℕ) → File
 
 -- a file and its path
@@ -41,42 +47,45 @@ pub record FilePath : Type 0 where
   pub file : File
   pub path : List ℕ
 
--- the files of tests of these paths, from that index on
-abbrev pub test_files : ℕ → (tests : List (List ℕ)) → List FilePath
-test_files index [] = []
-test_files index (path ∷ tests) =
-    record { file = TestFile index; path = path } ∷ test_files (index + 1) tests
+-- the files of one kind that have these paths, from that index on
+abbrev pub files_from : (kind : ℕ → File) → (index : ℕ) → (paths : List (List ℕ)) → List FilePath
+files_from kind index [] = []
+files_from kind index (path ∷ paths) =
+    record { file = kind index; path = path } ∷ files_from kind (index + 1) paths
 
--- all files: that of the model, and those of the tests
-abbrev pub all_files : (model : List ℕ) → (tests : List (List ℕ)) → List FilePath
-all_files model tests = record { file = ModelFile; path = model } ∷ test_files 0 tests
+-- all files: those of the models, and then those of the tests
+abbrev pub all_files : (models tests : List (List ℕ)) → List FilePath
+all_files models tests = files_from ModelFile 0 models ++ files_from TestFile 0 tests
 
--- the index of the first test of that path, or the number of tests where there is none
-abbrev pub path_index : List ℕ → List (List ℕ) → ℕ
-path_index path tests = position_or_len (λ t. bytes_eq t path) tests
+-- the first of these files that has that path
+abbrev pub first_at : List FilePath → (path : List ℕ) → Option File
+first_at [] path = None
+first_at (f ∷ files) path = if bytes_eq f.path path then Some f.file else first_at files path
 
--- the file of that path: the model's, or else a test's
-abbrev pub file_at : (model : List ℕ) (tests : List (List ℕ)) (path : List ℕ) → Option File
-file_at model tests path =
-    if bytes_eq model path then Some ModelFile
-    else (if nat_lt (path_index path tests) (length tests) then Some
-    (TestFile (path_index path tests))
-    else None)
+-- the file of that path: of a model, or else of a test
+abbrev pub file_at : (models tests : List (List ℕ)) (path : List ℕ) → Option File
+file_at models tests path = first_at (all_files models tests) path
 
 -- ---- a version that is accepted
 
--- the bench holds the model, with just these items
-pub record HoldsItems (items : List Clause) (t : BenchTexts) : Type 0 where
+-- the bench holds the model of this name, with just these items
+pub record HoldsItems (name : List ℕ) (items : List Clause) (t : BenchTexts) : Type 0 where
   pub model : PlainModel
-  pub there : model_named t bench_model_name ≡ Some model
+  pub there : model_named t name ≡ Some model
   pub are : map (λ i. i.clause) model.items ≡ items
 
--- of the model's file: the model has the items that the text means from then on, and the tests stay
-pub record IsModelTaken (text : List ℕ) (old new : Holding) : Type 0 where
+-- the tests are the same, and so is the model of each other name
+pub record IsSameButModel (name : List ℕ) (old new : BenchTexts) : Type 0 where
+  pub tests : new.tests ≡ old.tests
+  pub models : (other : List ℕ) → other ≢ name → model_named new other ≡ model_named old other
+
+-- Of the file of a model: this model has the items that the text means from then on. The other
+-- models stay, and so do the tests.
+pub record IsModelTaken (index : ℕ) (text : List ℕ) (old new : Holding) : Type 0 where
   pub items : List Clause
   pub reads : ReadsClauses forms.Model text items
-  pub holds : HoldsItems items new.texts
-  pub tests : new.texts.tests ≡ old.texts.tests
+  pub holds : HoldsItems (bench_model_name index) items new.texts
+  pub others : IsSameButModel (bench_model_name index) old.texts new.texts
   pub names : new.names ≡ old.names
 
 abbrev pub holds_name : List ℕ → Option (List ℕ) → Bool
@@ -102,7 +111,7 @@ tests_left index name held =
     held.texts.tests
 
 -- Of the file of a test: it holds the test that the text means from then on. This stands in the
--- place of the first of its name among the tests that stay, or behind them, and the model stays.
+-- place of the first of its name among the tests that stay, or behind them, and the models stay.
 pub record IsTestTaken (index : ℕ) (text : List ℕ) (old new : Holding) : Type 0 where
   pub test : Content
   pub reads : ReadsTest text test
@@ -113,14 +122,14 @@ pub record IsTestTaken (index : ℕ) (text : List ℕ) (old new : Holding) : Typ
   pub models : new.texts.models ≡ old.texts.models
 
 abbrev pub IsFileTaken : File → (text : List ℕ) → (old new : Holding) → Type 0
-IsFileTaken ModelFile text old new = IsModelTaken text old new
+IsFileTaken (ModelFile index) text old new = IsModelTaken index text old new
 IsFileTaken (TestFile index) text old new = IsTestTaken index text old new
 
 -- ---- a version that is refused
 
 -- the edit that puts the whole text on the bench
 abbrev pub whole_edit : File → (text : List ℕ) → Edit
-whole_edit ModelFile text = PutModel bench_model_name text
+whole_edit (ModelFile index) text = PutModel (bench_model_name index) text
 whole_edit (TestFile index) text = PutTest text
 
 -- the bench refuses the whole text for that fault

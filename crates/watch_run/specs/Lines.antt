@@ -8,48 +8,49 @@ use Rattle.outcome_texts.specs.Cells.{Cell, NoCell, Open, Settled}
 use Rattle.outcome_texts.specs.Columns.{table_of}
 use Rattle.bench_texts.specs.BenchTexts.{BenchTexts, PlainModel}
 use Rattle.session_answers.specs.Cells.{test_named, model_named, IsPlainOutcome}
-use Rattle.watch_run.specs.Holding.{bench_model_name}
 
 -- ---- the line of a test
 
--- the table of the test alone
-abbrev pub test_table : List ℕ → Cell → List ℕ
-test_table name cell = table_of (bench_model_name ∷ []) (record { name = name; cells = cell ∷ [] } ∷ [])
+-- the table of the test alone, under the models of these names
+abbrev pub test_table : (models : List (List ℕ)) → (name : List ℕ) → List Cell → List ℕ
+test_table models name cells = table_of models (record { name = name; cells = cells } ∷ [])
 
 -- what stands behind the first line
 abbrev pub behind_line : List ℕ → List ℕ
 behind_line text = drop (position_or_len is_line_end text + 1) text
 
--- the outcome is what evaluating the test of this name under the model from nothing gives
-pub record IsTestResult (t : BenchTexts) (name : List ℕ) (outcome : Outcome) : Type 0 where
+-- the outcome is what evaluating the test under the model of these names from nothing gives
+pub record IsTestResult (t : BenchTexts) (name under : List ℕ) (outcome : Outcome) : Type 0 where
   pub test : Content
   pub model : PlainModel
   pub test_is : test_named t name ≡ Some test
-  pub model_is : model_named t bench_model_name ≡ Some model
+  pub model_is : model_named t under ≡ Some model
   pub right : IsPlainOutcome test model outcome
 
--- The cell of the test of this name under the model: there is none where one of the two is not
+-- The cell of the test under the model of these names: there is none where one of the two is not
 -- there.
-abbrev pub IsTestCell : BenchTexts → (name : List ℕ) → Cell → Type 0
-IsTestCell t name NoCell = (test_named t name ≡ None) ⊎ (model_named t bench_model_name ≡ None)
-IsTestCell t name Open = ⊥
-IsTestCell t name (Settled outcome) = IsTestResult t name outcome
+abbrev pub IsTestCell : BenchTexts → (name under : List ℕ) → Cell → Type 0
+IsTestCell t name under NoCell = (test_named t name ≡ None) ⊎ (model_named t under ≡ None)
+IsTestCell t name under Open = ⊥
+IsTestCell t name under (Settled outcome) = IsTestResult t name under outcome
 
--- the line of a test: its cell, as in a table of it alone
-pub record IsTestLine (t : BenchTexts) (name line : List ℕ) : Type 0 where
-  pub cell : Cell
-  pub right : IsTestCell t name cell
-  pub is : line ≡ behind_line (test_table name cell)
+-- the line of a test: its cell under each of these models, as in a table of it alone
+pub record IsTestLine (models : List (List ℕ)) (t : BenchTexts) (name line : List ℕ)
+    : Type 0 where
+  pub cells : List Cell
+  pub right : AllZip (IsTestCell t name) models cells
+  pub is : line ≡ behind_line (test_table models name cells)
 
 -- the line of the test that a file holds, or nothing where no version of the file was accepted
-abbrev pub IsFileLine : BenchTexts → Option (List ℕ) → (line : List ℕ) → Type 0
-IsFileLine t None line = line ≡ []
-IsFileLine t (Some name) line = IsTestLine t name line
+abbrev pub IsFileLine : (models : List (List ℕ)) → BenchTexts → Option (List ℕ)
+    → (line : List ℕ) → Type 0
+IsFileLine models t None line = line ≡ []
+IsFileLine models t (Some name) line = IsTestLine models t name line
 
 -- the lines of all files, in their order
-abbrev pub AreLinesOf : BenchTexts → (names : List (Option (List ℕ))) → (lines : List (List ℕ))
-    → Type 0
-AreLinesOf t names lines = AllZip (IsFileLine t) names lines
+abbrev pub AreLinesOf : (models : List (List ℕ)) → BenchTexts → (names : List (Option (List ℕ)))
+    → (lines : List (List ℕ)) → Type 0
+AreLinesOf models t names lines = AllZip (IsFileLine models t) names lines
 
 -- ---- the lines that are written
 

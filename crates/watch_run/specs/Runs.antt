@@ -7,7 +7,7 @@ use Rattle.session_edits.specs.Faults.{fault_line}
 use Rattle.watch_run.specs.declared.versions.Version.TheVariants.{Text, Unread}
 use Rattle.session_script.specs.Written.{WritesPrefix}
 use Rattle.watch_run.specs.Readings.{FileReading, AreReadBetween}
-use Rattle.watch_run.specs.Holding.{Holding, empty_holding, File, FilePath, all_files, file_at, IsFileTaken, IsVersionRefused}
+use Rattle.watch_run.specs.Holding.{Holding, empty_holding, bench_model_names, File, FilePath, all_files, file_at, IsFileTaken, IsVersionRefused}
 use Rattle.watch_run.specs.Lines.{AreLinesOf, AreLinesWritten}
 
 -- ---- the lines of the source
@@ -27,18 +27,20 @@ lines_from front (byte ∷ bytes) =
 
 -- ---- the answer to a line of the source
 
--- how things stand: what is held of the files, the lines that were last written of the files of
--- tests, in their order, and whether a text was refused so far
+-- how things stand: how many files are of models, what is held of all files, the lines that were
+-- last written of the files of tests, in their order, and whether a text was refused so far
 pub record Standing : Type 0 where
+  pub models : ℕ
   pub held : Holding
   pub lines : List (List ℕ)
   pub refused : Bool
 
 abbrev pub with_held : Holding → Standing → Standing
-with_held held s = record { held = held; lines = s.lines; refused = s.refused }
+with_held held s =
+    record { models = s.models; held = held; lines = s.lines; refused = s.refused }
 
 abbrev pub with_refusal : Standing → Standing
-with_refusal s = record { held = s.held; lines = s.lines; refused = true }
+with_refusal s = record { models = s.models; held = s.held; lines = s.lines; refused = true }
 
 -- what tells of the file of this path why its text is refused
 abbrev pub file_refusal : (path : List ℕ) → EditFault → List ℕ
@@ -46,9 +48,10 @@ file_refusal path fault = path ++ codes ": " ++ fault_line fault
 
 -- the lines are those of what is held, and a text gained those that changed, and the number of jobs
 pub record AreLinesSettled (old new : Standing) (before after : List ℕ) : Type 0 where
+  pub models : new.models ≡ old.models
   pub held : new.held ≡ old.held
   pub refused : new.refused ≡ old.refused
-  pub right : AreLinesOf new.held.texts new.held.names new.lines
+  pub right : AreLinesOf (bench_model_names new.models) new.held.texts new.held.names new.lines
   pub written : AreLinesWritten old.lines new.lines before after
 
 -- A text of a file is accepted: what is held changes by it, and the answer is those of the lines
@@ -86,22 +89,23 @@ pub data IsLineAnswer (path : List ℕ) (old new : Standing)
       (record { path = path; version = Text text } ∷ []) said
 
 -- the answers to lines of the source, one after another
-pub data AreLineAnswers (model : List ℕ) (tests : List (List ℕ))
+pub data AreLineAnswers (models tests : List (List ℕ))
     : (lines : List (List ℕ)) (old new : Standing) (read : List FileReading) (said : List ℕ)
     → Type 0 where
-  NoAnswer : (standing : Standing) → AreLineAnswers model tests [] standing standing [] []
+  NoAnswer : (standing : Standing) → AreLineAnswers models tests [] standing standing [] []
   OneMore : (lines : List (List ℕ)) (line : List ℕ) (old middle new : Standing)
       (read more : List FileReading) (text said : List ℕ)
-      → AreLineAnswers model tests lines old middle read text
-      → IsLineAnswer line middle new (file_at model tests line) more said
-      → AreLineAnswers model tests (lines ++ line ∷ []) old new (read ++ more) (text ++ said)
+      → AreLineAnswers models tests lines old middle read text
+      → IsLineAnswer line middle new (file_at models tests line) more said
+      → AreLineAnswers models tests (lines ++ line ∷ []) old new (read ++ more) (text ++ said)
 
 -- ---- the beginning of a run
 
--- before the first version of any file, of so many of tests, where these lines were the last that
--- were written
-abbrev pub at_first : (count : ℕ) → (lasts : List (List ℕ)) → Standing
-at_first count lasts = record { held = empty_holding count; lines = lasts; refused = false }
+-- before the first version of any file, of so many of models and of tests, where these lines were
+-- the last that were written
+abbrev pub at_first : (models tests : ℕ) → (lasts : List (List ℕ)) → Standing
+at_first models tests lasts =
+    record { models = models; held = empty_holding tests; lines = lasts; refused = false }
 
 -- the first versions of some files, one after another: each is accepted, or it is told why it is
 -- refused
@@ -123,11 +127,12 @@ pub data AreFilesBegun
 
 -- What is written at the start: what is told of the first versions that are refused, the line of
 -- each test, and the number of jobs.
-pub record IsRunStart (model : List ℕ) (tests lasts : List (List ℕ)) (new : Standing)
+pub record IsRunStart (models tests lasts : List (List ℕ)) (new : Standing)
     (read : List FileReading) (said : List ℕ) : Type 0 where
   pub told : List ℕ
   pub middle : Standing
-  pub begun : AreFilesBegun (all_files model tests) (at_first (length tests) lasts) middle read told
+  pub begun : AreFilesBegun (all_files models tests)
+      (at_first (length models) (length tests) lasts) middle read told
   pub settled : AreLinesSettled middle new told said
 
 -- The first versions of these files were asked for, one after another, up to that of one file,
@@ -146,7 +151,7 @@ pub record EndsUnread (files : List FilePath) (read_before read_after : Option (
 -- A whole run over the files of these paths is written: its beginning, and an answer to each line
 -- of the source that is not empty, where it is known which bytes it had. Before it these lines were
 -- the last that were written. It is told what it read of the files, and whether a text was refused.
-pub record IsWatchRun (model : List ℕ) (tests lasts : List (List ℕ)) (refused : Bool)
+pub record IsWatchRun (models tests lasts : List (List ℕ)) (refused : Bool)
     (source : Option (List ℕ)) (read_before read_after : Option (List FileReading))
     (before after : Option (List ℕ)) : Type 0 where
   pub begins : Standing
@@ -156,8 +161,8 @@ pub record IsWatchRun (model : List ℕ) (tests lasts : List (List ℕ)) (refuse
   pub first : List ℕ
   pub text : List ℕ
   pub lines : List (List ℕ)
-  pub begun : IsRunStart model tests lasts begins first_read first
-  pub answers : AreLineAnswers model tests lines begins ends read text
+  pub begun : IsRunStart models tests lasts begins first_read first
+  pub answers : AreLineAnswers models tests lines begins ends read text
   pub told : ends.refused ≡ refused
   pub asked : (bytes : List ℕ) → source ≡ Some bytes → lines ≡ lines_from [] bytes
   pub reads : AreReadBetween read_before read_after (first_read ++ read)
@@ -175,25 +180,25 @@ ArePrefixOf front source lines =
 -- What a run writes up to a line of the source, of these readings, and how many more it makes at
 -- most for what it writes next: nothing yet, and next the start, for which it reads each file; or
 -- the start and then the answers to the first lines, and next the answer to one line.
-pub data IsRunText (model : List ℕ) (tests lasts : List (List ℕ)) (source : Option (List ℕ))
+pub data IsRunText (models tests lasts : List (List ℕ)) (source : Option (List ℕ))
     : (read : List FileReading) (most : ℕ) (text : List ℕ) → Type 0 where
-  NothingYet : IsRunText model tests lasts source [] (length (all_files model tests)) []
+  NothingYet : IsRunText models tests lasts source [] (length (all_files models tests)) []
   FirstLines : (begins ends : Standing) (first_read read : List FileReading) (first text : List ℕ)
       (lines : List (List ℕ))
-      → IsRunStart model tests lasts begins first_read first
-      → AreLineAnswers model tests lines begins ends read text → ArePrefixOf [] source lines
-      → IsRunText model tests lasts source (first_read ++ read) 1 (first ++ text)
+      → IsRunStart models tests lasts begins first_read first
+      → AreLineAnswers models tests lines begins ends read text → ArePrefixOf [] source lines
+      → IsRunText models tests lasts source (first_read ++ read) 1 (first ++ text)
 
 -- A run over the files of these paths ended by a fault: what was written is a front of such a text,
 -- of what was read first. The other readings were made for what was to be written next.
-pub record IsCutRun (model : List ℕ) (tests lasts : List (List ℕ)) (source : Option (List ℕ))
+pub record IsCutRun (models tests lasts : List (List ℕ)) (source : Option (List ℕ))
     (read_before read_after : Option (List FileReading)) (before after : Option (List ℕ))
     : Type 0 where
   pub read : List FileReading
   pub more : List FileReading
   pub most : ℕ
   pub text : List ℕ
-  pub is : IsRunText model tests lasts source read most text
+  pub is : IsRunText models tests lasts source read most text
   pub few : length more ≤ most
   pub reads : AreReadBetween read_before read_after (read ++ more)
   pub front : WritesPrefix before after text
@@ -216,7 +221,7 @@ pub data IsTextNoted (file : File) (path text : List ℕ) (old new : Standing) (
       → IsTextNoted file path text old new before after false
 
 -- lines for which this holds were answered, and files read for them
-pub record HasLineAnswers (model : List ℕ) (tests : List (List ℕ)) (asks : List (List ℕ) → Type 0)
+pub record HasLineAnswers (models tests : List (List ℕ)) (asks : List (List ℕ) → Type 0)
     (old new : Standing)
     (read_before read_after : Option (List FileReading)) (before after : Option (List ℕ))
     : Type 0 where
@@ -224,13 +229,13 @@ pub record HasLineAnswers (model : List ℕ) (tests : List (List ℕ)) (asks : L
   pub asked : asks lines
   pub read : List FileReading
   pub text : List ℕ
-  pub answers : AreLineAnswers model tests lines old new read text
+  pub answers : AreLineAnswers models tests lines old new read text
   pub reads : AreReadBetween read_before read_after read
   pub gains : Appends before after text
 
 -- Answers to lines for which this holds were made, for which files were read, and a front of them
 -- was written. For the next line a file was read at most once.
-pub record HasAnswersPrefix (model : List ℕ) (tests : List (List ℕ)) (asks : List (List ℕ) → Type 0)
+pub record HasAnswersPrefix (models tests : List (List ℕ)) (asks : List (List ℕ) → Type 0)
     (old : Standing)
     (read_before read_after : Option (List FileReading)) (before after : Option (List ℕ))
     : Type 0 where
@@ -240,7 +245,7 @@ pub record HasAnswersPrefix (model : List ℕ) (tests : List (List ℕ)) (asks :
   pub read : List FileReading
   pub more : List FileReading
   pub text : List ℕ
-  pub answers : AreLineAnswers model tests lines old new read text
+  pub answers : AreLineAnswers models tests lines old new read text
   pub few : length more ≤ 1
   pub reads : AreReadBetween read_before read_after (read ++ more)
   pub front : WritesPrefix before after text
@@ -301,8 +306,8 @@ BeginsFile file old new read_before read_after before after =
     × (accepted : Bool) × IsTextNoted file.file file.path text.items old new before after accepted
 
 -- a run was begun, for which these were read
-pub record HasBegunRun (model : List ℕ) (tests lasts : List (List ℕ)) (new : Standing)
+pub record HasBegunRun (models tests lasts : List (List ℕ)) (new : Standing)
     (read_before read_after : Option (List FileReading)) (said : List ℕ) : Type 0 where
   pub read : List FileReading
-  pub begun : IsRunStart model tests lasts new read said
+  pub begun : IsRunStart models tests lasts new read said
   pub reads : AreReadBetween read_before read_after read

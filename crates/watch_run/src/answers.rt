@@ -1,6 +1,6 @@
 //! The loop: lines that name files, and what is answered to them.
 
-ghost use Rattle.std.specs.Prelude.{◌≡◌, ◌≢◌, ◌+◌, ◌-◌, ◌<◌, ◌^◌, ◌++◌, [], ◌∷◌, length, map, option_map, codes, true, false};
+ghost use Rattle.std.specs.Prelude.{◌≡◌, ◌≢◌, ◌+◌, ◌-◌, ◌<◌, ◌^◌, ◌++◌, [], ◌∷◌, length, map, option_map, codes, min, true, false};
 ghost use Rattle.std.specs.Prelude.{Some, IfOk, IfSome, OnOk, OnErr, IsTrue, Ok, Err};
 ghost use Rattle.std.specs.Io.KnownBytes.{Appends};
 ghost use Rattle.session_script.specs.Reading.{IsPaid};
@@ -9,13 +9,14 @@ ghost use Rattle.command_answers.specs.Answer.{IsReadFault};
 ghost use Rattle.watch_run.specs.Readings.{AreReadBetween, HasReadAtMost};
 ghost use Rattle.watch_run.specs.declared.versions.Version.TheVariants.{Unread};
 ghost use Rattle.watch_run.specs.Holding.{file_at, all_files};
-ghost use Rattle.watch_run.specs.Edits.{file_of, model_path, test_paths, IsVersionTaken};
+ghost use Rattle.watch_run.specs.Edits.{file_of, model_paths, test_paths, IsVersionTaken};
 ghost use Rattle.watch_run.specs.Boards.{lists_of, KnowsItsTexts, holding, standing};
 ghost use Rattle.watch_run.specs.Ends.{HasFailedRead};
 ghost use Rattle.watch_run.specs.Runs.{file_refusal, at_first, AreLinesSettled, IsTextNoted, IsTextAnswer, IsLineAnswer, IsLineAnswered, HasLineAnswers, IsLineAlone, AreIn, AreOfTurn, AreAll, BeginsFile, HasBegunFiles, HasBegunRun, EndsUnread, IsWatchRun, IsCutRun, HasAnswersPrefix, IsPrefixOfLine, ArePrefixIn, ArePrefixOf};
 
 use crate::author::Author;
 use crate::lines::put_answer;
+use crate::model_names::bench_model_names;
 use crate::versions::{Version, Versions};
 use crate::watched::{Paths, Watched, WatchedFile};
 use bench_texts::EditFault;
@@ -85,16 +86,13 @@ fn put_said(text: &mut Vec<u8>, name: &[u8], said: &[u8]) -> Result<(), AllocErr
 // The file that a line names, and its path.
 fn watched_path<'a>(paths: Paths<'a>, line: &[u8]) -> Option<(WatchedFile, &'a str)>
     ensures file { option_map (λ f. file_of f.0) result
-        ≡ file_at (model_path paths.entry) (test_paths paths.entry) line.now }
+        ≡ file_at (model_paths paths.entry) (test_paths paths.entry) line.now }
     ensures path { IfSome result (λ f. f.1.now ≡ line.now) }
 {
-    if paths.model.as_bytes() == line {
-        return Some((WatchedFile::Model, paths.model));
-    }
-    for index in 0..paths.tests.len() {
-        let path = paths.tests[index];
+    for index in 0..paths.count() {
+        let (file, path) = paths.file(index);
         if path.as_bytes() == line {
-            return Some((WatchedFile::Test(index), path));
+            return Some((file, path));
         }
     }
     None
@@ -130,7 +128,7 @@ impl<'a, A: Author> Run<'a, A> {
         ensures refused { self.new.is_refused ≡ self.old.is_refused }
     {
         match file {
-            WatchedFile::Model => self.watched.take_model(rt, alloc, version),
+            WatchedFile::Model(index) => self.watched.take_model(rt, alloc, index, version),
             WatchedFile::Test(index) => self.watched.take_test(rt, alloc, index, version),
         }
     }
@@ -175,7 +173,8 @@ impl<'a, A: Author> Run<'a, A> {
         ensures settled { OnOk result (AreLinesSettled (standing self.old) (standing self.new)
             text.old.items text.new.items) }
     {
-        let (jobs, lines) = self.watched.settled_lines(rt, alloc)?;
+        let models = memory(bench_model_names(alloc, self.paths.models.len()))?;
+        let (jobs, lines) = self.watched.settled_lines(rt, alloc, &models)?;
         memory(put_answer(text, &self.lines, &lines, jobs))?;
         self.lines = lines;
         Ok(())
@@ -229,27 +228,18 @@ impl<'a, A: Author> Run<'a, A> {
         ensures fault { result ≢ Err SessionFault.Write }
         ensures unshared { result ≢ Err SessionFault.Shared }
         ensures begun { IfOk result (λ t. HasBegunFiles
-            (all_files (model_path paths.entry) (test_paths paths.entry)) (standing self.old)
+            (all_files (model_paths paths.entry) (test_paths paths.entry)) (standing self.old)
             (standing self.new) (V.readings versions.old) (V.readings versions.new) t.items) }
         ensures readings { OnErr result (HasReadAtMost
-            (length (all_files (model_path paths.entry) (test_paths paths.entry)))
+            (length (all_files (model_paths paths.entry) (test_paths paths.entry)))
             (V.readings versions.old) (V.readings versions.new)) }
         ensures read { result ≡ Err SessionFault.Read
-            → EndsUnread (all_files (model_path paths.entry) (test_paths paths.entry))
+            → EndsUnread (all_files (model_paths paths.entry) (test_paths paths.entry))
             (V.readings versions.old) (V.readings versions.new) }
     {
         let mut text = Vec::new(alloc);
-        self.begin_file(
-            rt,
-            alloc,
-            versions,
-            WatchedFile::Model,
-            paths.model,
-            &mut text,
-        )?;
-        for index in 0..paths.tests.len() {
-            let path = paths.tests[index];
-            let file = WatchedFile::Test(index);
+        for index in 0..paths.count() {
+            let (file, path) = paths.file(index);
             self.begin_file(rt, alloc, versions, file, path, &mut text)?;
         }
         Ok(text)
@@ -264,19 +254,20 @@ impl<'a, A: Author> Run<'a, A> {
     ) -> Result<Vec<u8>, SessionFault>
         requires ready { KnowsItsTexts A.seen self.old.watched }
         requires first { standing self.old
-            ≡ at_first (length (test_paths self.old.paths)) (lists_of self.old.lines.items) }
+            ≡ at_first (length (model_paths self.old.paths)) (length (test_paths self.old.paths))
+            (lists_of self.old.lines.items) }
         ensures ready { OnOk result (KnowsItsTexts A.seen self.new.watched) }
         ensures paths { self.new.paths ≡ self.old.paths }
         ensures fault { result ≢ Err SessionFault.Write }
         ensures unshared { result ≢ Err SessionFault.Shared }
-        ensures begun { IfOk result (λ t. HasBegunRun (model_path self.old.paths)
+        ensures begun { IfOk result (λ t. HasBegunRun (model_paths self.old.paths)
             (test_paths self.old.paths) (lists_of self.old.lines.items) (standing self.new)
             (V.readings versions.old) (V.readings versions.new) t.items) }
         ensures readings { OnErr result (HasReadAtMost
-            (length (all_files (model_path self.old.paths) (test_paths self.old.paths)))
+            (length (all_files (model_paths self.old.paths) (test_paths self.old.paths)))
             (V.readings versions.old) (V.readings versions.new)) }
         ensures read { result ≡ Err SessionFault.Read
-            → EndsUnread (all_files (model_path self.old.paths) (test_paths self.old.paths))
+            → EndsUnread (all_files (model_paths self.old.paths) (test_paths self.old.paths))
             (V.readings versions.old) (V.readings versions.new) }
     {
         let paths = self.paths;
@@ -352,7 +343,7 @@ impl<'a, A: Author> Run<'a, A> {
         ensures paths { self.new.paths ≡ self.old.paths }
         ensures fault { OnErr result (result ≡ Err SessionFault.Memory) }
         ensures answer { IfOk result (λ t. IsLineAnswered line.now
-            (file_at (model_path self.old.paths) (test_paths self.old.paths) line.now)
+            (file_at (model_paths self.old.paths) (test_paths self.old.paths) line.now)
             (standing self.old) (standing self.new) (V.readings versions.old)
             (V.readings versions.new) t.items) }
         ensures readings { OnErr result (HasReadAtMost 1 (V.readings versions.old)
@@ -389,7 +380,7 @@ impl<'a, A: Author> Run<'a, A> {
         ensures wrote { result ≡ Err SessionFault.Write
             → K.failed_calls sink.new ≡ K.failed_calls sink.old + 1 }
         ensures cut { OnErr result
-            (HasAnswersPrefix (model_path self.old.paths) (test_paths self.old.paths)
+            (HasAnswersPrefix (model_paths self.old.paths) (test_paths self.old.paths)
             (IsPrefixOfLine line.now) (standing self.old) (V.readings versions.old)
             (V.readings versions.new) (K.contents sink.old) (K.contents sink.new)) }
         ensures unfailed { result ≢ Err SessionFault.Write
@@ -397,7 +388,7 @@ impl<'a, A: Author> Run<'a, A> {
         ensures unread { result ≢ Err SessionFault.Read }
         ensures unshared { result ≢ Err SessionFault.Shared }
         // nothing for an empty line, and else one write, of what is answered to it
-        ensures answers { OnOk result (HasLineAnswers (model_path self.old.paths)
+        ensures answers { OnOk result (HasLineAnswers (model_paths self.old.paths)
             (test_paths self.old.paths) (IsLineAlone line.now) (standing self.old)
             (standing self.new) (V.readings versions.old) (V.readings versions.new)
             (K.contents sink.old) (K.contents sink.new)) }
@@ -427,12 +418,12 @@ impl<'a, A: Author> Run<'a, A> {
         ensures writes { OnOk result (K.failed_calls sink.new ≡ K.failed_calls sink.old) }
         ensures wrote { result ≡ Err SessionFault.Write
             → K.failed_calls sink.new ≡ K.failed_calls sink.old + 1 }
-        ensures answers { OnOk result (HasLineAnswers (model_path self.old.paths)
+        ensures answers { OnOk result (HasLineAnswers (model_paths self.old.paths)
             (test_paths self.old.paths) (AreIn line.old.items (byte ∷ []) line.new.items)
             (standing self.old) (standing self.new) (V.readings versions.old)
             (V.readings versions.new) (K.contents sink.old) (K.contents sink.new)) }
         ensures cut { OnErr result
-            (HasAnswersPrefix (model_path self.old.paths) (test_paths self.old.paths)
+            (HasAnswersPrefix (model_paths self.old.paths) (test_paths self.old.paths)
             (ArePrefixIn line.old.items (byte ∷ [])) (standing self.old)
             (V.readings versions.old) (V.readings versions.new) (K.contents sink.old)
             (K.contents sink.new)) }
@@ -467,12 +458,12 @@ impl<'a, A: Author> Run<'a, A> {
         ensures writes { OnOk result (K.failed_calls sink.new ≡ K.failed_calls sink.old) }
         ensures wrote { result ≡ Err SessionFault.Write
             → K.failed_calls sink.new ≡ K.failed_calls sink.old + 1 }
-        ensures answers { OnOk result (HasLineAnswers (model_path self.old.paths)
+        ensures answers { OnOk result (HasLineAnswers (model_paths self.old.paths)
             (test_paths self.old.paths) (AreIn line.old.items bytes.now line.new.items)
             (standing self.old) (standing self.new) (V.readings versions.old)
             (V.readings versions.new) (K.contents sink.old) (K.contents sink.new)) }
         ensures cut { OnErr result
-            (HasAnswersPrefix (model_path self.old.paths) (test_paths self.old.paths)
+            (HasAnswersPrefix (model_paths self.old.paths) (test_paths self.old.paths)
             (ArePrefixIn line.old.items bytes.now) (standing self.old) (V.readings versions.old)
             (V.readings versions.new) (K.contents sink.old) (K.contents sink.new)) }
         ensures unfailed { result ≢ Err SessionFault.Write
@@ -506,7 +497,7 @@ impl<'a, A: Author> Run<'a, A> {
         ensures writes { OnOk result (K.failed_calls sink.new ≡ K.failed_calls sink.old) }
         ensures wrote { result ≡ Err SessionFault.Write
             → K.failed_calls sink.new ≡ K.failed_calls sink.old + 1 }
-        ensures answers { IfOk result (λ goes_on. HasLineAnswers (model_path self.old.paths)
+        ensures answers { IfOk result (λ goes_on. HasLineAnswers (model_paths self.old.paths)
             (test_paths self.old.paths)
             (AreOfTurn goes_on line.old.items line.new.items (S.remaining source.old)
             (S.remaining source.new))
@@ -517,7 +508,7 @@ impl<'a, A: Author> Run<'a, A> {
             (K.contents sink.old)
             (K.contents sink.new)) }
         ensures cut { OnErr result
-            (HasAnswersPrefix (model_path self.old.paths) (test_paths self.old.paths)
+            (HasAnswersPrefix (model_paths self.old.paths) (test_paths self.old.paths)
             (ArePrefixOf line.old.items (S.remaining source.old)) (standing self.old)
             (V.readings versions.old) (V.readings versions.new) (K.contents sink.old)
             (K.contents sink.new)) }
@@ -530,6 +521,7 @@ impl<'a, A: Author> Run<'a, A> {
             → S.failed_calls source.new ≡ S.failed_calls source.old + 1 }
         ensures paid { IfOk result (λ goes_on. IsTrue goes_on
             → IsPaid 1 0 (S.remaining source.old) (S.remaining source.new)) }
+        ensures call { S.calls source.new ≡ min (S.calls source.old + 1) (2 ^ 64 - 1) }
     {
         let mut buffer = [0u8; 4096];
         match source.read_some(&mut buffer) {
@@ -563,12 +555,12 @@ impl<'a, A: Author> Run<'a, A> {
         ensures writes { OnOk result (K.failed_calls sink.new ≡ K.failed_calls sink.old) }
         ensures wrote { result ≡ Err SessionFault.Write
             → K.failed_calls sink.new ≡ K.failed_calls sink.old + 1 }
-        ensures answers { OnOk result (HasLineAnswers (model_path self.old.paths)
+        ensures answers { OnOk result (HasLineAnswers (model_paths self.old.paths)
             (test_paths self.old.paths) (AreAll (S.remaining source.old)) (standing self.old)
             (standing self.new) (V.readings versions.old) (V.readings versions.new)
             (K.contents sink.old) (K.contents sink.new)) }
         ensures cut { OnErr result
-            (HasAnswersPrefix (model_path self.old.paths) (test_paths self.old.paths)
+            (HasAnswersPrefix (model_paths self.old.paths) (test_paths self.old.paths)
             (ArePrefixOf [] (S.remaining source.old)) (standing self.old)
             (V.readings versions.old) (V.readings versions.new) (K.contents sink.old)
             (K.contents sink.new)) }
@@ -579,7 +571,7 @@ impl<'a, A: Author> Run<'a, A> {
         ensures unshared { result ≢ Err SessionFault.Shared }
         ensures read { result ≡ Err SessionFault.Read
             → IsReadFault (S.failed_calls source.old) (S.failed_calls source.new)
-            (S.remaining source.old) }
+            (S.calls source.old) (S.calls source.new) (S.remaining source.old) }
     {
         let mut line = Vec::new(alloc);
         for _turn in 0..MAX_TURNS {
@@ -603,29 +595,32 @@ impl<'a, A: Author> Run<'a, A> {
     ) -> Result<bool, SessionFault>
         requires ready { KnowsItsTexts A.seen self.old.watched }
         requires first { standing self.old
-            ≡ at_first (length (test_paths self.old.paths)) (lists_of self.old.lines.items) }
+            ≡ at_first (length (model_paths self.old.paths)) (length (test_paths self.old.paths))
+            (lists_of self.old.lines.items) }
         requires source { S.failed_calls source.old < 2 ^ 64 - 1 }
         requires sink { K.failed_calls sink.old < 2 ^ 64 - 1 }
         ensures reads { OnOk result (S.failed_calls source.new ≡ S.failed_calls source.old) }
         ensures writes { OnOk result (K.failed_calls sink.new ≡ K.failed_calls sink.old) }
         ensures wrote { result ≡ Err SessionFault.Write
             → K.failed_calls sink.new ≡ K.failed_calls sink.old + 1 }
-        ensures run { IfOk result (λ refused. IsWatchRun (model_path self.old.paths)
+        ensures run { IfOk result (λ refused. IsWatchRun (model_paths self.old.paths)
             (test_paths self.old.paths) (lists_of self.old.lines.items) refused
             (S.remaining source.old) (V.readings versions.old) (V.readings versions.new)
             (K.contents sink.old) (K.contents sink.new)) }
-        ensures cut { OnErr result (IsCutRun (model_path self.old.paths) (test_paths self.old.paths)
-            (lists_of self.old.lines.items) (S.remaining source.old) (V.readings versions.old)
-            (V.readings versions.new) (K.contents sink.old) (K.contents sink.new)) }
+        ensures cut { OnErr result (IsCutRun (model_paths self.old.paths)
+            (test_paths self.old.paths) (lists_of self.old.lines.items) (S.remaining source.old)
+            (V.readings versions.old) (V.readings versions.new) (K.contents sink.old)
+            (K.contents sink.new)) }
         ensures unfailed { result ≢ Err SessionFault.Write
             → K.failed_calls sink.new ≡ K.failed_calls sink.old }
         ensures unread { result ≢ Err SessionFault.Read
             → S.failed_calls source.new ≡ S.failed_calls source.old }
         ensures unshared { result ≢ Err SessionFault.Shared }
         ensures read { result ≡ Err SessionFault.Read
-            → HasFailedRead (all_files (model_path self.old.paths) (test_paths self.old.paths))
-            (S.failed_calls source.old) (S.failed_calls source.new) (S.remaining source.old)
-            (V.readings versions.old) (V.readings versions.new) }
+            → HasFailedRead (all_files (model_paths self.old.paths) (test_paths self.old.paths))
+            (S.failed_calls source.old) (S.failed_calls source.new) (S.calls source.old)
+            (S.calls source.new) (S.remaining source.old) (V.readings versions.old)
+            (V.readings versions.new) }
     {
         let text = self.begin(rt, alloc, versions)?;
         write_text(sink, &text)?;

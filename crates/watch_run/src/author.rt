@@ -29,16 +29,17 @@ pub trait Author {
         ensures begins { OnOk result (IsPrefix (seen self.old) (seen self.new)) }
         ensures fault { OnErr result (result ≡ Err SessionFault.Memory) };
 
-    /// The lines of the files that hold the tests of these names, from the board that was published
-    /// last, or none where a cell is open. Errors: out of memory, also where the board does not
-    /// count so many edits.
+    /// The lines under the models of these names of the files that hold the tests of these names,
+    /// from the board that was published last, or none where a cell is open. Errors: out of memory,
+    /// also where the board does not count so many edits.
     fn lines(
         &mut self,
         alloc: Global,
+        models: &[Name],
         names: &[Option<Name>],
         made: u64,
     ) -> Result<Option<Vec<Vec<u8>>>, AllocError>
         ensures begins { IsPrefix (seen self.old) (seen self.new) }
         ensures lines { IfOk result (λ o. IfSome o (λ v.
-            AreOwnLines (seen self.new) made names.now (lists_of v.items))) };
+            AreOwnLines (seen self.new) made models.now names.now (lists_of v.items))) };
 }

@@ -10,12 +10,12 @@ ghost use Rattle.bench_texts.specs.Edits.{edit_of, RefusesEdit};
 ghost use Rattle.bench_texts.specs.Held.{plain_model, texts_of};
 ghost use Rattle.session_answers.specs.Cells.{test_named, model_named};
 ghost use Rattle.session_edits.specs.Faults.{HasFaultLine};
-ghost use Rattle.watch_run.specs.Holding.{bench_model_name, holds_name, without_unheld, held_name, HoldsItems, IsTestTaken, ModelFile, TestFile};
+ghost use Rattle.watch_run.specs.Holding.{bench_model_name, holds_name, without_unheld, held_name, HoldsItems, IsSameButModel, IsTestTaken, ModelFile, TestFile};
 ghost use Rattle.watch_run.specs.Edits.{IsEditTried, IsVersionTaken, IsModelEdit, AreChanges, AreTestParts, AreSameBut};
 ghost use Rattle.watch_run.specs.Boards.{KnowsItsTexts, holding};
 
 use crate::author::Author;
-use crate::lines::bench_model_name;
+use crate::model_names::bench_model_name;
 use crate::watched::Watched;
 use bench_texts::{Edit, EditFault, NamedModel, Texts};
 use cat_syntax::{CatFault, ModelText, read_model};
@@ -61,13 +61,12 @@ fn is_full(fault: &EditFault) -> bool {
     }
 }
 
-// The model, if it is there.
-fn held_model<'t>(texts: &'t Texts) -> Option<&'t NamedModel>
+// The model of this name, if it is there.
+fn held_model<'t>(texts: &'t Texts, name: &[u8]) -> Option<&'t NamedModel>
     ensures { option_map (λ m. plain_model m.now) result
-        ≡ model_named (texts_of texts.now) bench_model_name }
+        ≡ model_named (texts_of texts.now) name.now }
 {
-    let index = texts.model_index(bench_model_name());
-    texts.models().get(index)
+    texts.models().get(texts.model_index(name))
 }
 
 // The test of this name, if it is there.
@@ -77,44 +76,50 @@ fn held_test<'t>(texts: &'t Texts, name: &[u8]) -> Option<&'t Test>
     texts.tests().get(texts.test_index(name))
 }
 
-// The changes that make this of the model, or none where there is no model.
+// The changes that make this of the model of this name, or none where there is no such model.
 #[tactic(auto, using(crate::proofs::Taking::changes_of))]
 fn changes_to(
     alloc: Global,
     texts: &Texts,
+    name: &[u8],
     new: &ModelText,
 ) -> Result<Option<Vec<ItemChange>>, AllocError>
     ensures { IfOk result (λ o. IfSome o (λ cs.
-        AreChanges (texts_of texts.now) (clauses_of new.now.items.items) cs.items)) }
+        AreChanges name.now (texts_of texts.now) (clauses_of new.now.items.items) cs.items)) }
 {
-    match held_model(texts) {
+    match held_model(texts, name) {
         Some(model) => Ok(Some(item_changes(alloc, &model.text().items, &new.items)?)),
         None => Ok(None),
     }
 }
 
-// Whether the model has just the items of this one.
-fn holds_items(alloc: Global, texts: &Texts, new: &ModelText) -> Result<bool, AllocError>
+// Whether the model of this name has just the items of this one.
+fn holds_items(
+    alloc: Global,
+    texts: &Texts,
+    name: &[u8],
+    new: &ModelText,
+) -> Result<bool, AllocError>
     ensures { IfOk result (λ is. IsTrue is
-        → HoldsItems (clauses_of new.now.items.items) (texts_of texts.now)) }
+        → HoldsItems name.now (clauses_of new.now.items.items) (texts_of texts.now)) }
 {
-    match changes_to(alloc, texts, new)? {
+    match changes_to(alloc, texts, name, new)? {
         Some(changes) => Ok(changes.is_empty()),
         None => Ok(false),
     }
 }
 
-// The edit that makes a change of the model, where there is a model.
-#[tactic(auto, using(crate::proofs::Taking::change_of_model))]
+// The edit that makes a change of the model of this name, where there is such a model.
 fn edit_to(
     alloc: Global,
     texts: &Texts,
+    name: &[u8],
     new: &ModelText,
     change: ItemChange,
 ) -> Result<Option<Edit>, AllocError>
-    ensures { IfOk result (λ o. IfSome o (λ e. IsModelEdit (edit_of e))) }
+    ensures { IfOk result (λ o. IfSome o (λ e. IsModelEdit name.now (edit_of e))) }
 {
-    match held_model(texts) {
+    match held_model(texts, name) {
         Some(model) => Ok(Some(item_edit(alloc, model, &new.items, change)?)),
         None => Ok(None),
     }
@@ -246,22 +251,23 @@ impl<A: Author> Watched<A> {
         }
     }
 
-    // Makes a change of the model. Whether it is accepted.
-    #[tactic(auto, using(crate::proofs::Taking::model_keeps_tests))]
+    // Makes a change of the model of this name. Whether it is accepted.
+    #[tactic(auto, using(crate::proofs::Taking::model_alone))]
     fn change_item<W: Wait>(
         &mut self,
         rt: &W,
         alloc: Global,
+        name: &[u8],
         new: &ModelText,
         change: ItemChange,
     ) -> Result<bool, AllocError>
         requires ready { KnowsItsTexts A.seen self.old }
         ensures ready { OnOk result (KnowsItsTexts A.seen self.new) }
-        ensures tests { OnOk result ((texts_of self.new.texts).tests
-            ≡ (texts_of self.old.texts).tests) }
+        ensures others { OnOk result (IsSameButModel name.now (texts_of self.old.texts)
+            (texts_of self.new.texts)) }
         ensures names { self.new.names ≡ self.old.names }
     {
-        match edit_to(alloc, &self.texts, new, change)? {
+        match edit_to(alloc, &self.texts, name, new, change)? {
             Some(edit) => {
                 let fault = self.make(rt, alloc, edit)?;
                 Ok(fault.is_none())
@@ -270,25 +276,27 @@ impl<A: Author> Watched<A> {
         }
     }
 
-    // Makes the changes that lead to this model, item by item, as far as they are accepted.
+    // Makes the changes that lead from the model of this name to this one, item by item, as far as
+    // they are accepted.
     fn change_items<W: Wait>(
         &mut self,
         rt: &W,
         alloc: Global,
+        name: &[u8],
         new: &ModelText,
     ) -> Result<(), AllocError>
         requires ready { KnowsItsTexts A.seen self.old }
         ensures ready { OnOk result (KnowsItsTexts A.seen self.new) }
-        ensures tests { OnOk result ((texts_of self.new.texts).tests
-            ≡ (texts_of self.old.texts).tests) }
+        ensures others { OnOk result (IsSameButModel name.now (texts_of self.old.texts)
+            (texts_of self.new.texts)) }
         ensures names { self.new.names ≡ self.old.names }
     {
-        let changes = match changes_to(alloc, &self.texts, new)? {
+        let changes = match changes_to(alloc, &self.texts, name, new)? {
             Some(changes) => changes,
             None => return Ok(()),
         };
         for change in &changes {
-            let accepted = self.change_item(rt, alloc, new, *change)?;
+            let accepted = self.change_item(rt, alloc, name, new, *change)?;
             if !accepted {
                 return Ok(());
             }
@@ -296,50 +304,54 @@ impl<A: Author> Watched<A> {
         Ok(())
     }
 
-    // Makes the model this one, item by item or as a whole, where the bench accepts the whole.
-    // Errors: out of memory, also where the edits end otherwise, which they do not.
+    // Makes the model of this name this one, item by item or as a whole, where the bench accepts
+    // the whole. Errors: out of memory, also where the edits end otherwise, which they do not.
     fn put_items<W: Wait>(
         &mut self,
         rt: &W,
         alloc: Global,
+        name: &[u8],
         new: &ModelText,
         whole: Edit,
     ) -> Result<(), AllocError>
         requires ready { KnowsItsTexts A.seen self.old }
-        requires whole { IsModelEdit (edit_of whole) }
+        requires whole { IsModelEdit name.now (edit_of whole) }
         ensures ready { OnOk result (KnowsItsTexts A.seen self.new) }
-        ensures items { OnOk result (HoldsItems (clauses_of new.now.items.items)
+        ensures items { OnOk result (HoldsItems name.now (clauses_of new.now.items.items)
             (texts_of self.new.texts)) }
-        ensures tests { OnOk result ((texts_of self.new.texts).tests
-            ≡ (texts_of self.old.texts).tests) }
+        ensures others { OnOk result (IsSameButModel name.now (texts_of self.old.texts)
+            (texts_of self.new.texts)) }
         ensures names { self.new.names ≡ self.old.names }
     {
-        self.change_items(rt, alloc, new)?;
-        if holds_items(alloc, &self.texts, new)? {
+        self.change_items(rt, alloc, name, new)?;
+        if holds_items(alloc, &self.texts, name, new)? {
             return Ok(());
         }
         drop(self.make(rt, alloc, whole)?);
-        if holds_items(alloc, &self.texts, new)? {
+        if holds_items(alloc, &self.texts, name, new)? {
             Ok(())
         } else {
             Err(AllocError)
         }
     }
 
-    /// Takes a version of the model's file. Why it is refused, if it is. Errors: out of memory.
+    /// Takes a version of the file of the model of that index. Why it is refused, if it is. Errors:
+    /// out of memory.
     pub fn take_model<W: Wait>(
         &mut self,
         rt: &W,
         alloc: Global,
+        index: usize,
         text: Vec<u8>,
     ) -> Result<Option<EditFault>, AllocError>
         requires ready { KnowsItsTexts A.seen self.old }
         ensures ready { OnOk result (KnowsItsTexts A.seen self.new) }
         ensures taken { IfOk result (λ o.
-            IsVersionTaken ModelFile text.items (holding self.old) o (holding self.new)) }
+            IsVersionTaken (ModelFile index) text.items (holding self.old) o (holding self.new)) }
     {
+        let name = bench_model_name(alloc, index)?;
         let whole = Edit::PutModel {
-            model: Vec::from_slice(alloc, bench_model_name())?,
+            model: Vec::from_slice(alloc, &name)?,
             text: Vec::from_slice(alloc, &text)?,
         };
         if let Some(fault) = self.refusal(alloc, &whole)? {
@@ -349,7 +361,7 @@ impl<A: Author> Watched<A> {
             Ok(new) => new,
             Err(_) => return Err(AllocError),
         };
-        self.put_items(rt, alloc, &new, whole)?;
+        self.put_items(rt, alloc, &name, &new, whole)?;
         Ok(None)
     }
 
@@ -481,8 +493,8 @@ impl<A: Author> Watched<A> {
         Ok(())
     }
 
-    /// Takes a version of the file of that index. Why it is refused, if it is. Errors: out of
-    /// memory.
+    /// Takes a version of the file of the test of that index. Why it is refused, if it is. Errors:
+    /// out of memory.
     pub fn take_test<W: Wait>(
         &mut self,
         rt: &W,

@@ -149,10 +149,16 @@ impl<'d, J: Naming + StoreName, R: Wait + Drop> Author for DeskAuthor<'d, J, R> 
     fn lines(
         &mut self,
         alloc: Global,
+        models: &[Name],
         names: &[Option<Name>],
         made: u64,
     ) -> Result<Option<Vec<Vec<u8>>>, AllocError> {
-        let asked = Asked { alloc, names, made };
+        let asked = Asked {
+            alloc,
+            models,
+            names,
+            made,
+        };
         replace_with(&mut self.viewer, asked, read_board)
     }
 }

@@ -1,14 +1,15 @@
 //! What is written of the tests.
 
-ghost use Rattle.std.specs.Prelude.{◌≡◌, ◌++◌, [], get_or, IfOk, OnOk, IfSome, IfErr};
+ghost use Rattle.std.specs.Prelude.{◌≡◌, ◌≢◌, ◌++◌, [], map, get_or, IfOk, OnOk, IfSome, IfErr};
 ghost use Rattle.std.specs.List.{AllByRecursion as Each};
 ghost use mathlib.Core.List.{IsPrefix};
-ghost use Rattle.outcome_texts.specs.Cells.{cell_of};
+ghost use Rattle.outcome_texts.specs.Cells.{cell_of, Open};
 ghost use Rattle.bench_texts.specs.Held.{texts_of};
+ghost use Rattle.board.specs.Contents.{cell_named};
 ghost use Rattle.board.specs.Legal.{IsLegal};
-ghost use Rattle.watch_run.specs.Holding.{bench_model_name};
+ghost use Rattle.board.specs.Operations.{board_after};
 ghost use Rattle.watch_run.specs.Lines.{test_table, behind_line, AreLinesOf, changed_line, changed_lines, jobs_line, AreLinesWritten};
-ghost use Rattle.watch_run.specs.Boards.{lists_of, shown_line, IsCellClosed, shown_line_of, IsClosedBy, shown_lines, AreOwnLines, KnowsItsTexts};
+ghost use Rattle.watch_run.specs.Boards.{lists_of, shown_cells, AreCellsClosed, shown_line, shown_line_of, IsClosedBy, shown_lines, AreOwnLines, KnowsItsTexts};
 
 use crate::author::Author;
 use crate::watched::Watched;
@@ -19,25 +20,19 @@ use outcome_texts::{Shown as Cell, TestRow, table_text};
 use std::alloc::{AllocError, Global};
 use text_values::{line_length, put_bytes, put_decimal};
 
-/// The name of the model on the bench.
-pub fn bench_model_name() -> &'static [u8]
-    ensures { result.now ≡ bench_model_name }
+// The table of one test under these models.
+fn test_table<'x>(
+    alloc: Global,
+    models: &[Name],
+    name: &'x [u8],
+    cells: Vec<Cell<'x>>,
+) -> Result<Vec<u8>, AllocError>
+    ensures { IfOk result (λ v. v.items
+        ≡ test_table models.now name.now (map cell_of cells.entry.items)) }
 {
-    b"model"
-}
-
-// The table of one test under the model.
-fn cell_table<'x>(alloc: Global, name: &'x [u8], cell: Cell<'x>) -> Result<Vec<u8>, AllocError>
-    ensures { IfOk result (λ v. v.items ≡ test_table name.now (cell_of cell.entry)) }
-{
-    let model = Name::new(alloc, bench_model_name())?;
-    let mut models = Vec::new(alloc);
-    models.push(model)?;
-    let mut cells = Vec::new(alloc);
-    cells.push(cell)?;
     let mut rows = Vec::new(alloc);
     rows.push(TestRow { name, cells })?;
-    table_text(alloc, &models, &rows)
+    table_text(alloc, models, &rows)
 }
 
 // What stands behind the first line.
@@ -52,39 +47,86 @@ fn behind_line(text: &[u8]) -> &[u8]
     }
 }
 
-/// The line of a test, as in a table of it alone, or none where its cell is open. Errors: out of
+// The cell of a test under a model, or none where it is open.
+fn cell_now<'v, J: Naming>(
+    view: &'v View<J, StampedTexts>,
+    name: &[u8],
+    model: &[u8],
+) -> Option<Cell<'v>>
+    requires { IsLegal view.now }
+    ensures cell { IfSome result (λ c.
+        cell_of c ≡ cell_named (board_after view.now) name.now model.now) }
+    ensures closed { IfSome result (λ c.
+        cell_named (board_after view.now) name.now model.now ≢ Open) }
+{
+    match result_in(view, name, model) {
+        Cell::Open => None,
+        cell => Some(cell),
+    }
+}
+
+// The cells of a test under these models, or none where one is open.
+fn cells_now<'v, J: Naming>(
+    alloc: Global,
+    view: &'v View<J, StampedTexts>,
+    name: &[u8],
+    models: &[Name],
+) -> Result<Option<Vec<Cell<'v>>>, AllocError>
+    requires { IsLegal view.now }
+    ensures cells { IfOk result (λ o. IfSome o (λ v.
+        map cell_of v.items ≡ shown_cells view.now name.now models.now)) }
+    ensures closed { IfOk result (λ o. IfSome o (λ v.
+        AreCellsClosed view.now name.now models.now)) }
+{
+    let mut cells = Vec::with_capacity(alloc, models.len())?;
+    for model in models {
+        match cell_now(view, name, model.as_bytes()) {
+            Some(cell) => cells.push(cell)?,
+            None => return Ok(None),
+        }
+    }
+    Ok(Some(cells))
+}
+
+/// The line of a test, as in a table of it alone, or none where a cell is open. Errors: out of
 /// memory.
 pub fn test_line<J: Naming>(
     alloc: Global,
     view: &View<J, StampedTexts>,
+    models: &[Name],
     name: &[u8],
 ) -> Result<Option<Vec<u8>>, AllocError>
     requires { IsLegal view.now }
-    ensures line { IfOk result (λ o. IfSome o (λ v. v.items ≡ shown_line view.now name.now)) }
-    ensures closed { IfOk result (λ o. IfSome o (λ v. IsCellClosed view.now name.now)) }
+    ensures line { IfOk result (λ o.
+        IfSome o (λ v. v.items ≡ shown_line view.now models.now name.now)) }
+    ensures closed { IfOk result (λ o.
+        IfSome o (λ v. AreCellsClosed view.now name.now models.now)) }
 {
-    match result_in(view, name, bench_model_name()) {
-        Cell::Open => Ok(None),
-        cell => {
-            let table = cell_table(alloc, name, cell)?;
+    match cells_now(alloc, view, name, models)? {
+        Some(cells) => {
+            let table = test_table(alloc, models, name, cells)?;
             Ok(Some(Vec::from_slice(alloc, behind_line(&table))?))
         }
+        None => Ok(None),
     }
 }
 
 // The line of the test that a file holds, which is empty where no version was accepted, or none
-// where its cell is open.
+// where a cell is open.
 fn line_now<J: Naming>(
     alloc: Global,
     view: &View<J, StampedTexts>,
+    models: &[Name],
     name: &Option<Name>,
 ) -> Result<Option<Vec<u8>>, AllocError>
     requires { IsLegal view.now }
-    ensures line { IfOk result (λ o. IfSome o (λ v. v.items ≡ shown_line_of view.now name.now)) }
-    ensures closed { IfOk result (λ o. IfSome o (λ v. IsClosedBy view.now name.now)) }
+    ensures line { IfOk result (λ o.
+        IfSome o (λ v. v.items ≡ shown_line_of view.now models.now name.now)) }
+    ensures closed { IfOk result (λ o.
+        IfSome o (λ v. IsClosedBy view.now models.now name.now)) }
 {
     match name {
-        Some(name) => test_line(alloc, view, name.as_bytes()),
+        Some(name) => test_line(alloc, view, models, name.as_bytes()),
         None => Ok(Some(Vec::new(alloc))),
     }
 }
@@ -93,16 +135,18 @@ fn line_now<J: Naming>(
 fn lines_now<J: Naming>(
     alloc: Global,
     view: &View<J, StampedTexts>,
+    models: &[Name],
     names: &[Option<Name>],
 ) -> Result<Option<Vec<Vec<u8>>>, AllocError>
     requires { IsLegal view.now }
     ensures lines { IfOk result (λ o.
-        IfSome o (λ v. lists_of v.items ≡ shown_lines view.now names.now)) }
-    ensures closed { IfOk result (λ o. IfSome o (λ v. Each (IsClosedBy view.now) names.now)) }
+        IfSome o (λ v. lists_of v.items ≡ shown_lines view.now models.now names.now)) }
+    ensures closed { IfOk result (λ o.
+        IfSome o (λ v. Each (IsClosedBy view.now models.now) names.now)) }
 {
     let mut lines = Vec::with_capacity(alloc, names.len())?;
     for name in names {
-        match line_now(alloc, view, name)? {
+        match line_now(alloc, view, models, name)? {
             Some(line) => lines.push(line)?,
             None => return Ok(None),
         }
@@ -110,12 +154,14 @@ fn lines_now<J: Naming>(
     Ok(Some(lines))
 }
 
-/// What is to be read of the board: the lines of the tests of these names, where it counts so many
-/// edits.
+/// What is to be read of the board: the lines of the tests under the models of these names, where
+/// it counts so many edits.
 #[derive(Clone, Copy)]
 pub struct Asked<'p> {
     /// Where the lines are made.
     pub alloc: Global,
+    /// The names of the models.
+    pub models: &'p [Name],
     /// Of the file of each test the name of the test that it holds.
     pub names: &'p [Option<Name>],
     /// How many edits were made.
@@ -134,14 +180,15 @@ pub fn read_board<'p, J: Naming>(
 )
     ensures begins { IsPrefix viewer result.0 }
     ensures lines { IfOk result.1 (λ o. IfSome o (λ v.
-        AreOwnLines result.0 asked.entry.made asked.entry.names.now (lists_of v.items))) }
+        AreOwnLines result.0 asked.entry.made asked.entry.models.now asked.entry.names.now
+        (lists_of v.items))) }
 {
     match newest_view(viewer) {
         Ok(view) => {
             if edit_count_in(&view) != asked.made {
                 return (view.leave(), Err(AllocError));
             }
-            let lines = lines_now(asked.alloc, &view, asked.names);
+            let lines = lines_now(asked.alloc, &view, asked.models, asked.names);
             (view.leave(), lines)
         }
         Err(viewer) => (viewer, Err(AllocError)),
@@ -208,16 +255,22 @@ pub fn put_answer(
 }
 
 impl<A: Author> Watched<A> {
-    /// The lines of all files, from the board that was published last, or none where a cell is
-    /// open. Errors: out of memory.
-    pub fn lines_now(&mut self, alloc: Global) -> Result<Option<Vec<Vec<u8>>>, AllocError>
+    /// The lines of all files under these models, from the board that was published last, or none
+    /// where a cell is open. Errors: out of memory.
+    pub fn lines_now(
+        &mut self,
+        alloc: Global,
+        models: &[Name],
+    ) -> Result<Option<Vec<Vec<u8>>>, AllocError>
         requires ready { KnowsItsTexts A.seen self.old }
         ensures ready { KnowsItsTexts A.seen self.new }
         ensures texts { self.new.texts ≡ self.old.texts }
         ensures names { self.new.names ≡ self.old.names }
         ensures lines { IfOk result (λ o. IfSome o (λ v.
-            AreLinesOf (texts_of self.new.texts) self.new.names.items (lists_of v.items))) }
+            AreLinesOf models.now (texts_of self.new.texts) self.new.names.items
+            (lists_of v.items))) }
     {
-        self.author.lines(alloc, self.names.as_slice(), self.made)
+        self.author
+            .lines(alloc, models, self.names.as_slice(), self.made)
     }
 }

@@ -1,7 +1,7 @@
 //! The desk of a run, with its workers.
 
 ghost use Rattle.std.specs.Prelude.{◌≡◌, [], ◌-◌, ◌<◌, ◌^◌, length, map, IfOk};
-ghost use Rattle.watch_run.specs.Edits.{model_path, test_paths};
+ghost use Rattle.watch_run.specs.Edits.{model_paths, test_paths};
 ghost use Rattle.watch_run.specs.Boards.{lists_of, KnowsItsTexts, standing};
 ghost use Rattle.watch_run.specs.Runs.{at_first};
 ghost use Rattle.watch_run.specs.Ends.{IsEnded};
@@ -45,7 +45,8 @@ fn run_at<'a, 'd, J: Naming + StoreName, R: AllocGlobal + Wait + Drop>(
     ensures lines { IfOk result (λ run. run.lines.items ≡ []) }
     ensures paths { IfOk result (λ run. run.paths ≡ paths.entry) }
     ensures first { IfOk result (λ run. standing run
-        ≡ at_first (length (test_paths run.paths)) (lists_of run.lines.items)) }
+        ≡ at_first (length (model_paths run.paths)) (length (test_paths run.paths))
+        (lists_of run.lines.items)) }
     ensures ready { IfOk result (λ run. KnowsItsTexts (λ a. a.viewer) run.watched) }
 {
     let alloc = rt.alloc();
@@ -103,8 +104,8 @@ where
     K: ByteSink + Drop,
     requires source { S.failed_calls source < 2 ^ 64 - 1 }
     requires sink { K.failed_calls sink < 2 ^ 64 - 1 }
-    ensures { IfOk result (λ e. IsEnded S.failed_calls S.remaining K.failed_calls V.readings
-        K.contents (model_path paths.entry) (test_paths paths.entry) versions source sink e) }
+    ensures { IfOk result (λ e. IsEnded S.calls S.failed_calls S.remaining K.failed_calls V.readings
+        K.contents (model_paths paths.entry) (test_paths paths.entry) versions source sink e) }
 {
     let mut run = run_at(rt, desk, hands, paths)?;
     let mut versions = versions;
@@ -137,8 +138,8 @@ where
     K: ByteSink + Drop,
     requires source { S.failed_calls source < 2 ^ 64 - 1 }
     requires sink { K.failed_calls sink < 2 ^ 64 - 1 }
-    ensures { IfOk result (λ e. IsEnded S.failed_calls S.remaining K.failed_calls V.readings
-        K.contents (model_path paths.entry) (test_paths paths.entry) versions source sink e) }
+    ensures { IfOk result (λ e. IsEnded S.calls S.failed_calls S.remaining K.failed_calls V.readings
+        K.contents (model_paths paths.entry) (test_paths paths.entry) versions source sink e) }
 {
     let hands = hands_of(turnstile, workers);
     let ended = attend(rt, turnstile.desk(), hands, paths, versions, source, sink);
@@ -163,8 +164,8 @@ where
     K: ByteSink + Drop,
     requires source { S.failed_calls source < 2 ^ 64 - 1 }
     requires sink { K.failed_calls sink < 2 ^ 64 - 1 }
-    ensures { IfOk result (λ e. IsEnded S.failed_calls S.remaining K.failed_calls V.readings
-        K.contents (model_path paths.entry) (test_paths paths.entry) versions source sink e) }
+    ensures { IfOk result (λ e. IsEnded S.calls S.failed_calls S.remaining K.failed_calls V.readings
+        K.contents (model_paths paths.entry) (test_paths paths.entry) versions source sink e) }
 {
     let turnstile = Turnstile::new(desk);
     let gate = &turnstile;
@@ -176,9 +177,9 @@ where
         || -> Result<Ended<V, S, K>, AllocError>
             requires source { S.failed_calls source < 2 ^ 64 - 1 }
             requires sink { K.failed_calls sink < 2 ^ 64 - 1 }
-            ensures { IfOk result (λ e. IsEnded S.failed_calls S.remaining K.failed_calls V.readings
-                K.contents (model_path paths.entry) (test_paths paths.entry) versions source
-                sink e) }
+            ensures { IfOk result (λ e. IsEnded S.calls S.failed_calls S.remaining K.failed_calls
+                V.readings K.contents (model_paths paths.entry) (test_paths paths.entry) versions
+                source sink e) }
         { attend_workers(rt, gate, workers, paths, versions, source, sink) },
     );
     match worked {
@@ -206,8 +207,8 @@ where
     requires values { opened.values.values ≡ J.shelves }
     requires source { S.failed_calls source < 2 ^ 64 - 1 }
     requires sink { K.failed_calls sink < 2 ^ 64 - 1 }
-    ensures { IfOk result (λ e. IsEnded S.failed_calls S.remaining K.failed_calls V.readings
-        K.contents (model_path paths.entry) (test_paths paths.entry) versions source sink e) }
+    ensures { IfOk result (λ e. IsEnded S.calls S.failed_calls S.remaining K.failed_calls V.readings
+        K.contents (model_paths paths.entry) (test_paths paths.entry) versions source sink e) }
 {
     match DeskSeed::<J, StampedTexts, R>::new(rt, rt.alloc(), opened) {
         Ok(seed) => watch_at(rt, &Desk::new(seed), workers, paths, versions, source, sink),
@@ -215,7 +216,7 @@ where
     }
 }
 
-/// Puts the model and the tests of some files on a desk, settles it, and writes a line for each
+/// Puts the models and the tests of some files on a desk, settles it, and writes a line for each
 /// test and the number of jobs. Then for each line of the source, which names one of the files,
 /// reads the file again, edits what differs, settles the desk and writes the lines that changed and
 /// the number of jobs. So many workers run the jobs, or the calling thread where there are none. It
@@ -225,7 +226,7 @@ where
 /// written.
 pub fn watch<'a, R, V, S, K>(
     rt: &R,
-    model: &'a str,
+    models: &'a [&'a str],
     tests: &'a [&'a str],
     workers: u32,
     versions: V,
@@ -244,12 +245,13 @@ where
     // front of what a run writes up to a line of the source, of the versions that were read first.
     // What was read then is at most one version, or where nothing was written, no more than there
     // are files.
-    ensures { IfOk result (λ e. IsEnded S.failed_calls S.remaining K.failed_calls V.readings
-        K.contents model.now (map (λ t. t.now) tests.now) versions source sink e) }
+    ensures { IfOk result (λ e. IsEnded S.calls S.failed_calls S.remaining K.failed_calls V.readings
+        K.contents (map (λ m. m.now) models.now) (map (λ t. t.now) tests.now) versions source sink
+        e) }
 {
     match OpenedDesk::new(rt.alloc()) {
         Ok(opened) => {
-            let paths = Paths { model, tests };
+            let paths = Paths { models, tests };
             watch_from::<Brand, R, V, S, K>(rt, opened, workers, paths, versions, source, sink)
         }
         Err(_) => Err(AllocError),

@@ -8,31 +8,48 @@ use command_answers::{TextFile, model_fault, model_refusal_lines, test_refusal_l
 use std::alloc::{AllocError, Global};
 use std::io::Write;
 
-/// Hands on the versions of a model and of tests, and tells a writer of each text that is refused,
-/// and of the first fault of a model whose text reads: once, as long as later versions leave it as
-/// it is. What cannot be told is left out.
+/// Hands on the versions of models and of tests, and tells a writer of each text that is refused,
+/// and of the first fault of a model whose text reads: once, as long as later versions of its file
+/// leave it as it is. What cannot be told is left out.
 #[derive(Drop)]
 pub struct VersionTeller<'a, V, W> {
     versions: V,
-    model: &'a str,
+    models: &'a [&'a str],
     tells_tests: bool,
     errors: W,
-    // The lines of the fault of the model that read last, which are none where it has no fault.
-    fault: Vec<u8>,
+    // The lines of the fault of the text of each model that read last, which are none where it has
+    // no fault. It is empty until a text of a model reads.
+    faults: Vec<Vec<u8>>,
+}
+
+// The index of this path among others.
+fn index_of(paths: &[&str], path: &str) -> Option<usize> {
+    for index in 0..paths.len() {
+        if paths[index] == path {
+            return Some(index);
+        }
+    }
+    None
 }
 
 impl<'a, V: Versions, W: Write> VersionTeller<'a, V, W> {
-    /// Has told nothing. The model is the file of this path, any other holds a test, and is told
+    /// Has told nothing. The files of these paths hold models, any other holds a test, and is told
     /// of only where that is wanted.
-    pub fn new(alloc: Global, versions: V, model: &'a str, tells_tests: bool, errors: W) -> Self
+    pub fn new(
+        alloc: Global,
+        versions: V,
+        models: &'a [&'a str],
+        tells_tests: bool,
+        errors: W,
+    ) -> Self
         ensures { result.versions ≡ versions }
     {
         VersionTeller {
             versions,
-            model,
+            models,
             tells_tests,
             errors,
-            fault: Vec::new(alloc),
+            faults: Vec::new(alloc),
         }
     }
 
@@ -42,13 +59,29 @@ impl<'a, V: Versions, W: Write> VersionTeller<'a, V, W> {
         let _ = self.errors.write_all(lines);
     }
 
-    fn tell_fault(&mut self, fault: Vec<u8>)
+    // No fault of a model was told, where none was noted yet.
+    fn begin_faults(&mut self, alloc: Global) -> Result<(), AllocError>
         ensures { self.new.versions ≡ self.old.versions }
     {
-        if fault.as_slice() != self.fault.as_slice() {
-            self.tell(&fault);
+        for _model in self.faults.len()..self.models.len() {
+            self.faults.push(Vec::new(alloc))?;
         }
-        self.fault = fault;
+        Ok(())
+    }
+
+    // Notes the fault of the model of that index. Whether it is another than before.
+    fn note_fault(&mut self, index: usize, fault: &[u8]) -> Result<bool, AllocError>
+        ensures { self.new.versions ≡ self.old.versions }
+    {
+        let Some(last) = self.faults.get_mut(index) else {
+            return Ok(false);
+        };
+        if last.as_slice() == fault {
+            return Ok(false);
+        }
+        last.clear();
+        last.extend_from_slice(fault)?;
+        Ok(true)
     }
 
     fn tell_test(&mut self, alloc: Global, file: &TextFile<'_>) -> Result<(), AllocError>
@@ -59,7 +92,12 @@ impl<'a, V: Versions, W: Write> VersionTeller<'a, V, W> {
         Ok(())
     }
 
-    fn tell_model(&mut self, alloc: Global, file: &TextFile<'_>) -> Result<(), AllocError>
+    fn tell_model(
+        &mut self,
+        alloc: Global,
+        index: usize,
+        file: &TextFile<'_>,
+    ) -> Result<(), AllocError>
         ensures { self.new.versions ≡ self.old.versions }
     {
         let refusal = model_refusal_lines(alloc, file)?;
@@ -67,19 +105,21 @@ impl<'a, V: Versions, W: Write> VersionTeller<'a, V, W> {
             self.tell(&refusal);
             return Ok(());
         }
-        self.tell_fault(model_fault(alloc, file)?);
+        let fault = model_fault(alloc, file)?;
+        self.begin_faults(alloc)?;
+        if self.note_fault(index, &fault)? {
+            self.tell(&fault);
+        }
         Ok(())
     }
 
     fn tell_of(&mut self, alloc: Global, file: &TextFile<'_>) -> Result<(), AllocError>
         ensures { self.new.versions ≡ self.old.versions }
     {
-        if file.path == self.model {
-            self.tell_model(alloc, file)
-        } else if self.tells_tests {
-            self.tell_test(alloc, file)
-        } else {
-            Ok(())
+        match index_of(self.models, file.path) {
+            Some(index) => self.tell_model(alloc, index, file),
+            None if self.tells_tests => self.tell_test(alloc, file),
+            None => Ok(()),
         }
     }
 }

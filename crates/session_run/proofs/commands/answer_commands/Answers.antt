@@ -3,7 +3,8 @@ use Rattle.std.proofs.lemmas.Result.{err_from_is_err_and}
 use Rattle.session_script.specs.Reading.{waiting_in, left_to, turns_of, work_of, IsNextCommand}
 use Rattle.session_script.specs.declared.command.Command.{Command}
 use Rattle.bench_texts.specs.Held.{texts_of}
-use Rattle.session_run.proofs.Sessions.{begins, ended, read_fails, reply_fails, goes_on, read_refused, starts_paid, paid_on}
+use Rattle.session_run.proofs.Sessions.{begins, ended, read_fails, reply_fails, goes_on, read_refused, starts_called, starts_paid, paid_on}
+use Rattle.session_script.proofs.Calls.{called_on}
 use Rattle.session_run.proofs.commands.answer_commands.Goals as goal
 
 pub commands-init : goal.commands-init
@@ -12,6 +13,9 @@ commands-init g c = record {
       begins (g.S.ByteSource.remaining c.args.source.now) (g.K.ByteSink.contents c.args.sink.now)
       (waiting_in c.new-script.result) (texts_of c.args.session.texts) c.new-script.ensures.waiting
       c.requires.texts;
+  called =
+      starts_called (turns_of c.new-script.result) (g.S.ByteSource.calls c.args.source.now)
+      c.new-script.ensures.turns;
   paid =
       starts_paid (turns_of c.new-script.result) (g.S.ByteSource.remaining c.args.source.now)
       c.new-script.ensures.turns;
@@ -37,9 +41,10 @@ pub returns-in_err-read-clause-reads : goal.returns-in_err-read-clause-reads
 returns-in_err-read-clause-reads g c = (
   λ e.
       let p = err_from_is_err_and c.from_residual.result c.from_residual.ensures.1 in
-      read_refused (turns_of c.commands.script) _ _ _ (g.S.ByteSource.remaining c.args.source.now)
+      read_refused (turns_of c.commands.script) _ _ _ _ _ _
+      (g.S.ByteSource.remaining c.args.source.now)
       (g.S.ByteSource.remaining c.commands.source) c.commands.invariant.paid
-      c.commands.invariant.reads (c.in_err-read.ensures.read (cc (p.1, p.2))),
+      c.commands.invariant.called c.commands.invariant.reads (c.in_err-read.ensures.read (cc (p.1, p.2))),
   λ ne.
       let p = err_from_is_err_and c.from_residual.result c.from_residual.ensures.1 in
       c.in_err-read.ensures.same (λ e. ne (cc (p.1, p.2))) ∙ c.commands.invariant.reads,
@@ -132,6 +137,11 @@ commands-preserved g c =
           (subst (λ (o : Option Command). IsNextCommand now next o) c.in-Some.is c.in_ok-read.ensures.next)
           c.in_ok-answer-in-Some.ensures.written (ap (λ (b : Bool). c.commands.is_refused || b)
           c.is_refused-is_refused.ensures);
+      called =
+          called_on 16777216 (turns_of c.commands.script) (turns_of c.read_command.new.script)
+          (g.S.ByteSource.calls c.args.source.now) (g.S.ByteSource.calls c.commands.source)
+          (g.S.ByteSource.calls c.read_command.new.source) c.commands.invariant.called
+          c.in_ok-read.ensures.called;
       paid =
           paid_on 16777216 (turns_of c.commands.script) (turns_of c.read_command.new.script)
           (g.S.ByteSource.remaining c.args.source.now) (g.S.ByteSource.remaining c.commands.source)

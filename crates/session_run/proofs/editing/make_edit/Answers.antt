@@ -1,6 +1,7 @@
 use Rattle.std.proofs.Common.{rules}
 use Rattle.bench_texts.specs.Held.{texts_of}
 use Rattle.session_run.proofs.Edits.{accepted_ready}
+use Rattle.session_run.proofs.Viewers.{disputed}
 use Rattle.session_run.proofs.editing.make_edit.Goals as goal
 
 pub returns-clause-ready : goal.returns-clause-ready
@@ -10,3 +11,8 @@ returns-clause-ready g c =
     (texts_of c.answer_edit.new.texts) c.in-Ok.answer
     c.own_edits_are_known.ensures c.requires.ready
     c.in_ok-tell_desk.ensures.told c.in-Ok.ensures.edited (search rules) (search rules)
+
+pub returns-in_err-tell_desk-clause-shared : goal.returns-in_err-tell_desk-clause-shared
+returns-in_err-tell_desk-clause-shared g c is =
+    disputed c.args.edit c.args.session.now.made c.args.session.now.viewer _
+    c.in_err-tell_desk.ensures.untold (search rules)

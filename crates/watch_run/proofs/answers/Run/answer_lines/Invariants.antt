@@ -1,6 +1,7 @@
 use Rattle.std.proofs.Common.{◌≡◌, [], true}
+use Rattle.session_script.specs.Calls.{HasCalled}
 use Rattle.session_script.specs.Reading.{IsPaid}
-use Rattle.watch_run.specs.Edits.{model_path, test_paths}
+use Rattle.watch_run.specs.Edits.{model_paths, test_paths}
 use Rattle.watch_run.specs.Boards.{KnowsItsTexts, standing}
 use Rattle.watch_run.specs.Runs.{HasLineAnswers, AreOfTurn}
 use Rattle.watch_run.proofs.answers.Run.answer_lines.Given as goal
@@ -19,8 +20,10 @@ invariant-loop-turn g l =
       paths : l.self.paths ≡ l.initial.self.paths;
       reads : reads l.source ≡ reads l.initial.source;
       writes : calls l.sink ≡ calls l.initial.sink;
+      called : HasCalled l._turn (g.S.ByteSource.calls l.initial.source)
+          (g.S.ByteSource.calls l.source);
       paid : IsPaid l._turn 0 (remaining l.initial.source) (remaining l.source);
-      answers : HasLineAnswers (model_path l.initial.self.paths) (test_paths l.initial.self.paths)
+      answers : HasLineAnswers (model_paths l.initial.self.paths) (test_paths l.initial.self.paths)
           (AreOfTurn true [] l.line.items (remaining l.initial.source) (remaining l.source))
           (standing l.initial.self) (standing l.self)
           (readings l.initial.versions) (readings l.versions) (contents l.initial.sink)

@@ -1,5 +1,5 @@
 use Rattle.std.proofs.Common.{◌≡◌, take}
-use Rattle.watch_run.specs.Edits.{model_path, test_paths}
+use Rattle.watch_run.specs.Edits.{model_paths, test_paths}
 use Rattle.watch_run.specs.Boards.{KnowsItsTexts, standing}
 use Rattle.watch_run.specs.Runs.{HasLineAnswers, AreIn}
 use Rattle.watch_run.proofs.answers.Run.take_bytes.Given as goal
@@ -14,7 +14,7 @@ invariant-loop-byte g l =
       ready : KnowsItsTexts g.A.Author.seen l.self.watched;
       paths : l.self.paths ≡ l.initial.self.paths;
       writes : calls l.sink ≡ calls l.initial.sink;
-      answers : HasLineAnswers (model_path l.initial.self.paths) (test_paths l.initial.self.paths)
+      answers : HasLineAnswers (model_paths l.initial.self.paths) (test_paths l.initial.self.paths)
           (AreIn l.initial.line.items (take l.byte-index l.bytes) l.line.items)
           (standing l.initial.self) (standing l.self)
           (readings l.initial.versions) (readings l.versions) (contents l.initial.sink)
