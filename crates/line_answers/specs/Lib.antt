@@ -1,0 +1,4 @@
+pub mod Results
+pub mod Reports
+pub mod Evaluations
+pub mod Added

@@ -1,8 +1,9 @@
 //! Tables, differences and evaluations of files as lines for programs. `outcome_lines` says what
-//! each line is.
+//! each line is. Read specs/Results first, then specs/Reports and specs/Evaluations.
 #![tactic(auto)]
 
 mod evaluation;
+pub mod laws;
 mod refusal;
 mod report;
 

@@ -1,5 +1,8 @@
 //! A refused text as a record.
 
+ghost use Rattle.std.specs.Prelude.{◌≡◌, IfOk};
+ghost use Rattle.line_answers.specs.Results as results;
+
 use command_answers::TextFile;
 use fault_lines::position_of;
 use outcome_lines::TextRefusal;
@@ -7,7 +10,9 @@ use std::alloc::{AllocError, Global};
 use text_values::put_decimal;
 
 /// The letter and the number of a rule. Errors: want of memory.
-pub fn rule_text(alloc: Global, letter: u8, number: u8) -> Result<Vec<u8>, AllocError> {
+pub fn rule_text(alloc: Global, letter: u8, number: u8) -> Result<Vec<u8>, AllocError>
+    ensures { IfOk result (λ v. v.items ≡ results.rule_text letter number) }
+{
     let mut rule = Vec::new(alloc);
     rule.push(letter)?;
     put_decimal(&mut rule, u64::from(number))?;
@@ -15,7 +20,9 @@ pub fn rule_text(alloc: Global, letter: u8, number: u8) -> Result<Vec<u8>, Alloc
 }
 
 /// A file that is refused by this rule at this offset.
-pub fn refusal_of<'a>(file: &'a TextFile<'a>, rule: &'a [u8], offset: usize) -> TextRefusal<'a> {
+pub fn refusal_of<'a>(file: &'a TextFile<'a>, rule: &'a [u8], offset: usize) -> TextRefusal<'a>
+    ensures { result ≡ results.refused_file file.now rule.now offset }
+{
     let position = position_of(&file.text, offset);
     TextRefusal {
         path: file.path.as_bytes(),

@@ -1,5 +1,16 @@
 //! Tables and differences of files, as lines for programs.
 
+ghost use Rattle.std.specs.Prelude.{◌≡◌, ◌++◌, ◌∷◌, [], IfOk, OnOk, List, length, map};
+ghost use Rattle.std.specs.List.{AllZip};
+ghost use Rattle.litmus_tokens.specs.Numbers.{number_of as test_rule_number};
+ghost use Rattle.outcome_lines.specs.Records as records;
+ghost use Rattle.outcome_lines.specs.Records.{model_outcome_of, test_of};
+ghost use Rattle.command_answers.specs.Files.{AddsFault};
+ghost use Rattle.line_answers.specs.Results.{rule_text, refused_file, IsOutcomeUnder};
+ghost use Rattle.line_answers.specs.Reports.{lines_of, of_two, lines_said, IsLineReport};
+ghost use Rattle.line_answers.specs.Added as added;
+ghost use Rattle.line_answers.specs.Added.{AreJudges, AddsResult, AddsResults};
+
 use crate::refusal::{refusal_of, rule_text};
 use binding_graph::{ModelFault, Resolved};
 use command_answers::{NamedModel, ReadModels, Report, TextFile, put_fault, read_models};
@@ -26,7 +37,9 @@ pub enum Lines {
     DifferenceJson,
 }
 
-fn model_texts(alloc: Global, models: &[NamedModel]) -> Result<Vec<&ModelText>, AllocError> {
+fn model_texts(alloc: Global, models: &[NamedModel]) -> Result<Vec<&ModelText>, AllocError>
+    ensures { IfOk result (λ v. map (λ t. t.now) v.items ≡ map (λ m. m.model) models.now) }
+{
     let mut texts = Vec::with_capacity(alloc, models.len())?;
     for model in models {
         texts.push(&model.model)?;
@@ -39,7 +52,10 @@ fn put_result(
     text: &mut Vec<u8>,
     lines: Lines,
     given: &TestResult<'_>,
-) -> Result<(), AllocError> {
+) -> Result<(), AllocError>
+    ensures { OnOk result
+        (text.new.items ≡ text.old.items ++ lines_of lines (test_of given.now ∷ [])) }
+{
     match lines {
         Lines::TableTab => put_test_tab(text, given),
         Lines::TableJson => put_test_json(alloc, text, given),
@@ -53,12 +69,16 @@ fn named_outcomes<'a>(
     alloc: Global,
     models: &'a [NamedModel],
     outcomes: &'a [Outcome],
-) -> Result<Vec<ModelOutcome<'a>>, AllocError> {
+) -> Result<Vec<ModelOutcome<'a>>, AllocError>
+    requires { length models.now ≡ length outcomes.now }
+    ensures { IfOk result
+        (λ v. map model_outcome_of v.items ≡ added.named_outcomes models.now outcomes.now) }
+{
     let mut named = Vec::with_capacity(alloc, models.len())?;
-    for (model, outcome) in models.iter().zip(outcomes.iter()) {
+    for (index, model) in models.iter().enumerate() {
         named.push(ModelOutcome {
             model: model.name.as_bytes(),
-            outcome,
+            outcome: &outcomes[index],
         })?;
     }
     Ok(named)
@@ -78,7 +98,13 @@ fn put_tested(
     file: &TextFile<'_>,
     test: &Test,
     text: &mut Vec<u8>,
-) -> Result<(), AllocError> {
+) -> Result<(), AllocError>
+    requires { AreJudges judges.now.models.now judges.now.resolved.now }
+    ensures { OnOk result ((outcomes : List records.ModelOutcome)
+        × AllZip (IsOutcomeUnder test.now) judges.now.models.now outcomes
+        × (text.new.items ≡ text.old.items ++ lines_of judges.now.lines
+        (records.Tested file.now.path.now test.now.name outcomes ∷ []))) }
+{
     let row = outcomes_of(alloc, test, judges.resolved)?;
     let outcomes = named_outcomes(alloc, judges.models, &row.outcomes)?;
     let tested = TestResult::Tested(file.path.as_bytes(), test.name.as_bytes(), &outcomes);
@@ -92,7 +118,13 @@ fn put_refused(
     rule: LitmusRule,
     offset: usize,
     report: &mut Report,
-) -> Result<(), AllocError> {
+) -> Result<(), AllocError>
+    ensures { OnOk result ((report.new.text.items ≡ report.old.text.items ++ lines_of lines
+        (records.Refused (refused_file file.now (rule_text 76 (test_rule_number rule)) offset)
+        ∷ []))
+        × AddsFault report.old.faults.items report.new.faults.items file.now.path.now
+        file.now.text.items 76 (test_rule_number rule) offset) }
+{
     put_fault(&mut report.faults, file, b'L', rule.number(), offset)?;
     let rule = rule_text(alloc, b'L', rule.number())?;
     let refusal = refusal_of(file, &rule, offset);
@@ -109,7 +141,11 @@ fn put_file(
     judges: &Judges<'_>,
     file: &TextFile<'_>,
     report: &mut Report,
-) -> Result<(), AllocError> {
+) -> Result<(), AllocError>
+    requires { AreJudges judges.now.models.now judges.now.resolved.now }
+    ensures { OnOk result (AddsResult judges.now.lines judges.now.models.now file.now report.old
+        report.new) }
+{
     match read_test(alloc, &file.text) {
         Ok(test) => put_tested(alloc, judges, file, &test, &mut report.text),
         Err(LitmusFault::OutOfMemory(e)) => Err(e),
@@ -125,7 +161,11 @@ fn put_files<L: ProgressListener>(
     files: &[TextFile<'_>],
     report: &mut Report,
     listener: &mut L,
-) -> Result<(), AllocError> {
+) -> Result<(), AllocError>
+    requires { AreJudges judges.now.models.now judges.now.resolved.now }
+    ensures { OnOk result (AddsResults judges.now.lines judges.now.models.now files.now report.old
+        report.new) }
+{
     let count = judges.models.len();
     tell_rows(listener, 0, files.len(), count);
     for (index, file) in files.iter().enumerate() {
@@ -135,16 +175,23 @@ fn put_files<L: ProgressListener>(
     Ok(())
 }
 
-fn is_difference(lines: Lines) -> bool {
-    matches!(lines, Lines::DifferenceTab | Lines::DifferenceJson)
-}
-
-// No lines where a difference is not of two models.
-fn text_told(alloc: Global, lines: Lines, models: &[NamedModel], text: Vec<u8>) -> Vec<u8> {
-    if is_difference(lines) && models.len() != 2 {
+// No lines where the models are not two.
+fn text_of_two(alloc: Global, models: &[NamedModel], text: Vec<u8>) -> Vec<u8>
+    ensures { result.items ≡ of_two models.now text.items }
+{
+    if models.len() != 2 {
         return Vec::new(alloc);
     }
     text
+}
+
+fn text_told(alloc: Global, lines: Lines, models: &[NamedModel], text: Vec<u8>) -> Vec<u8>
+    ensures { result.items ≡ lines_said lines models.now text.items }
+{
+    match lines {
+        Lines::TableTab | Lines::TableJson => text,
+        Lines::DifferenceTab | Lines::DifferenceJson => text_of_two(alloc, models, text),
+    }
 }
 
 /// The tests of some files under the models of others, as lines for programs: those of each file
@@ -156,7 +203,10 @@ pub fn line_report<L: ProgressListener>(
     models: &[TextFile<'_>],
     tests: &[TextFile<'_>],
     listener: &mut L,
-) -> Result<Report, AllocError> {
+) -> Result<Report, AllocError>
+    ensures { IfOk result
+        (λ r. IsLineReport lines models.now tests.now r.text.items r.faults.items) }
+{
     let ReadModels { models, faults } = read_models(alloc, models)?;
     let texts = model_texts(alloc, &models)?;
     let resolved = resolved_models(alloc, &texts)?;

@@ -10,6 +10,7 @@ use Rattle.verdict.specs.declared.answer.Observation.{Observation}
 use Rattle.verdict.specs.declared.answer.Outcome.{Outcome}
 use Rattle.verdict.specs.declared.answer.OutcomeResult.{OutcomeResult}
 use Rattle.verdict.specs.declared.answer.OutcomeResult.TheVariants as results
+use Rattle.verdict.specs.declared.answer.Refusal.{Refusal}
 use Rattle.outcome_texts.specs.Cells.{cell_field}
 use Rattle.outcome_texts.specs.Differences.{Pair, SharedState, shared_states, has_other_count, is_told_apart}
 use Rattle.outcome_texts.specs.Log.{observation_word, refusal_text}
@@ -47,24 +48,62 @@ observation_members e = word_member e.observation ++ number_members e.positive e
 unfoldable pub refusal_member : List ℕ → List ℕ
 refusal_member rule = codes ",\"refused\":" ++ string_text rule
 
-abbrev pub result_members : OutcomeResult → List ℕ
-result_members (results.Refused refusal) = refusal_member (refusal_text refusal)
-result_members (results.Evaluated e) = observation_members e
-
 unfoldable pub refused_line : TextRefusal → List ℕ
 refused_line r =
     path_front r.path ++ refusal_member r.rule ++ codes ",\"offset\":" ++ decimal r.offset
     ++ codes ",\"line\":" ++ decimal r.line ++ codes ",\"column\":" ++ decimal r.column
     ++ codes "}\n"
 
+-- ---- an outcome
+
+unfoldable pub kind_text : Quantifier → List ℕ
+kind_text Exists = codes "exists"
+kind_text NotExists = codes "~exists"
+kind_text Forall = codes "forall"
+
+abbrev pub all_but_last : List ℕ → List ℕ
+all_but_last [] = []
+all_but_last (b ∷ []) = []
+all_but_last (b ∷ c ∷ bs) = b ∷ all_but_last (c ∷ bs)
+
+-- what stands in the parentheses of a printed condition
+abbrev pub proposition_text : List ℕ → List ℕ
+proposition_text condition = all_but_last (after_first (λ b. b == 40) condition)
+
+unfoldable pub state_object : CountedState → List ℕ
+state_object c =
+    codes "{\"state\":" ++ string_text c.text ++ codes ",\"count\":" ++ decimal c.count
+    ++ codes ",\"holds\":" ++ bool_text c.holds ++ codes "}"
+
+unfoldable pub condition_members : Quantifier → List ℕ → List ℕ
+condition_members kind condition =
+    codes ",\"kind\":" ++ string_text (kind_text kind)
+    ++ codes ",\"condition\":" ++ string_text (proposition_text condition)
+
+unfoldable pub evaluation_members : Evaluation → List ℕ
+evaluation_members e =
+    codes ",\"ok\":" ++ bool_text e.ok ++ observation_members e
+    ++ codes ",\"flags\":" ++ array_text (map string_text e.flags)
+    ++ codes ",\"states\":" ++ array_text (map state_object e.states)
+
+unfoldable pub refused_outcome_line : Subject → Refusal → List ℕ
+refused_outcome_line s refusal =
+    subject_front s ++ refusal_member (refusal_text refusal) ++ codes "}\n"
+
+abbrev pub evaluated_line : Subject → Outcome → OutcomeResult → List ℕ
+evaluated_line s o (results.Refused refusal) = refused_outcome_line s refusal
+evaluated_line s o (results.Evaluated e) =
+    subject_front s ++ condition_members o.kind o.condition ++ evaluation_members e ++ codes "}\n"
+
+abbrev pub eval_lines : Subject → Outcome → List ℕ
+eval_lines s o = evaluated_line s o o.result
+
 -- ---- table
 
-unfoldable pub result_line : Subject → OutcomeResult → List ℕ
-result_line s result = subject_front s ++ result_members result ++ codes "}\n"
-
+-- under each model the line of its outcome
 abbrev pub outcome_line : List ℕ → List ℕ → ModelOutcome → List ℕ
 outcome_line path test o =
-    result_line (record { path = path; test = test; model = o.model }) o.outcome.result
+    eval_lines (record { path = path; test = test; model = o.model }) o.outcome
 
 abbrev pub json_test_lines : TestResult → List ℕ
 json_test_lines (Refused refusal) = refused_line refusal
@@ -108,43 +147,3 @@ json_pair_lines (Tested path test outcomes) =
 
 abbrev pub json_difference_lines : List TestResult → List ℕ
 json_difference_lines tests = flat_map json_pair_lines tests
-
--- ---- eval
-
-unfoldable pub kind_text : Quantifier → List ℕ
-kind_text Exists = codes "exists"
-kind_text NotExists = codes "~exists"
-kind_text Forall = codes "forall"
-
-abbrev pub all_but_last : List ℕ → List ℕ
-all_but_last [] = []
-all_but_last (b ∷ []) = []
-all_but_last (b ∷ c ∷ bs) = b ∷ all_but_last (c ∷ bs)
-
--- what stands in the parentheses of a printed condition
-abbrev pub proposition_text : List ℕ → List ℕ
-proposition_text condition = all_but_last (after_first (λ b. b == 40) condition)
-
-unfoldable pub state_object : CountedState → List ℕ
-state_object c =
-    codes "{\"state\":" ++ string_text c.text ++ codes ",\"count\":" ++ decimal c.count
-    ++ codes ",\"holds\":" ++ bool_text c.holds ++ codes "}"
-
-unfoldable pub condition_members : Quantifier → List ℕ → List ℕ
-condition_members kind condition =
-    codes ",\"kind\":" ++ string_text (kind_text kind)
-    ++ codes ",\"condition\":" ++ string_text (proposition_text condition)
-
-unfoldable pub evaluation_members : Evaluation → List ℕ
-evaluation_members e =
-    codes ",\"ok\":" ++ bool_text e.ok ++ observation_members e
-    ++ codes ",\"flags\":" ++ array_text (map string_text e.flags)
-    ++ codes ",\"states\":" ++ array_text (map state_object e.states)
-
-abbrev pub evaluated_line : Subject → Outcome → OutcomeResult → List ℕ
-evaluated_line s o (results.Refused refusal) = result_line s (results.Refused refusal)
-evaluated_line s o (results.Evaluated e) =
-    subject_front s ++ condition_members o.kind o.condition ++ evaluation_members e ++ codes "}\n"
-
-abbrev pub eval_lines : Subject → Outcome → List ℕ
-eval_lines s o = evaluated_line s o o.result

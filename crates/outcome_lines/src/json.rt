@@ -4,7 +4,7 @@ ghost use Rattle.std.specs.Prelude.{◌≡◌, ◌++◌, ◌==◌, OnOk, map};
 ghost use Rattle.std.specs.List.{flat_map, after_first, position};
 ghost use Rattle.json_text.specs.Strings.{string_text};
 ghost use Rattle.outcome_lines.specs.Records.{model_outcome_of, test_of};
-ghost use Rattle.outcome_lines.specs.Json.{array_text, result_members, result_line, outcome_line, json_test_lines, kind_text, proposition_text, state_object, condition_members, evaluation_members, evaluated_line, eval_lines};
+ghost use Rattle.outcome_lines.specs.Json.{array_text, outcome_line, json_test_lines, kind_text, proposition_text, state_object, condition_members, evaluation_members, refused_outcome_line, eval_lines};
 
 use crate::json_parts::{
     bool_text, put_observation_members, put_refusal_member, put_refused_line, put_subject_front,
@@ -14,85 +14,7 @@ use json_text::{put_number, put_string};
 use outcome_texts::put_refusal;
 use std::alloc::{AllocError, Global};
 use text_values::{Name, Quantifier, put_between, put_bytes};
-use verdict::{CountedState, Evaluation, Outcome, OutcomeResult};
-
-fn put_result(alloc: Global, text: &mut Vec<u8>, given: &OutcomeResult) -> Result<(), AllocError>
-    ensures { OnOk result (text.new.items ≡ text.old.items ++ result_members given.now) }
-{
-    match given {
-        OutcomeResult::Refused(refusal) => {
-            let mut rule = Vec::new(alloc);
-            put_refusal(&mut rule, *refusal)?;
-            put_refusal_member(text, &rule)
-        }
-        OutcomeResult::Evaluated(found) => put_observation_members(text, found),
-    }
-}
-
-#[tactic(auto, unfolding(crate::specs::Json::result_line))]
-fn put_result_line(
-    alloc: Global,
-    text: &mut Vec<u8>,
-    subject: &Subject<'_>,
-    given: &OutcomeResult,
-) -> Result<(), AllocError>
-    ensures { OnOk result (text.new.items ≡ text.old.items ++ result_line subject.now given.now) }
-{
-    put_subject_front(text, subject)?;
-    put_result(alloc, text, given)?;
-    put_bytes(text, b"}\n")
-}
-
-fn put_outcome<'a>(
-    alloc: Global,
-    text: &mut Vec<u8>,
-    path: &'a [u8],
-    test: &'a [u8],
-    given: &ModelOutcome<'a>,
-) -> Result<(), AllocError>
-    ensures { OnOk result (text.new.items
-        ≡ text.old.items ++ outcome_line path.now test.now (model_outcome_of given.now)) }
-{
-    let subject = Subject {
-        path,
-        test,
-        model: given.model,
-    };
-    let outcome = given.outcome;
-    put_result_line(alloc, text, &subject, &outcome.result)
-}
-
-fn put_outcomes<'a>(
-    alloc: Global,
-    text: &mut Vec<u8>,
-    path: &'a [u8],
-    test: &'a [u8],
-    outcomes: &'a [ModelOutcome<'a>],
-) -> Result<(), AllocError>
-    ensures { OnOk result (text.new.items
-        ≡ text.old.items
-        ++ flat_map (λ o. outcome_line path.now test.now (model_outcome_of o)) outcomes.now) }
-{
-    for given in outcomes {
-        put_outcome(alloc, text, path, test, given)?;
-    }
-    Ok(())
-}
-
-/// Appends the lines of a test in a table: one for each model, or the one of a refused text.
-/// Errors: want of memory.
-pub fn put_test_json(
-    alloc: Global,
-    text: &mut Vec<u8>,
-    test: &TestResult<'_>,
-) -> Result<(), AllocError>
-    ensures { OnOk result (text.new.items ≡ text.old.items ++ json_test_lines (test_of test.now)) }
-{
-    match test {
-        TestResult::Refused(refusal) => put_refused_line(text, refusal),
-        TestResult::Tested(path, name, outcomes) => put_outcomes(alloc, text, path, name, outcomes),
-    }
-}
+use verdict::{CountedState, Evaluation, Outcome, OutcomeResult, Refusal};
 
 #[tactic(auto, unfolding(crate::specs::Json::kind_text))]
 fn kind_text(kind: Quantifier) -> &'static [u8]
@@ -193,6 +115,23 @@ fn put_evaluation(text: &mut Vec<u8>, found: &Evaluation) -> Result<(), AllocErr
     put_states(text, &found.states)
 }
 
+#[tactic(auto, unfolding(crate::specs::Json::refused_outcome_line))]
+fn put_refused_outcome(
+    alloc: Global,
+    text: &mut Vec<u8>,
+    subject: &Subject<'_>,
+    refusal: Refusal,
+) -> Result<(), AllocError>
+    ensures { OnOk result (text.new.items
+        ≡ text.old.items ++ refused_outcome_line subject.now refusal) }
+{
+    let mut rule = Vec::new(alloc);
+    put_refusal(&mut rule, refusal)?;
+    put_subject_front(text, subject)?;
+    put_refusal_member(text, &rule)?;
+    put_bytes(text, b"}\n")
+}
+
 /// Appends the line of one evaluation: the condition, the observation, the flags and the states
 /// with their counts; or that of the refusal. Errors: want of memory.
 pub fn put_eval_json(
@@ -204,12 +143,62 @@ pub fn put_eval_json(
     ensures { OnOk result (text.new.items ≡ text.old.items ++ eval_lines subject.now outcome.now) }
 {
     match &outcome.result {
-        OutcomeResult::Refused(_) => put_result_line(alloc, text, subject, &outcome.result),
+        OutcomeResult::Refused(refusal) => put_refused_outcome(alloc, text, subject, *refusal),
         OutcomeResult::Evaluated(found) => {
             put_subject_front(text, subject)?;
             put_condition(text, outcome.kind, &outcome.condition)?;
             put_evaluation(text, found)?;
             put_bytes(text, b"}\n")
         }
+    }
+}
+
+fn put_outcome<'a>(
+    alloc: Global,
+    text: &mut Vec<u8>,
+    path: &'a [u8],
+    test: &'a [u8],
+    given: &ModelOutcome<'a>,
+) -> Result<(), AllocError>
+    ensures { OnOk result (text.new.items
+        ≡ text.old.items ++ outcome_line path.now test.now (model_outcome_of given.now)) }
+{
+    let subject = Subject {
+        path,
+        test,
+        model: given.model,
+    };
+    put_eval_json(alloc, text, &subject, given.outcome)
+}
+
+fn put_outcomes<'a>(
+    alloc: Global,
+    text: &mut Vec<u8>,
+    path: &'a [u8],
+    test: &'a [u8],
+    outcomes: &'a [ModelOutcome<'a>],
+) -> Result<(), AllocError>
+    ensures { OnOk result (text.new.items
+        ≡ text.old.items
+        ++ flat_map (λ o. outcome_line path.now test.now (model_outcome_of o)) outcomes.now) }
+{
+    for given in outcomes {
+        put_outcome(alloc, text, path, test, given)?;
+    }
+    Ok(())
+}
+
+/// Appends the lines of a test in a table: one for each model, or the one of a refused text.
+/// Errors: want of memory.
+pub fn put_test_json(
+    alloc: Global,
+    text: &mut Vec<u8>,
+    test: &TestResult<'_>,
+) -> Result<(), AllocError>
+    ensures { OnOk result (text.new.items ≡ text.old.items ++ json_test_lines (test_of test.now)) }
+{
+    match test {
+        TestResult::Refused(refusal) => put_refused_line(text, refusal),
+        TestResult::Tested(path, name, outcomes) => put_outcomes(alloc, text, path, name, outcomes),
     }
 }

@@ -30,7 +30,7 @@ fn page_of(
         left_out: known.budget.left_out,
     };
     let mut page = Vec::new(alloc);
-    put_page(alloc, &mut page, &models, &tests, extras)?;
+    put_page(alloc, &mut page, &models, &tests, &extras)?;
     Ok(page)
 }
 

@@ -1,98 +1,46 @@
 //! What is said of each test.
 
-use crate::around::open_class;
-use crate::groups::{groups_of, has_other, put_letter};
-use crate::marks::{keys_text, numbered, put_result, result_class, test_class};
+ghost use Rattle.std.specs.Prelude.{◌≡◌, ◌++◌, IfOk, OnOk, codes, map};
+ghost use Rattle.std.specs.List.{flat_map};
+ghost use Rattle.html_text.specs.Elements.{open_tag, element};
+ghost use Rattle.report_details.specs.Marks.{class_of};
+ghost use Rattle.report_details.specs.Details.{chip_class, chip, chip_of, chips, flag_words, flag_text, result_flags, flags_text, condition_part, first_condition, text_part, two_parts, body_text, details_class, details_attributes, test_attributes, summary_text, test_in_groups, grouped_test, test_details, tests_details};
+
+use crate::around::{numbered, open_class};
+use crate::figures::put_figures;
+use crate::groups::{groups_of, has_other, keys_text};
+use crate::marks::{put_result, result_class, test_class};
+use crate::names::{firsts_of, group_text};
 use crate::reported::{ReportedModel, ReportedTest};
-use crate::states::{all_states, count_in, is_counted_apart};
+use crate::state_table::put_states;
 use html_text::{Attribute, put_close, put_element, put_escaped, put_open};
 use std::alloc::{AllocError, Global};
-use text_values::{Name, put_between, put_bytes, put_decimal};
-use verdict::{CountedState, Outcome, OutcomeResult};
+use text_values::{Name, put_bytes};
+use verdict::{Outcome, OutcomeResult};
 
-// The names of the models of a group.
-fn names_in<'a>(
-    alloc: Global,
-    models: &'a [ReportedModel<'a>],
-    groups: &[usize],
-    group: usize,
-) -> Result<Vec<&'a [u8]>, AllocError> {
-    let mut names = Vec::new(alloc);
-    for (number, model) in models.iter().enumerate() {
-        match groups.get(number) {
-            None => return Ok(names),
-            Some(other) => {
-                if *other == group {
-                    names.push(model.name)?;
-                }
-            }
-        }
-    }
-    Ok(names)
+#[tactic(auto, unfolding(crate::specs::Details::chip_class))]
+fn chip_class(alloc: Global, found: &OutcomeResult) -> Result<Vec<u8>, AllocError>
+    ensures { IfOk result (λ v. v.items ≡ chip_class found.now) }
+{
+    let mut class = Vec::from_slice(alloc, b"chip ")?;
+    put_bytes(&mut class, result_class(found))?;
+    Ok(class)
 }
 
-fn joined_names(alloc: Global, names: &[&[u8]]) -> Result<Vec<u8>, AllocError> {
-    let mut text = Vec::new(alloc);
-    for (index, name) in names.iter().enumerate() {
-        put_between(&mut text, b", ", index)?;
-        put_bytes(&mut text, *name)?;
-    }
-    Ok(text)
-}
-
-fn count_of_models(alloc: Global, count: usize) -> Result<Vec<u8>, AllocError> {
-    let mut text = Vec::new(alloc);
-    put_decimal(&mut text, count as u64)?;
-    put_bytes(&mut text, b" models")?;
-    Ok(text)
-}
-
-fn names_text(alloc: Global, names: &[&[u8]]) -> Result<Vec<u8>, AllocError> {
-    if names.len() > 6 {
-        count_of_models(alloc, names.len())
-    } else {
-        joined_names(alloc, names)
-    }
-}
-
-// Which models are of a group.
-fn group_text(
-    alloc: Global,
-    models: &[ReportedModel<'_>],
-    groups: &[usize],
-    group: usize,
-) -> Result<Vec<u8>, AllocError> {
-    let names = names_in(alloc, models, groups, group)?;
-    names_text(alloc, &names)
-}
-
-// The first model of each group.
-fn firsts_of(alloc: Global, groups: &[usize]) -> Result<Vec<usize>, AllocError> {
-    let mut firsts = Vec::new(alloc);
-    for (number, group) in groups.iter().enumerate() {
-        if *group == number {
-            firsts.push(number)?;
-        }
-    }
-    Ok(firsts)
-}
-
+#[tactic(auto, unfolding(crate::specs::Details::chip, html_text::specs::Elements::element))]
 fn put_chip(
     alloc: Global,
     text: &mut Vec<u8>,
     group: &[u8],
-    outcome: &Outcome,
-) -> Result<(), AllocError> {
-    let mut class = Vec::from_slice(alloc, b"chip ")?;
-    put_bytes(&mut class, result_class(&outcome.result))?;
-    let class = Attribute {
-        name: b"class",
-        value: &class,
-    };
-    put_open(text, b"span", &[class])?;
+    found: &OutcomeResult,
+) -> Result<(), AllocError>
+    ensures { OnOk result (text.new.items ≡ text.old.items ++ chip group.now found.now) }
+{
+    let class = chip_class(alloc, found)?;
+    open_class(text, b"span", &class)?;
     put_escaped(text, group)?;
     put_escaped(text, b": ")?;
-    put_result(alloc, text, &outcome.result)?;
+    put_result(alloc, text, found)?;
     put_close(text, b"span")
 }
 
@@ -104,12 +52,15 @@ fn put_group_chip(
     groups: &[usize],
     outcomes: &[Outcome],
     first: usize,
-) -> Result<(), AllocError> {
+) -> Result<(), AllocError>
+    ensures { OnOk result (text.new.items
+        ≡ text.old.items ++ chip_of models.now groups.now outcomes.now first) }
+{
     match outcomes.get(first) {
         None => Ok(()),
         Some(outcome) => {
             let group = group_text(alloc, models, groups, first)?;
-            put_chip(alloc, text, &group, outcome)
+            put_chip(alloc, text, &group, &outcome.result)
         }
     }
 }
@@ -122,202 +73,31 @@ fn put_chips(
     groups: &[usize],
     firsts: &[usize],
     outcomes: &[Outcome],
-) -> Result<(), AllocError> {
+) -> Result<(), AllocError>
+    ensures { OnOk result (text.new.items
+        ≡ text.old.items ++ chips models.now groups.now firsts.now outcomes.now) }
+{
     for first in firsts {
         put_group_chip(alloc, text, models, groups, outcomes, *first)?;
     }
     Ok(())
 }
 
-fn put_count_text(text: &mut Vec<u8>, count: u64) -> Result<(), AllocError> {
-    if count == 0 {
-        put_bytes(text, b"&#183;")
-    } else {
-        put_decimal(text, count)
-    }
-}
-
-fn put_count(
-    text: &mut Vec<u8>,
-    state: &CountedState,
-    outcome: &Outcome,
-) -> Result<(), AllocError> {
-    put_open(text, b"td", &[])?;
-    put_count_text(text, count_in(state, outcome))?;
-    put_close(text, b"td")
-}
-
-fn put_group_count(
-    text: &mut Vec<u8>,
-    outcomes: &[Outcome],
-    first: usize,
-    state: &CountedState,
-) -> Result<(), AllocError> {
-    match outcomes.get(first) {
-        None => Ok(()),
-        Some(outcome) => put_count(text, state, outcome),
-    }
-}
-
-fn put_counts(
-    text: &mut Vec<u8>,
-    outcomes: &[Outcome],
-    firsts: &[usize],
-    state: &CountedState,
-) -> Result<(), AllocError> {
-    for first in firsts {
-        put_group_count(text, outcomes, *first, state)?;
-    }
-    Ok(())
-}
-
-fn state_class(outcomes: &[Outcome], state: &CountedState) -> &'static [u8] {
-    if is_counted_apart(outcomes, state) {
-        b"d"
-    } else {
-        b""
-    }
-}
-
-fn holds_sign(holds: bool) -> &'static [u8] {
-    if holds { b"*>" } else { b":>" }
-}
-
-fn put_state_name(text: &mut Vec<u8>, state: &CountedState) -> Result<(), AllocError> {
-    let scope = Attribute {
-        name: b"scope",
-        value: b"row",
-    };
-    put_open(text, b"th", &[scope])?;
-    put_element(text, b"code", &[], &state.text)?;
-    put_close(text, b"th")
-}
-
-fn put_state_row(
-    text: &mut Vec<u8>,
-    outcomes: &[Outcome],
-    firsts: &[usize],
-    state: &CountedState,
-) -> Result<(), AllocError> {
-    let class = Attribute {
-        name: b"class",
-        value: state_class(outcomes, state),
-    };
-    put_open(text, b"tr", &[class])?;
-    put_state_name(text, state)?;
-    put_element(text, b"td", &[], holds_sign(state.holds))?;
-    put_counts(text, outcomes, firsts, state)?;
-    put_close(text, b"tr")
-}
-
-fn put_group_head(
-    alloc: Global,
-    text: &mut Vec<u8>,
-    models: &[ReportedModel<'_>],
-    groups: &[usize],
-    first: usize,
-) -> Result<(), AllocError> {
-    let scope = Attribute {
-        name: b"scope",
-        value: b"col",
-    };
-    let group = group_text(alloc, models, groups, first)?;
-    put_open(text, b"th", &[scope])?;
-    put_letter(text, first)?;
-    put_escaped(text, b": ")?;
-    put_escaped(text, &group)?;
-    put_close(text, b"th")
-}
-
-fn put_group_heads(
-    alloc: Global,
-    text: &mut Vec<u8>,
-    models: &[ReportedModel<'_>],
-    groups: &[usize],
-    firsts: &[usize],
-) -> Result<(), AllocError> {
-    for first in firsts {
-        put_group_head(alloc, text, models, groups, *first)?;
-    }
-    Ok(())
-}
-
-fn put_state_heads(
-    alloc: Global,
-    text: &mut Vec<u8>,
-    models: &[ReportedModel<'_>],
-    groups: &[usize],
-    firsts: &[usize],
-) -> Result<(), AllocError> {
-    put_open(text, b"tr", &[])?;
-    put_element(text, b"th", &[], b"State")?;
-    put_element(text, b"th", &[], b"P")?;
-    put_group_heads(alloc, text, models, groups, firsts)?;
-    put_close(text, b"tr")
-}
-
-fn put_state_rows(
-    alloc: Global,
-    text: &mut Vec<u8>,
-    outcomes: &[Outcome],
-    firsts: &[usize],
-) -> Result<(), AllocError> {
-    let states = all_states(alloc, outcomes)?;
-    for state in &states {
-        put_state_row(text, outcomes, firsts, *state)?;
-    }
-    Ok(())
-}
-
-// The final states, with their counts in each group.
-fn put_states_table(
-    alloc: Global,
-    text: &mut Vec<u8>,
-    models: &[ReportedModel<'_>],
-    groups: &[usize],
-    firsts: &[usize],
-    outcomes: &[Outcome],
-) -> Result<(), AllocError> {
-    open_class(text, b"div", b"wrap")?;
-    open_class(text, b"table", b"num")?;
-    put_open(text, b"thead", &[])?;
-    put_state_heads(alloc, text, models, groups, firsts)?;
-    put_close(text, b"thead")?;
-    put_open(text, b"tbody", &[])?;
-    put_state_rows(alloc, text, outcomes, firsts)?;
-    put_close(text, b"tbody")?;
-    put_close(text, b"table")?;
-    put_close(text, b"div")
-}
-
-fn put_states(
-    alloc: Global,
-    text: &mut Vec<u8>,
-    models: &[ReportedModel<'_>],
-    groups: &[usize],
-    firsts: &[usize],
-    outcomes: &[Outcome],
-) -> Result<(), AllocError> {
-    put_open(text, b"div", &[])?;
-    put_element(
-        text,
-        b"h3",
-        &[],
-        b"Final states and how many kept executions end in them",
-    )?;
-    put_states_table(alloc, text, models, groups, firsts, outcomes)?;
-    put_close(text, b"div")
-}
-
-fn put_flag(
-    alloc: Global,
-    text: &mut Vec<u8>,
-    model: &[u8],
-    flag: &Name,
-) -> Result<(), AllocError> {
+#[tactic(auto, unfolding(crate::specs::Details::flag_words))]
+fn flag_words(alloc: Global, model: &[u8], flag: &[u8]) -> Result<Vec<u8>, AllocError>
+    ensures { IfOk result (λ v. v.items ≡ flag_words model.now flag.now) }
+{
     let mut words = Vec::from_slice(alloc, model)?;
     put_bytes(&mut words, b" raises the flag ")?;
-    put_bytes(&mut words, flag.as_bytes())?;
+    put_bytes(&mut words, flag)?;
+    Ok(words)
+}
+
+#[tactic(auto, unfolding(crate::specs::Details::flag_text))]
+fn put_flag(alloc: Global, text: &mut Vec<u8>, model: &[u8], flag: &Name) -> Result<(), AllocError>
+    ensures { OnOk result (text.new.items ≡ text.old.items ++ flag_text model.now flag.now) }
+{
+    let words = flag_words(alloc, model, flag.as_bytes())?;
     put_element(text, b"p", &[], &words)
 }
 
@@ -326,7 +106,10 @@ fn put_flag_lines(
     text: &mut Vec<u8>,
     model: &[u8],
     flags: &[Name],
-) -> Result<(), AllocError> {
+) -> Result<(), AllocError>
+    ensures { OnOk result (text.new.items
+        ≡ text.old.items ++ flat_map (flag_text model.now) flags.now) }
+{
     for flag in flags {
         put_flag(alloc, text, model, flag)?;
     }
@@ -336,12 +119,14 @@ fn put_flag_lines(
 fn put_flags(
     alloc: Global,
     text: &mut Vec<u8>,
-    model: ReportedModel<'_>,
-    outcome: &Outcome,
-) -> Result<(), AllocError> {
-    match &outcome.result {
+    model: &[u8],
+    found: &OutcomeResult,
+) -> Result<(), AllocError>
+    ensures { OnOk result (text.new.items ≡ text.old.items ++ result_flags model.now found.now) }
+{
+    match found {
         OutcomeResult::Refused(_) => Ok(()),
-        OutcomeResult::Evaluated(found) => put_flag_lines(alloc, text, model.name, &found.flags),
+        OutcomeResult::Evaluated(found) => put_flag_lines(alloc, text, model, &found.flags),
     }
 }
 
@@ -350,121 +135,94 @@ fn put_all_flags(
     text: &mut Vec<u8>,
     models: &[ReportedModel<'_>],
     outcomes: &[Outcome],
-) -> Result<(), AllocError> {
+) -> Result<(), AllocError>
+    ensures { OnOk result (text.new.items
+        ≡ text.old.items ++ flags_text models.now outcomes.now) }
+{
     for (number, model) in models.iter().enumerate() {
         match outcomes.get(number) {
             None => return Ok(()),
-            Some(outcome) => put_flags(alloc, text, *model, outcome)?,
+            Some(outcome) => put_flags(alloc, text, model.name, &outcome.result)?,
         }
     }
     Ok(())
 }
 
-// The first model whose drawing is this one.
-fn first_drawn(drawings: &[Vec<u8>], drawing: &[u8]) -> usize {
-    for (number, other) in drawings.iter().enumerate() {
-        if other.as_slice() == drawing {
-            return number;
-        }
-    }
-    drawings.len()
-}
-
-fn drawing_groups(alloc: Global, drawings: &[Vec<u8>]) -> Result<Vec<usize>, AllocError> {
-    let mut groups = Vec::new(alloc);
-    for drawing in drawings {
-        groups.push(first_drawn(drawings, drawing))?;
-    }
-    Ok(groups)
-}
-
-fn put_figure(text: &mut Vec<u8>, group: &[u8], drawing: &[u8]) -> Result<(), AllocError> {
-    put_open(text, b"figure", &[])?;
-    put_element(text, b"b", &[], group)?;
-    put_bytes(text, drawing)?;
-    put_close(text, b"figure")
-}
-
-fn put_figure_if(text: &mut Vec<u8>, group: &[u8], drawing: &[u8]) -> Result<(), AllocError> {
-    if drawing.is_empty() {
-        return Ok(());
-    }
-    put_figure(text, group, drawing)
-}
-
-fn put_figure_of(
-    alloc: Global,
-    text: &mut Vec<u8>,
-    models: &[ReportedModel<'_>],
-    drawings: &[Vec<u8>],
-    groups: &[usize],
-    first: usize,
-) -> Result<(), AllocError> {
-    match drawings.get(first) {
-        None => Ok(()),
-        Some(drawing) => {
-            let group = group_text(alloc, models, groups, first)?;
-            put_figure_if(text, &group, drawing)
-        }
-    }
-}
-
-// Each drawing once, under the names of its models.
-fn put_figures(
-    alloc: Global,
-    text: &mut Vec<u8>,
-    models: &[ReportedModel<'_>],
-    drawings: &[Vec<u8>],
-) -> Result<(), AllocError> {
-    let groups = drawing_groups(alloc, drawings)?;
-    let firsts = firsts_of(alloc, &groups)?;
-    for first in &firsts {
-        put_figure_of(alloc, text, models, drawings, &groups, *first)?;
-    }
-    Ok(())
-}
-
-fn put_condition(text: &mut Vec<u8>, outcomes: &[Outcome]) -> Result<(), AllocError> {
-    let Some(outcome) = outcomes.first() else {
-        return Ok(());
-    };
+#[tactic(auto, unfolding(crate::specs::Details::condition_part, html_text::specs::Elements::element))]
+fn put_condition(text: &mut Vec<u8>, condition: &[u8]) -> Result<(), AllocError>
+    ensures { OnOk result (text.new.items ≡ text.old.items ++ condition_part condition.now) }
+{
     put_open(text, b"p", &[])?;
     put_escaped(text, b"Condition ")?;
-    put_element(text, b"code", &[], &outcome.condition)?;
+    put_element(text, b"code", &[], condition)?;
     put_close(text, b"p")
 }
 
-fn put_text_part(text: &mut Vec<u8>, shown: &[u8]) -> Result<(), AllocError> {
+fn put_first_condition(text: &mut Vec<u8>, outcomes: &[Outcome]) -> Result<(), AllocError>
+    ensures { OnOk result (text.new.items ≡ text.old.items ++ first_condition outcomes.now) }
+{
+    match outcomes.get(0) {
+        None => Ok(()),
+        Some(outcome) => put_condition(text, &outcome.condition),
+    }
+}
+
+#[tactic(auto, unfolding(crate::specs::Details::text_part, html_text::specs::Elements::element))]
+fn put_text_part(text: &mut Vec<u8>, shown: &[u8]) -> Result<(), AllocError>
+    ensures { OnOk result (text.new.items ≡ text.old.items ++ text_part shown.now) }
+{
     put_open(text, b"div", &[])?;
     put_element(text, b"h3", &[], b"Text")?;
     put_element(text, b"pre", &[], shown)?;
     put_close(text, b"div")
 }
 
+#[tactic(auto, unfolding(crate::specs::Details::two_parts, html_text::specs::Elements::element))]
+fn put_two_parts(
+    alloc: Global,
+    text: &mut Vec<u8>,
+    models: &[ReportedModel<'_>],
+    test: &ReportedTest<'_>,
+    groups: &[usize],
+    firsts: &[usize],
+) -> Result<(), AllocError>
+    ensures { OnOk result (text.new.items
+        ≡ text.old.items ++ two_parts models.now test.now groups.now firsts.now) }
+{
+    open_class(text, b"div", b"two")?;
+    put_text_part(text, test.text)?;
+    put_states(alloc, text, models, groups, firsts, test.outcomes)?;
+    put_close(text, b"div")
+}
+
+#[tactic(auto, unfolding(crate::specs::Details::body_text))]
 fn put_body(
     alloc: Global,
     text: &mut Vec<u8>,
     models: &[ReportedModel<'_>],
-    test: ReportedTest<'_>,
+    test: &ReportedTest<'_>,
     groups: &[usize],
     firsts: &[usize],
-) -> Result<(), AllocError> {
-    put_condition(text, test.outcomes)?;
-    open_class(text, b"div", b"two")?;
-    put_text_part(text, test.text)?;
-    put_states(alloc, text, models, groups, firsts, test.outcomes)?;
-    put_close(text, b"div")?;
+) -> Result<(), AllocError>
+    ensures { OnOk result (text.new.items
+        ≡ text.old.items ++ body_text models.now test.now groups.now firsts.now) }
+{
+    put_first_condition(text, test.outcomes)?;
+    put_two_parts(alloc, text, models, test, groups, firsts)?;
     put_all_flags(alloc, text, models, test.outcomes)?;
     put_figures(alloc, text, models, test.drawings)
 }
 
 // The class of the element of a test.
+#[tactic(auto, unfolding(crate::specs::Details::details_class))]
 fn details_class(
     alloc: Global,
-    test: ReportedTest<'_>,
+    outcomes: &[Outcome],
     groups: &[usize],
-) -> Result<Vec<u8>, AllocError> {
-    let kind = test_class(alloc, test, has_other(groups))?;
+) -> Result<Vec<u8>, AllocError>
+    ensures { IfOk result (λ v. v.items ≡ details_class outcomes.now groups.now) }
+{
+    let kind = test_class(alloc, outcomes, has_other(groups))?;
     let mut class = Vec::from_slice(alloc, b"t ")?;
     put_bytes(&mut class, &kind)?;
     Ok(class)
@@ -476,7 +234,11 @@ fn put_details_open<'a>(
     id: &'a [u8],
     name: &'a [u8],
     keys: &'a [u8],
-) -> Result<(), AllocError> {
+) -> Result<(), AllocError>
+    ensures { OnOk result (text.new.items
+        ≡ text.old.items
+        ++ open_tag (codes "details") (details_attributes class.now id.now name.now keys.now)) }
+{
     let attributes = [
         Attribute {
             name: b"class",
@@ -503,41 +265,88 @@ fn put_test_open(
     alloc: Global,
     text: &mut Vec<u8>,
     number: usize,
-    test: ReportedTest<'_>,
+    test: &ReportedTest<'_>,
     groups: &[usize],
-) -> Result<(), AllocError> {
-    let class = details_class(alloc, test, groups)?;
+) -> Result<(), AllocError>
+    ensures { OnOk result (text.new.items
+        ≡ text.old.items
+        ++ open_tag (codes "details") (test_attributes number test.now groups.now)) }
+{
+    let class = details_class(alloc, test.outcomes, groups)?;
     let keys = keys_text(alloc, groups)?;
     let id = numbered(alloc, b"t", number)?;
     put_details_open(text, &class, &id, test.name, &keys)
 }
 
+#[tactic(auto, unfolding(crate::specs::Details::summary_text, html_text::specs::Elements::element))]
 fn put_summary(
     alloc: Global,
     text: &mut Vec<u8>,
     models: &[ReportedModel<'_>],
-    test: ReportedTest<'_>,
+    test: &ReportedTest<'_>,
     groups: &[usize],
     firsts: &[usize],
-) -> Result<(), AllocError> {
+) -> Result<(), AllocError>
+    ensures { OnOk result (text.new.items
+        ≡ text.old.items ++ summary_text models.now test.now groups.now firsts.now) }
+{
     put_open(text, b"summary", &[])?;
     put_element(text, b"b", &[], test.name)?;
     put_chips(alloc, text, models, groups, firsts, test.outcomes)?;
     put_close(text, b"summary")
 }
 
+#[tactic(auto, unfolding(html_text::specs::Elements::element))]
+fn put_opened(
+    alloc: Global,
+    text: &mut Vec<u8>,
+    models: &[ReportedModel<'_>],
+    test: &ReportedTest<'_>,
+    groups: &[usize],
+    firsts: &[usize],
+) -> Result<(), AllocError>
+    ensures { OnOk result (text.new.items
+        ≡ text.old.items
+        ++ element (codes "div") (class_of (codes "body"))
+        (body_text models.now test.now groups.now firsts.now)) }
+{
+    open_class(text, b"div", b"body")?;
+    put_body(alloc, text, models, test, groups, firsts)?;
+    put_close(text, b"div")
+}
+
+#[tactic(auto, unfolding(crate::specs::Details::test_in_groups, html_text::specs::Elements::element))]
+fn put_in_groups(
+    alloc: Global,
+    text: &mut Vec<u8>,
+    models: &[ReportedModel<'_>],
+    number: usize,
+    test: &ReportedTest<'_>,
+    groups: &[usize],
+    firsts: &[usize],
+) -> Result<(), AllocError>
+    ensures { OnOk result (text.new.items
+        ≡ text.old.items ++ test_in_groups models.now number test.now groups.now firsts.now) }
+{
+    put_test_open(alloc, text, number, test, groups)?;
+    put_summary(alloc, text, models, test, groups, firsts)?;
+    put_opened(alloc, text, models, test, groups, firsts)?;
+    put_close(text, b"details")
+}
+
 fn put_grouped(
     alloc: Global,
     text: &mut Vec<u8>,
     models: &[ReportedModel<'_>],
-    test: ReportedTest<'_>,
+    number: usize,
+    test: &ReportedTest<'_>,
     groups: &[usize],
-    firsts: &[usize],
-) -> Result<(), AllocError> {
-    put_summary(alloc, text, models, test, groups, firsts)?;
-    open_class(text, b"div", b"body")?;
-    put_body(alloc, text, models, test, groups, firsts)?;
-    put_close(text, b"div")
+) -> Result<(), AllocError>
+    ensures { OnOk result (text.new.items
+        ≡ text.old.items ++ grouped_test models.now number test.now groups.now) }
+{
+    let firsts = firsts_of(alloc, groups)?;
+    put_in_groups(alloc, text, models, number, test, groups, &firsts)
 }
 
 fn put_test(
@@ -545,24 +354,27 @@ fn put_test(
     text: &mut Vec<u8>,
     models: &[ReportedModel<'_>],
     number: usize,
-    test: ReportedTest<'_>,
-) -> Result<(), AllocError> {
+    test: &ReportedTest<'_>,
+) -> Result<(), AllocError>
+    ensures { OnOk result (text.new.items
+        ≡ text.old.items ++ test_details models.now number test.now) }
+{
     let groups = groups_of(alloc, test.outcomes)?;
-    let firsts = firsts_of(alloc, &groups)?;
-    put_test_open(alloc, text, number, test, &groups)?;
-    put_grouped(alloc, text, models, test, &groups, &firsts)?;
-    put_close(text, b"details")
+    put_grouped(alloc, text, models, number, test, &groups)
 }
 
-/// Appends what is said of each test. Errors: want of memory.
+/// Appends what is said of each test, on a line of its own. Errors: want of memory.
 pub fn put_tests(
     alloc: Global,
     text: &mut Vec<u8>,
     models: &[ReportedModel<'_>],
     tests: &[ReportedTest<'_>],
-) -> Result<(), AllocError> {
+) -> Result<(), AllocError>
+    ensures { OnOk result (text.new.items
+        ≡ text.old.items ++ tests_details models.now 0 tests.now) }
+{
     for (number, test) in tests.iter().enumerate() {
-        put_test(alloc, text, models, number, *test)?;
+        put_test(alloc, text, models, number, test)?;
         put_bytes(text, b"\n")?;
     }
     Ok(())

@@ -1,9 +1,10 @@
 //! What a page shows.
 
+use std::marker::Model;
 use verdict::Outcome;
 
-/// A model.
-#[derive(Clone, Copy)]
+/// A model. Contracts see it as plain data.
+#[derive(Drop)]
 pub struct ReportedModel<'a> {
     /// The name by which it is called.
     pub name: &'a [u8],
@@ -11,8 +12,16 @@ pub struct ReportedModel<'a> {
     pub text: &'a [u8],
 }
 
-/// A test under the models.
-#[derive(Clone, Copy)]
+impl<'a> Model for ReportedModel<'a> {
+    ghost use Rattle.report_details.specs.Reported as reported;
+
+    ghost Value = { reported.ReportedModel };
+
+    ghost view = { λ m. record { name = m.name.now; text = m.text.now } };
+}
+
+/// A test under the models. Contracts see it as plain data.
+#[derive(Drop)]
 pub struct ReportedTest<'a> {
     /// Its name.
     pub name: &'a [u8],
@@ -24,11 +33,33 @@ pub struct ReportedTest<'a> {
     pub drawings: &'a [Vec<u8>],
 }
 
-/// What a page says beside models and tests.
-#[derive(Clone, Copy)]
+impl<'a> Model for ReportedTest<'a> {
+    ghost use Rattle.std.specs.Prelude.{map};
+    ghost use Rattle.report_details.specs.Reported as reported;
+
+    ghost Value = { reported.ReportedTest };
+
+    ghost view = { λ t. record {
+      name = t.name.now;
+      text = t.text.now;
+      outcomes = t.outcomes.now;
+      drawings = map (λ d. d.items) t.drawings.now;
+    } };
+}
+
+/// What a page says beside models and tests. Contracts see it as plain data.
+#[derive(Drop)]
 pub struct Extras<'a> {
     /// What is told of the texts that are refused.
     pub refusals: &'a [u8],
     /// Of how many cells the drawings were left out.
     pub left_out: u64,
+}
+
+impl<'a> Model for Extras<'a> {
+    ghost use Rattle.report_details.specs.Reported as reported;
+
+    ghost Value = { reported.Extras };
+
+    ghost view = { λ e. record { refusals = e.refusals.now; left_out = e.left_out } };
 }

@@ -1,5 +1,5 @@
-//! The page of a report: tests under models, as one file of HTML. Read src/page first. Nothing of
-//! it is stated: it is safe and ends. Other crates call `put_page`.
+//! The page of a report: tests under models, as one file of HTML. Read specs/Summary first, then
+//! Table and Page: `report_page` are its bytes. Other crates call `put_page`.
 #![tactic(auto)]
 
 mod constants;

@@ -1,42 +1,50 @@
 //! The table.
 
-use html_text::{Attribute, put_close, put_element, put_open};
+ghost use Rattle.std.specs.Prelude.{◌≡◌, ◌++◌, IfOk, OnOk, codes};
+ghost use Rattle.html_text.specs.Elements.{open_tag};
+ghost use Rattle.report_page.specs.Table.{column_head, column_heads, cell_class, group_mark, cell_text, cells_text, test_link, row_attributes, test_row_attributes, grouped_row, test_row, test_rows};
+
+use html_text::{Attribute, put_close, put_element, put_escaped, put_open};
 use report_details::{
-    ReportedModel, ReportedTest, groups_of, has_other, is_other, keys_text, numbered, put_if,
-    put_letter, put_result, result_class, test_class,
+    ReportedModel, ReportedTest, groups_of, has_other, is_other, keys_text, numbered, open_class,
+    open_with, put_if, put_letter, put_result, result_class, test_class,
 };
 use std::alloc::{AllocError, Global};
 use text_values::put_bytes;
 use verdict::{Outcome, OutcomeResult};
 
-fn put_column_head(text: &mut Vec<u8>, model: ReportedModel<'_>) -> Result<(), AllocError> {
-    let scope = Attribute {
-        name: b"scope",
-        value: b"col",
-    };
-    put_open(text, b"th", &[scope])?;
+#[tactic(auto, unfolding(crate::specs::Table::column_head, html_text::specs::Elements::element))]
+fn put_column_head(text: &mut Vec<u8>, model: &ReportedModel<'_>) -> Result<(), AllocError>
+    ensures { OnOk result (text.new.items ≡ text.old.items ++ column_head model.now) }
+{
+    open_with(text, b"th", b"scope", b"col")?;
     put_element(text, b"span", &[], model.name)?;
     put_close(text, b"th")
 }
 
 /// Appends the names of the models over their columns. Errors: want of memory.
-pub fn put_column_heads(
-    text: &mut Vec<u8>,
-    models: &[ReportedModel<'_>],
-) -> Result<(), AllocError> {
+pub fn put_column_heads(text: &mut Vec<u8>, models: &[ReportedModel<'_>]) -> Result<(), AllocError>
+    ensures { OnOk result (text.new.items ≡ text.old.items ++ column_heads models.now) }
+{
     for model in models {
-        put_column_head(text, *model)?;
+        put_column_head(text, model)?;
     }
     Ok(())
 }
 
-fn cell_class(alloc: Global, found: &OutcomeResult, group: usize) -> Result<Vec<u8>, AllocError> {
+#[tactic(auto, unfolding(crate::specs::Table::cell_class))]
+fn cell_class(alloc: Global, found: &OutcomeResult, group: usize) -> Result<Vec<u8>, AllocError>
+    ensures { IfOk result (λ v. v.items ≡ cell_class found.now group) }
+{
     let mut class = Vec::from_slice(alloc, result_class(found))?;
     put_if(&mut class, is_other(group), b" g")?;
     Ok(class)
 }
 
-fn put_group_mark(text: &mut Vec<u8>, is_apart: bool, group: usize) -> Result<(), AllocError> {
+#[tactic(auto, unfolding(crate::specs::Table::group_mark, html_text::specs::Elements::element))]
+fn put_group_mark(text: &mut Vec<u8>, is_apart: bool, group: usize) -> Result<(), AllocError>
+    ensures { OnOk result (text.new.items ≡ text.old.items ++ group_mark is_apart group) }
+{
     if !is_apart {
         return Ok(());
     }
@@ -45,20 +53,19 @@ fn put_group_mark(text: &mut Vec<u8>, is_apart: bool, group: usize) -> Result<()
     put_close(text, b"sup")
 }
 
+#[tactic(auto, unfolding(crate::specs::Table::cell_text, html_text::specs::Elements::element))]
 fn put_cell_text(
     alloc: Global,
     text: &mut Vec<u8>,
     is_apart: bool,
-    outcome: &Outcome,
+    found: &OutcomeResult,
     group: usize,
-) -> Result<(), AllocError> {
-    let class = cell_class(alloc, &outcome.result, group)?;
-    let class = Attribute {
-        name: b"class",
-        value: &class,
-    };
-    put_open(text, b"td", &[class])?;
-    put_result(alloc, text, &outcome.result)?;
+) -> Result<(), AllocError>
+    ensures { OnOk result (text.new.items ≡ text.old.items ++ cell_text is_apart found.now group) }
+{
+    let class = cell_class(alloc, found, group)?;
+    open_class(text, b"td", &class)?;
+    put_result(alloc, text, found)?;
     put_group_mark(text, is_apart, group)?;
     put_close(text, b"td")
 }
@@ -69,43 +76,46 @@ fn put_cells(
     is_apart: bool,
     outcomes: &[Outcome],
     groups: &[usize],
-) -> Result<(), AllocError> {
+) -> Result<(), AllocError>
+    ensures { OnOk result (text.new.items
+        ≡ text.old.items ++ cells_text is_apart outcomes.now groups.now) }
+{
     for (model, outcome) in outcomes.iter().enumerate() {
-        match groups.get(model) {
+        match groups.get(model).copied() {
             None => return Ok(()),
-            Some(group) => put_cell_text(alloc, text, is_apart, outcome, *group)?,
+            Some(group) => put_cell_text(alloc, text, is_apart, &outcome.result, group)?,
         }
     }
     Ok(())
 }
 
+#[tactic(auto, unfolding(crate::specs::Table::test_link, html_text::specs::Elements::element))]
 fn put_test_link(
     alloc: Global,
     text: &mut Vec<u8>,
     number: usize,
-    test: ReportedTest<'_>,
-) -> Result<(), AllocError> {
-    let scope = Attribute {
-        name: b"scope",
-        value: b"row",
-    };
+    name: &[u8],
+) -> Result<(), AllocError>
+    ensures { OnOk result (text.new.items ≡ text.old.items ++ test_link number name.now) }
+{
     let link = numbered(alloc, b"#t", number)?;
-    let href = Attribute {
-        name: b"href",
-        value: &link,
-    };
-    put_open(text, b"th", &[scope])?;
-    put_element(text, b"a", &[href], test.name)?;
+    open_with(text, b"th", b"scope", b"row")?;
+    open_with(text, b"a", b"href", &link)?;
+    put_escaped(text, name)?;
+    put_close(text, b"a")?;
     put_close(text, b"th")
 }
 
-// Opens the row of a test, which the filters show or hide.
 fn put_row_open<'a>(
     text: &mut Vec<u8>,
     class: &'a [u8],
     name: &'a [u8],
     keys: &'a [u8],
-) -> Result<(), AllocError> {
+) -> Result<(), AllocError>
+    ensures { OnOk result (text.new.items
+        ≡ text.old.items
+        ++ open_tag (codes "tr") (row_attributes class.now name.now keys.now)) }
+{
     let attributes = [
         Attribute {
             name: b"class",
@@ -123,30 +133,61 @@ fn put_row_open<'a>(
     put_open(text, b"tr", &attributes)
 }
 
+// Opens the row of a test, which the filters show or hide.
+fn put_test_open(
+    alloc: Global,
+    text: &mut Vec<u8>,
+    test: &ReportedTest<'_>,
+    groups: &[usize],
+) -> Result<(), AllocError>
+    ensures { OnOk result (text.new.items
+        ≡ text.old.items
+        ++ open_tag (codes "tr") (test_row_attributes test.now groups.now)) }
+{
+    let class = test_class(alloc, test.outcomes, has_other(groups))?;
+    let keys = keys_text(alloc, groups)?;
+    put_row_open(text, &class, test.name, &keys)
+}
+
+#[tactic(auto, unfolding(crate::specs::Table::grouped_row, html_text::specs::Elements::element))]
+fn put_grouped(
+    alloc: Global,
+    text: &mut Vec<u8>,
+    number: usize,
+    test: &ReportedTest<'_>,
+    groups: &[usize],
+) -> Result<(), AllocError>
+    ensures { OnOk result (text.new.items
+        ≡ text.old.items ++ grouped_row number test.now groups.now) }
+{
+    put_test_open(alloc, text, test, groups)?;
+    put_test_link(alloc, text, number, test.name)?;
+    put_cells(alloc, text, has_other(groups), test.outcomes, groups)?;
+    put_close(text, b"tr")
+}
+
 fn put_row(
     alloc: Global,
     text: &mut Vec<u8>,
     number: usize,
-    test: ReportedTest<'_>,
-) -> Result<(), AllocError> {
+    test: &ReportedTest<'_>,
+) -> Result<(), AllocError>
+    ensures { OnOk result (text.new.items ≡ text.old.items ++ test_row number test.now) }
+{
     let groups = groups_of(alloc, test.outcomes)?;
-    let is_apart = has_other(&groups);
-    let class = test_class(alloc, test, is_apart)?;
-    let keys = keys_text(alloc, &groups)?;
-    put_row_open(text, &class, test.name, &keys)?;
-    put_test_link(alloc, text, number, test)?;
-    put_cells(alloc, text, is_apart, test.outcomes, &groups)?;
-    put_close(text, b"tr")
+    put_grouped(alloc, text, number, test, &groups)
 }
 
-/// Appends the rows of the tests. Errors: want of memory.
+/// Appends the rows of the tests, each on a line. Errors: want of memory.
 pub fn put_rows(
     alloc: Global,
     text: &mut Vec<u8>,
     tests: &[ReportedTest<'_>],
-) -> Result<(), AllocError> {
+) -> Result<(), AllocError>
+    ensures { OnOk result (text.new.items ≡ text.old.items ++ test_rows 0 tests.now) }
+{
     for (number, test) in tests.iter().enumerate() {
-        put_row(alloc, text, number, *test)?;
+        put_row(alloc, text, number, test)?;
         put_bytes(text, b"\n")?;
     }
     Ok(())

@@ -1,4 +1,4 @@
-use Rattle.std.proofs.Common.{rules, ◌++◌, sym, ap, ◌∙◌}
+use Rattle.std.proofs.Common.{◌++◌, sym, ap, ◌∙◌}
 use Rattle.std.proofs.lemmas.Result.{on_ok_weaker}
 use Rattle.outcome_lines.specs.Records.{model_outcome_of}
 use Rattle.outcome_lines.specs.Tab.{outcome_line}

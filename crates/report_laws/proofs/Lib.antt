@@ -1,0 +1,5 @@
+pub mod Passing
+pub mod Elements
+pub mod Tests
+pub mod Pages
+pub mod Pictures
