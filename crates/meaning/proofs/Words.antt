@@ -6,7 +6,7 @@ use Rattle.text_values.specs.TestValue.{Content}
 use Rattle.text_values.specs.ModelValue.{Clause}
 use Rattle.meaning.specs.Sets.{Set, HasCount}
 use Rattle.meaning.specs.Executions.{Execution}
-use Rattle.meaning.specs.Outcome.{Evaluation, Observation, Never, Always, Says, Satisfies, observation_of, is_met}
+use Rattle.meaning.specs.Outcome.{Evaluation, Observation, Never, Always, Sometimes, Says, Satisfies, observation_of, is_met}
 use Rattle.meaning.specs.Evaluates.{IsKept, MeetsFlag}
 use Rattle.meaning.specs.Laws.{IsSatisfied, IsViolated, SaysInWords}
 
@@ -31,6 +31,10 @@ abbrev IsAlways : Observation → Type 0
 IsAlways Always = Unit {0}
 IsAlways _ = ⊥
 
+abbrev IsSometimes : Observation → Type 0
+IsSometimes Sometimes = Unit {0}
+IsSometimes _ = ⊥
+
 -- the words, from whether there are positive and negative witnesses
 never_is : (S T : Set Execution) (p n : ℕ) → HasCount S p → HasCount T n
     → observation_of p n ≡ Never ↔ (((x : Execution) × S x) → ⊥)
@@ -53,6 +57,19 @@ always_is S T (suc p) (suc n) ps ns = (
   λ eq. absurd (subst IsAlways (sym eq) tt),
   λ both. absurd (both.1 (some_is_there T n ns)),
 )
+
+sometimes_is : (S T : Set Execution) (p n : ℕ) → HasCount S p → HasCount T n
+    → observation_of p n ≡ Sometimes ↔ (((x : Execution) × S x) × ((x : Execution) × T x))
+sometimes_is S T zero n ps ns = (
+  λ eq. absurd (subst IsSometimes (sym eq) tt),
+  λ both. absurd (none_is_empty S ps both.0.0 both.0.1),
+)
+sometimes_is S T (suc p) zero ps ns = (
+  λ eq. absurd (subst IsSometimes (sym eq) tt),
+  λ both. absurd (none_is_empty T ns both.1.0 both.1.1),
+)
+sometimes_is S T (suc p) (suc n) ps ns =
+    (λ eq. (some_is_there S p ps, some_is_there T n ns), λ both. refl)
 
 -- whether the condition is met, likewise
 exists_is : (S : Set Execution) (p n : ℕ) → HasCount S p
@@ -107,6 +124,7 @@ words_are_right t items e says =
     let v : _ = negative_is t items in
     let never : _ = never_is S T e.positive e.negative says.positive says.negative in
     let always : _ = always_is S T e.positive e.negative says.positive says.negative in
+    let sometimes : _ = sometimes_is S T e.positive e.negative says.positive says.negative in
     record {
       never = (
         λ eq h. never.0 (sym says.observation ∙ eq) (s.1 h),
@@ -116,6 +134,11 @@ words_are_right t items e says =
         λ eq. let both : _ = always.0 (sym says.observation ∙ eq) in
             (s.0 both.0, λ h. both.1 (v.1 h)),
         λ both. says.observation ∙ always.1 (s.1 both.0, λ h. both.1 (v.0 h)),
+      );
+      sometimes = (
+        λ eq. let both : _ = sometimes.0 (sym says.observation ∙ eq) in
+            (s.0 both.0, v.0 both.1),
+        λ both. says.observation ∙ sometimes.1 (s.1 both.0, v.1 both.1),
       );
       exists = λ is.
           let met : _ = says.ok ∙ of_kind t e Exists is in

@@ -1,6 +1,7 @@
 -- The candidate executions of a test, as Alglave, Maranget and Tautschnig define them (Herding
--- Cats, TOPLAS 36(2), 2014): events, program order, dependencies, reads-from and coherence. Read
--- next: Predefined.
+-- Cats, TOPLAS 36(2), 2014): events, program order, dependencies, reads-from and coherence. That
+-- loads take values of the domain, and that none comes out of thin air, is our own. Read next:
+-- Predefined.
 use Rattle.std.specs.Prelude.{ℕ, suc, ◌≡◌, ◌<◌, List, [], ◌∷◌, ◌++◌, zip, length, IsTrue, Some, slice_get, unwrap_or, option_map, Contains, if◌then◌else◌}
 use Rattle.std.specs.List.{AllZip}
 use Rattle.text_values.specs.declared.test.Place.TheVariants as observables

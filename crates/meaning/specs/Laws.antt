@@ -15,7 +15,7 @@ use Rattle.meaning.specs.Runs.{initial_value}
 use Rattle.meaning.specs.Executions.{Event, Execution, IsEvent, IsExecution}
 use Rattle.meaning.specs.Cat.{Names, meaning_of, HasPair, with_group, Choice, IsChosen, Least, names_after}
 use Rattle.meaning.specs.Faults.{ModelFault}
-use Rattle.meaning.specs.Outcome.{Evaluation, Never, Always, Satisfies}
+use Rattle.meaning.specs.Outcome.{Evaluation, Never, Always, Sometimes, Satisfies}
 use Rattle.meaning.specs.Evaluates.{outermost, IsKept, Outcome, Evaluates, Faulty, Evaluated}
 
 -- ---- Items that are added
@@ -90,11 +90,12 @@ IsViolated t items = (x : Execution) × IsKept t items x × (Satisfies t x t.con
 pub record SaysInWords (t : Content) (items : List Clause) (e : Evaluation) : Type 0 where
   pub never : e.observation ≡ Never ↔ (IsSatisfied t items → ⊥)
   pub always : e.observation ≡ Always ↔ (IsSatisfied t items × (IsViolated t items → ⊥))
+  pub sometimes : e.observation ≡ Sometimes ↔ (IsSatisfied t items × IsViolated t items)
   pub exists : t.quantifier ≡ Exists → IsTrue e.ok ↔ IsSatisfied t items
   pub not_exists : t.quantifier ≡ NotExists → IsTrue e.ok ↔ (IsSatisfied t items → ⊥)
   pub forall : t.quantifier ≡ Forall → IsTrue e.ok ↔ (IsViolated t items → ⊥)
 
--- `Never`, `Always` and `Ok` say what they say in the field.
+-- `Never`, `Always`, `Sometimes` and `Ok` say what they say in the field.
 abbrev pub WordsAreRight : Type 0
 WordsAreRight =
     (t : Content) (items : List Clause) (e : Evaluation) → Evaluates t items (Evaluated e)
@@ -305,7 +306,7 @@ EntriesMaySwap =
 
 -- ---- One meaning
 
--- A test says one thing under a model.
+-- A test says no two things under a model.
 abbrev pub MeaningsAreOne : Type 0
 MeaningsAreOne =
     (t : Content) (items : List Clause) (o p : Outcome) → Evaluates t items o

@@ -1,5 +1,6 @@
 -- Sets and relations of any things, and the operators of cat on them: each has the name that it has
--- in the syntax. Read this file first, and then Names.
+-- in the syntax. In cat the things are events, and E is the set of those of an execution. Read this
+-- file first, and then Names.
 use Rattle.std.specs.Prelude.{ℕ, ◌≡◌, ◌⊎◌, ◌↔◌, ◌<◌, List, [], ◌∷◌, length, Contains, All, AllPairs}
 
 -- A set says of each thing when it is a member.

@@ -50,7 +50,7 @@ pub fn entries_may_swap()
     ensures { EntriesMaySwap }
 {}
 
-/// A test says one thing under a model: one fault, one refusal or one evaluation.
+/// A test has no two outcomes under a model: no two faults, refusals or evaluations.
 pub fn meanings_are_one()
     ensures { MeaningsAreOne }
 {}

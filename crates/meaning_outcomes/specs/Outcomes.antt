@@ -15,6 +15,7 @@ use Rattle.meaning.specs.Names.{Name, locations}
 use Rattle.meaning.specs.Faults.{ModelFault, Unbound, Kind, NotMonotone, Duplicate, SetInRec, Arity, TooLarge}
 use Rattle.meaning.specs.Evaluates.{Evaluates, Outcome, Faulty, Refused, Evaluated}
 use Rattle.meaning_refusals.specs.Refusals.{refusal_by_name}
+use Rattle.meaning_words.specs.Words.{IsTestOfWords}
 use Rattle.meaning_states.specs.ByName.{evaluation_by_name}
 
 -- a fault of a model
@@ -44,6 +45,10 @@ abbrev pub FromScratchIsMeant : Test → Type 0
 FromScratchIsMeant test =
     (model : ModelText) (o : program_outcome.Outcome) → IsFromScratch test model o
     → IsMeant test model o
+
+-- So it is for each test that writes numbers of 32 bits.
+abbrev pub TestsOfWordsAreMeant : Type 0
+TestsOfWordsAreMeant = (test : Test) → IsTestOfWords (content_of test) → FromScratchIsMeant test
 
 -- Evaluating from nothing says one thing by name.
 abbrev pub OutcomesAreOne : Test → Type 0

@@ -4,7 +4,7 @@
 #![tactic(auto)]
 
 ghost use Rattle.std.specs.Prelude.{IfOk};
-ghost use Rattle.meaning_outcomes.specs.Outcomes.{FromScratchIsMeant, OutcomesAreOne, IsMeant};
+ghost use Rattle.meaning_outcomes.specs.Outcomes.{FromScratchIsMeant, TestsOfWordsAreMeant, OutcomesAreOne, IsMeant};
 
 use from_scratch::eval_cell;
 use meaning_words::test_is_of_words;
@@ -20,6 +20,11 @@ pub fn from_scratch_is_meant(test: &Test)
 {
     test_is_of_words(test);
 }
+
+/// So it is for each test that writes numbers of 32 bits.
+pub fn tests_of_words_are_meant()
+    ensures { TestsOfWordsAreMeant }
+{}
 
 /// What the test says under the model. Errors: out of memory.
 pub fn meant_cell(alloc: Global, test: &Test, model: &ModelText) -> Result<Outcome, AllocError>

@@ -114,7 +114,7 @@ instruction_fits (opcodes.Fence f) ts h = tt
 
 -- ---- cells
 
-abbrev AreOfWords : List Step → Type 0
+abbrev pub AreOfWords : List Step → Type 0
 AreOfWords xs = AllByRecursion IsStepOfWords xs
 
 joined : (xs ys : List Step) → AreOfWords xs → AreOfWords ys → AreOfWords (xs ++ ys)
@@ -135,7 +135,7 @@ steps_fit : (i : Option InstructionTree) → IsInstruction i → AreOfWords (ins
 steps_fit None fine = tt
 steps_fit (Some i) fine = operation_fits i fine
 
-cells_fit : (cs : List CellTree) → AreCells cs → AreOfWords (cells_steps cs)
+pub cells_fit : (cs : List CellTree) → AreCells cs → AreOfWords (cells_steps cs)
 cells_fit [] fine = tt
 cells_fit (c ∷ cs) fine =
     joined (cell_steps c) (cells_steps cs)
@@ -170,14 +170,14 @@ columns_fit n k (suc m) rs fine =
 
 -- ---- entries, and the condition
 
-entries_fit : (before : List WrittenPlace) (es : List EntryTree) → AreEntryTrees before es
+pub entries_fit : (before : List WrittenPlace) (es : List EntryTree) → AreEntryTrees before es
     → All (λ (e : InitEntry). IsWrittenWord e.value) (map entry_meaning es)
 entries_fit before [] fine = All-nil (λ (e : InitEntry). IsWrittenWord e.value)
 entries_fit before (e ∷ es) fine =
     All-cons (λ (i : InitEntry). IsWrittenWord i.value) (entry_meaning e) (map entry_meaning es)
     (value_fits e.value fine.1) (entries_fit (written_place e.place ∷ before) es fine.3)
 
-formula_fits : (threads : ℕ) (f : FormulaTree) → HasAtoms threads f
+pub formula_fits : (threads : ℕ) (f : FormulaTree) → HasAtoms threads f
     → IsFormulaOfWords (tree_formula f)
 formula_fits threads (Word b) fine = tt
 formula_fits threads (Atom p v) fine = value_fits v fine.2
