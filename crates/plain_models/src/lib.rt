@@ -1,0 +1,7 @@
+//! A plain evaluator of a model without faults over one execution: which checks are met and which
+//! flags are raised, by the definitions of `meaning`. Read specs/Groups first.
+#![tactic(auto)]
+
+pub mod group;
+pub mod item;
+pub mod model;
