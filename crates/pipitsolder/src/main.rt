@@ -2,13 +2,13 @@
 #![tactic(auto)]
 
 use litmusbench::{
-    Asked, DrawRequest, Form, Format, Lines, ListEntry, NoGate, NoProgress, OfRead, OfWrite,
-    PageRequest, ProgressTeller, ReadFault, RefusalTeller, Report, ResultFormat, RunEnd,
-    SessionFault, TextFile, UsageFault, difference_report, draw_report, draw_request, eval_report,
-    eval_stream_heard, exit_status, form_of, line_report, list_entries, model_fault,
-    model_refusal_lines, page_report, read_prefix, read_text, refusal_lines, session_heard,
-    table_report, test_refusal_lines, watch_files, write_answer, write_drawings, write_report,
-    write_why,
+    Asked, DrawRequest, Form, Format, InnerListFault, Lines, ListEntry, NoGate, NoProgress, OfRead,
+    OfWrite, PageRequest, ProgressTeller, ReadFault, RefusalTeller, Report, ResultFormat, RunEnd,
+    SessionFault, TextFile, UsageFault, WantedFile, difference_report, draw_report, draw_request,
+    eval_report, eval_stream_heard, exit_status, file_of_entry, file_of_word, form_of, inner_files,
+    line_report, list_entries, model_fault, model_refusal_lines, page_report, read_prefix,
+    read_text, refusal_lines, session_heard, table_report, test_refusal_lines, watch_files,
+    write_answer, write_drawings, write_report, write_why,
 };
 use std::alloc::{AllocError, Global};
 use std::fmt::Display;
@@ -258,36 +258,6 @@ fn answer_pair<R: AllocGlobal + Eprint + Files + Print, E: Print>(
     Ok(is_refused)
 }
 
-// A file that is asked for: its path, and what is told of it before a reason: the path, behind the
-// list and the line that name it where one does.
-#[derive(Drop)]
-struct WantedFile {
-    path: String,
-    label: String,
-    is_listed: bool,
-}
-
-fn file_of_word<R: AllocGlobal>(rt: &R, word: &str) -> Result<WantedFile, AllocError> {
-    Ok(WantedFile {
-        path: String::from_str(rt.alloc(), word)?,
-        label: String::from_str(rt.alloc(), word)?,
-        is_listed: false,
-    })
-}
-
-fn file_of_entry<R: AllocGlobal>(
-    rt: &R,
-    list: &str,
-    entry: ListEntry,
-) -> Result<WantedFile, AllocError> {
-    let label = format!(in rt.alloc(); "{list}:{}: {}", entry.line, entry.path)?;
-    Ok(WantedFile {
-        path: entry.path,
-        label,
-        is_listed: true,
-    })
-}
-
 fn add_file(
     files: &mut Vec<WantedFile>,
     file: Result<WantedFile, AllocError>,
@@ -323,16 +293,10 @@ fn list_bytes<R: AllocGlobal + Eprint + Files>(
     }
 }
 
-fn entries_of<R: AllocGlobal + Eprint + Files>(
-    rt: &R,
-    list: &str,
-) -> Result<Vec<ListEntry>, SessionFault> {
-    let bytes = list_bytes(rt, list)?;
-    match str::from_utf8(&bytes) {
-        Ok(text) => match list_entries(rt.alloc(), list, text) {
-            Ok(entries) => Ok(entries),
-            Err(_) => Err(SessionFault::Memory),
-        },
+// The text of a list.
+fn list_text<R: AllocGlobal + Eprint + Files>(rt: &R, list: &str) -> Result<String, SessionFault> {
+    match String::from_utf8(list_bytes(rt, list)?) {
+        Ok(text) => Ok(text),
         Err(_) => {
             tell_file(rt, list, &"the list is not UTF-8");
             Err(SessionFault::Read)
@@ -346,18 +310,32 @@ fn add_inner_list<R: AllocGlobal + Eprint + Files>(
     list: &str,
     files: &mut Vec<WantedFile>,
 ) -> Result<(), SessionFault> {
-    for entry in entries_of(rt, list)? {
-        if entry.is_list {
-            let told = format_args!(
-                "{list}:{}: a list that a list names may name no list",
-                entry.line
-            );
-            let _ = rt.eprintln(told);
-            return Err(SessionFault::Read);
+    let text = list_text(rt, list)?;
+    match inner_files(rt.alloc(), list, text.as_str()) {
+        Ok(found) => {
+            for file in found {
+                add_file(files, Ok(file))?;
+            }
+            Ok(())
         }
-        add_file(files, file_of_entry(rt, list, entry))?;
+        Err(InnerListFault::NamesList { line }) => {
+            let told = format_args!("{list}:{line}: a list that a list names may name no list");
+            let _ = rt.eprintln(told);
+            Err(SessionFault::Read)
+        }
+        Err(InnerListFault::OutOfMemory(_)) => Err(SessionFault::Memory),
     }
-    Ok(())
+}
+
+fn entries_of<R: AllocGlobal + Eprint + Files>(
+    rt: &R,
+    list: &str,
+) -> Result<Vec<ListEntry>, SessionFault> {
+    let text = list_text(rt, list)?;
+    match list_entries(rt.alloc(), list, text.as_str()) {
+        Ok(entries) => Ok(entries),
+        Err(_) => Err(SessionFault::Memory),
+    }
 }
 
 fn add_list<R: AllocGlobal + Eprint + Files>(
@@ -369,7 +347,7 @@ fn add_list<R: AllocGlobal + Eprint + Files>(
         if entry.is_list {
             add_inner_list(rt, entry.path.as_str(), files)?;
         } else {
-            add_file(files, file_of_entry(rt, list, entry))?;
+            add_file(files, file_of_entry(rt.alloc(), list, entry))?;
         }
     }
     Ok(())
@@ -384,7 +362,7 @@ fn wanted_files<R: AllocGlobal + Eprint + Files>(
     for word in words {
         match word.strip_prefix('@') {
             Some(list) => add_list(rt, list, &mut files)?,
-            None => add_file(&mut files, file_of_word(rt, *word))?,
+            None => add_file(&mut files, file_of_word(rt.alloc(), *word))?,
         }
     }
     Ok(files)
@@ -396,8 +374,8 @@ fn two_files<R: AllocGlobal>(
     second: &str,
 ) -> Result<Vec<WantedFile>, SessionFault> {
     let mut files = Vec::new(rt.alloc());
-    add_file(&mut files, file_of_word(rt, first))?;
-    add_file(&mut files, file_of_word(rt, second))?;
+    add_file(&mut files, file_of_word(rt.alloc(), first))?;
+    add_file(&mut files, file_of_word(rt.alloc(), second))?;
     Ok(files)
 }
 
@@ -562,11 +540,11 @@ where
         Form::Stream => stream(rt, errors),
         Form::Session { script, workers } => session_of(rt, errors, script, workers),
         Form::Watch {
-            model,
+            models,
             tests,
             workers,
             poll,
-        } => watch_files(rt, errors, model, &tests, workers, poll),
+        } => watch_files(rt, errors, &models, &tests, workers, poll),
         Form::Eval {
             model,
             test,

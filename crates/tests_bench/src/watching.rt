@@ -16,7 +16,7 @@ use std::thread::Threads;
 use std::{fs, io};
 use watch_run::{Version, VersionTeller, Versions, watch};
 
-const MODEL: &str = "power.cat";
+const MODELS: [&str; 1] = ["power.cat"];
 
 const WORKERS: [u32; 4] = [1, 2, 4, 32];
 
@@ -104,7 +104,7 @@ fn read_table<R: Files + AllocGlobal>(rt: &R) -> io::Result<Table> {
 fn tell_versions<R: AllocGlobal + Files + Print>(rt: &R) -> io::Result<()> {
     let list = fs::read_to_string(rt, "watched/told.txt")?;
     let versions = table_of(rt, &list)?;
-    let mut teller = VersionTeller::new(rt.alloc(), versions, MODEL, true, io::writer(rt));
+    let mut teller = VersionTeller::new(rt.alloc(), versions, &MODELS, true, io::writer(rt));
     for line in list.lines() {
         println!(rt; "version {line}")?;
         let (path, _file) = line.split_once(" ").unwrap_or((line, ""));
@@ -127,7 +127,7 @@ where
     let versions = read_table(rt)?;
     let source = MemorySource::failing_at(lines, reads);
     let sink = MemorySink::failing_at(Vec::new(rt.alloc()), writes);
-    let ended = watch(rt, MODEL, &TESTS, workers, versions, source, sink)?;
+    let ended = watch(rt, &MODELS, &TESTS, workers, versions, source, sink)?;
     Ok(Ending {
         output: Vec::from_slice(rt.alloc(), ended.sink.as_bytes())?,
         end: ended.answer,

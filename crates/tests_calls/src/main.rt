@@ -947,8 +947,8 @@ where
     tell_whether(rt, "Desk::lose", matches!(desk.lose(rt, claim), Ok(true)))
 }
 
-// What a job makes is returned.
-fn return_one<R, J, X, H>(rt: &R, desk: &Desk<J, X, H>) -> io::Result<()>
+// What a job makes is returned, and the next job is given out.
+fn exchange_one<R, J, X, H>(rt: &R, desk: &Desk<J, X, H>) -> io::Result<()>
 where
     R: Print + AllocGlobal + Wait,
     J: Naming + StoreName,
@@ -958,6 +958,48 @@ where
     let Ok(Some(job)) = desk.claim(rt) else {
         return tell(rt, "Desk::claim", b"refused");
     };
+    let Some(done) = made_by(rt, job)? else {
+        return Ok(());
+    };
+    match desk.exchange(rt, done) {
+        Ok((finish, _posted, next)) => {
+            tell_finish(rt, finish)?;
+            return_next(rt, desk, next)
+        }
+        Err(fault) => tell_refused(rt, "Desk::exchange", fault),
+    }
+}
+
+// What the next job makes is returned.
+fn return_next<R, J, X, H>(
+    rt: &R,
+    desk: &Desk<J, X, H>,
+    next: Result<Option<Job<J, X>>, DeskFault<EditFault>>,
+) -> io::Result<()>
+where
+    R: Print + AllocGlobal + Wait,
+    J: Naming + StoreName,
+    X: BoardTexts<Edit = Edit, Fault = EditFault>,
+    H: Wait + Drop,
+{
+    match next {
+        Ok(Some(job)) => {
+            tell_number(rt, "Desk::exchange", job.claim_number())?;
+            return_one(rt, desk, job)
+        }
+        Ok(None) => tell(rt, "Desk::exchange", b"no job"),
+        Err(fault) => tell_refused(rt, "Desk::exchange", fault),
+    }
+}
+
+// What a job makes is returned.
+fn return_one<R, J, X, H>(rt: &R, desk: &Desk<J, X, H>, job: Job<J, X>) -> io::Result<()>
+where
+    R: Print + AllocGlobal + Wait,
+    J: Naming + StoreName,
+    X: BoardTexts<Edit = Edit, Fault = EditFault>,
+    H: Wait + Drop,
+{
     let Some(done) = made_by(rt, job)? else {
         return Ok(());
     };
@@ -1055,7 +1097,7 @@ where
     make_desk_edits(rt, desk, &mut author)?;
     let author = look(rt, author, false)?;
     lose_one(rt, desk)?;
-    return_one(rt, desk)?;
+    exchange_one(rt, desk)?;
     tell_whether(rt, "Desk::renew", desk.renew(rt).is_ok())?;
     work_beside(rt, desk, author)?;
     show_closed(rt, desk)
@@ -1094,6 +1136,7 @@ where
     show_refusals(rt)?;
     NoGate.begin(rt, 1);
     NoGate.end(rt, 1);
+    tell_whether(rt, "NoGate::hears_ends", NoGate.hears_ends())?;
     open_desk::<R, Brand>(rt, OpenedDesk::new(rt.alloc())?)
 }
 

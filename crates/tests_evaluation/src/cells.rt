@@ -207,12 +207,12 @@ fn put_asked(answer: &mut Vec<u8>, form: Form<'_>) -> Result<(), AllocError> {
             put_flag(answer, is_deep, b", deep")
         }
         Form::Watch {
-            model,
+            models,
             tests,
             workers,
             poll,
         } => {
-            put_files(answer, b"watch", &[model], &tests)?;
+            put_files(answer, b"watch", &models, &tests)?;
             put_numbered(answer, b" with ", workers)?;
             put_numbered(answer, b" by ", poll)
         }
