@@ -6,7 +6,8 @@ use Rattle.ppc_semantics.specs.Lowering.{AreNamesOf, test_names}
 use Rattle.bench_texts.specs.BenchTexts.{BenchTexts}
 use Rattle.bench_texts.specs.declared.model.NamedModel.{NamedModel}
 use Rattle.bench_texts.specs.declared.fault.EditFault.TheVariants as faults
-use Rattle.bench_texts.specs.Edits.{Edit, Applies}
+use Rattle.bench_texts.specs.Edits.{Edit, Applies, IsWanting, has_text, missing_fault}
+use Rattle.bench_texts.proofs.Refusing.{is_wanting}
 use Rattle.bench_texts.specs.Limits.{is_full, is_spent}
 use Rattle.memo_core.specs.declared.keys.Kind.{Kind}
 use Rattle.bench_nodes.specs.declared.table.ItemRow.{ItemRow}
@@ -46,6 +47,16 @@ pub applies_unspent : (t new : BenchTexts) (spent : Bool) (e : Edit) → Applies
     → Applies t false e new
 applies_unspent t new spent e h =
     subst (λ (b : Bool). Applies t b e new) (is_unspent t new spent e h) h
+
+-- ---- want of memory
+
+pub is_all_there : (t new : BenchTexts) (spent : Bool) (e : Edit) → Applies t spent e new
+    → missing_fault t e ≡ None
+is_all_there t new spent e a = a.all_there
+
+pub is_wanted : (t new : BenchTexts) (spent : Bool) (e : Edit) → Applies t spent e new
+    → IsWanting t spent e (has_text e)
+is_wanted t new spent e a = is_wanting t new spent e a
 
 -- ---- states that are the same
 

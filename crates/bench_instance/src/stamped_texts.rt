@@ -118,7 +118,7 @@ impl StampedTexts {
 
     // What an edit needs, made beside the texts and their parts, which stay the same. Errors: the
     // first reason to refuse the edit, or want of memory.
-    #[tactic(auto, using(crate::proofs::Preparing::same_state, crate::proofs::Preparing::is_unspent, crate::proofs::Preparing::applies_unspent))]
+    #[tactic(auto, using(crate::proofs::Preparing::same_state, crate::proofs::Preparing::is_unspent, crate::proofs::Preparing::applies_unspent, crate::proofs::Preparing::is_all_there, crate::proofs::Preparing::is_wanted))]
     fn prepare_edit(
         &mut self,
         alloc: Global,

@@ -1,6 +1,7 @@
 -- Refusals by the limits.
 use Rattle.std.proofs.lemmas.Grind.{common_steps}
 use Rattle.std.proofs.Common.{arith, refl, ℕ, ◌≤◌, ◌^◌, nat_lt, None, ◌≡◌, ◌⊎◌, inl, inr, Bool, true, false, ◌||◌, Some, None, Result, Ok, Err, IfOk, if◌then◌else◌, sym, ap, subst, ◌∙◌}
+use Rattle.std.specs.declared.alloc.AllocError.{AllocError}
 use Rattle.bench_texts.specs.declared.fault.EditFault.{EditFault}
 use Rattle.bench_texts.specs.declared.fault.EditFault.TheVariants as faults
 use Rattle.bench_texts.specs.BenchTexts.{BenchTexts}
@@ -8,7 +9,7 @@ use Rattle.bench_texts.specs.Limits.{is_full, is_spent}
 use Rattle.bench_texts.specs.declared.change.Change.{Change}
 use Rattle.bench_texts.specs.declared.texts.Texts.{Texts}
 use Rattle.bench_texts.specs.Changes.{changed_texts, IsChangeReady}
-use Rattle.bench_texts.specs.Edits.{Edit, missing_fault, EditMakes, limit_fault, Applies, RefusesEdit}
+use Rattle.bench_texts.specs.Edits.{Edit, missing_fault, EditMakes, limit_fault, Applies, RefusesEdit, IsWanting, has_text}
 use Rattle.bench_texts.specs.Answers.{Answers, IsChangeBy, IsLimited}
 
 -- a fault of the limits is one of two
@@ -32,6 +33,24 @@ refused_by_limit t new spent e f there makes limit =
         record { new = new; makes = makes; limit = limit ∙ ap Some h },
       )
     ]
+
+-- where an edit is accepted, memory may be wanted for it
+wanting : (t new : BenchTexts) (spent : Bool) (e : Edit) (reads : Bool) → Applies t spent e new
+    → IsWanting t spent e reads
+wanting t new spent e true a = tt
+wanting t new spent e false a = (new, a)
+
+pub is_all_there : (t new : BenchTexts) (spent : Bool) (e : Edit) → Applies t spent e new
+    → missing_fault t e ≡ None
+is_all_there t new spent e a = a.all_there
+
+pub is_wanting : (t new : BenchTexts) (spent : Bool) (e : Edit) → Applies t spent e new
+    → IsWanting t spent e (has_text e)
+is_wanting t new spent e a = wanting t new spent e (has_text e) a
+
+pub wants_memory : (t new : BenchTexts) (spent : Bool) (e : Edit) (error : AllocError)
+    → Applies t spent e new → RefusesEdit t spent e (faults.OutOfMemory error)
+wants_memory t new spent e error a = (a.all_there, is_wanting t new spent e a)
 
 pub limited_answers : (t : BenchTexts) (spent : Bool) (e : Edit) (change : Change)
     (r : Result Change EditFault) → missing_fault t e ≡ None → EditMakes t e (changed_texts change t)

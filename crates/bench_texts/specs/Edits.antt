@@ -224,11 +224,32 @@ pub record Applies (t : BenchTexts) (spent : Bool) (e : Edit) (new : BenchTexts)
   pub makes : EditMakes t e new
   pub within : limit_fault t spent new ≡ None
 
--- the edit is refused: the first that holds, unless memory ran out
+-- the edit gives a text to read
+abbrev pub has_text : Edit → Bool
+has_text (PutTest text) = true
+has_text (DropTest test) = false
+has_text (SetInit test text) = true
+has_text (SetThread test thread text) = true
+has_text (SetCond test text) = true
+has_text (SetLocations test text) = true
+has_text (PutModel model text) = true
+has_text (DropModel model) = false
+has_text (SetItem model item text) = true
+has_text (InsertItem model before text) = true
+has_text (RemoveItem model item) = false
+
+-- A text may want memory while it is read, before it is known whether the edit is refused. What an
+-- edit without a text wants is wanted only where the edit is accepted.
+abbrev pub IsWanting : BenchTexts → Bool → Edit → (reads : Bool) → Type 0
+IsWanting t spent e true = Unit {0}
+IsWanting t spent e false = (new : BenchTexts) × Applies t spent e new
+
+-- The edit is refused: the first that holds. Memory is wanted after it is known that all is there.
 abbrev pub RefusesEdit : BenchTexts → Bool → Edit → EditFault → Type 0
 RefusesEdit t spent e (faults.Test f) = (missing_fault t e ≡ None) × IsLitmusRefusal t e f
 RefusesEdit t spent e (faults.Model f) = (missing_fault t e ≡ None) × IsCatRefusal t e f
 RefusesEdit t spent e faults.Full = (missing_fault t e ≡ None) × IsOverLimit t spent e faults.Full
 RefusesEdit t spent e faults.Spent = (missing_fault t e ≡ None) × IsOverLimit t spent e faults.Spent
-RefusesEdit t spent e (faults.OutOfMemory f) = Unit {0}
+RefusesEdit t spent e (faults.OutOfMemory f) =
+    (missing_fault t e ≡ None) × IsWanting t spent e (has_text e)
 RefusesEdit t spent e fault = missing_fault t e ≡ Some fault

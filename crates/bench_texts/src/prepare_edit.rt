@@ -16,7 +16,8 @@ use std::alloc::Global;
 
 impl Texts {
     /// Checks an edit, and takes all the memory that `commit` needs for it. The texts are as
-    /// before. Errors: the first reason to refuse the edit, or want of memory.
+    /// before. Errors: the first reason to refuse the edit, or want of memory: while a text is
+    /// read, once all is there that the edit names, or else where nothing refuses the edit.
     pub fn prepare(&mut self, alloc: Global, edit: Edit) -> Result<Prepared, EditFault>
         // It is accepted, and these are the texts that `commit` makes, or it is refused.
         ensures answer { MatchResult result
@@ -35,6 +36,7 @@ impl Texts {
 
     /// As `prepare`, where `spent` says whether the numbers of edits are spent: then an edit that
     /// nothing else refuses is.
+    #[tactic(auto, using(crate::proofs::Refusing::is_all_there, crate::proofs::Refusing::is_wanting))]
     pub fn prepare_unless_spent(
         &mut self,
         alloc: Global,
