@@ -23,6 +23,7 @@ use Rattle.memo_core.proofs.Runs.{run_since}
 use Rattle.memo_core.proofs.Tests.{same_node_exact, same_node_refl}
 use Rattle.bench_laws.specs.Jobs.{UnsettledIsGiven, given_count, lost_by, lost_count, GivenIsBounded, EditBoundsGiven}
 use Rattle.cells.proofs.Listed.{runs_on}
+use Rattle.bench_laws.proofs.Once.{given_open}
 use Rattle.bench_laws.proofs.Ready.{found_in, IsReady, IsReadyAbove, AreReadyAbove, not_stale, above_none, accept_stays, net_stays, step_apart, step_above, apart_after}
 
 -- ---- how many claims are given
@@ -249,12 +250,7 @@ module _ {V G : Type 0} (s : MemoState V G) (first : ℕ) where
 module _ {T E V G : Type 0} (means : TextsMeaning T E V G) where
   pub unsettled_given : UnsettledIsGiven means
   unsettled_given es first old new number n given keys values s run step =
-      let work = (step.1).work in (
-        work.used,
-        unmatched (means.net old.texts) old.memos n
-            (present_inputs (means.net old.texts) old.memos ((means.net old.texts).inputs n))
-            work.unmatched refl,
-      )
+      ((step.1).work.used, given_open means old new number n given keys values step)
 
   step_balances : (first : ℕ) (old new : Bench T V) (e : MemoEvent E V G) (p q : Node → Bool)
       → IsJobEvent e → first ≤ old.taken → IsFreshFrom old.memos old.claims
@@ -287,10 +283,10 @@ not_true false h = refl
 
 module _ {T E V G : Type 0} (means : TextsMeaning T E V G) (keeps : IsLawfulMeaning means) (rank : T → Node → ℕ)
     (ranks : HasRanks means rank) where
-  abbrev decision : Bench T V → Node → Bool
+  abbrev pub decision : Bench T V → Node → Bool
   decision b n = decided_by (rank b.texts n + 1) (means.net b.texts) b.memos n
 
-  decision_is : (b : Bench T V) → means.is_valid b.texts
+  pub decision_is : (b : Bench T V) → means.is_valid b.texts
       → DecidesSettled (state_in means b) (decision b)
   decision_is b valid n =
       decides (means.net b.texts) b.memos (rank b.texts) (ranks.falls b.texts valid) n

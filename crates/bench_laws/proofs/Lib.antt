@@ -4,6 +4,7 @@ pub mod There
 pub mod Stamps
 pub mod Ready
 pub mod OpenClaims
+pub mod Once
 pub mod Jobs
 pub mod Given
 pub mod JobLists
@@ -23,3 +24,4 @@ pub mod NewCells
 pub mod Openings
 pub mod StaysSettled
 pub mod Locked
+pub mod Reached

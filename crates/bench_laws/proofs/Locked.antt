@@ -1,27 +1,27 @@
 -- What holds of a bench behind a lock, by what holds of a bench at all times.
-use Rattle.std.proofs.Common.{◌+◌, ◌≤◌, ap, refl, ◌∙◌}
+use Rattle.std.proofs.Common.{◌+◌, ◌≤◌, ap, ◌∙◌}
 use Rattle.std.specs.List.{AllByRecursion as Each}
-use Rattle.memo_core.specs.Graph.{at, present_inputs, stored_output}
+use Rattle.memo_core.specs.Graph.{at, stored_output}
 use Rattle.memo_core.specs.Right.{IsRightMemo}
 use Rattle.memo_core.specs.Run.{counting_on, state_in}
 use Rattle.memo_core.proofs.Exact.{AreApart}
 use Rattle.memo_core.proofs.Headline.{untouched_edit, kept_memo}
-use Rattle.memo_core.proofs.Progress.{unmatched}
 use Rattle.cells.specs.CellLaws.{RightIsFromScratch}
 use Rattle.cells.specs.Views.{IsRightBench}
 use Rattle.bench_nodes.specs.Nodes.{rank}
-use Rattle.bench_instance.specs.StampedTexts.{stamped_net}
 use Rattle.bench_instance.specs.Lemmas.CellProofs.{all_needed}
 use Rattle.bench_instance.specs.Lemmas.LeftCells.{cells_left}
 use Rattle.bench_laws.specs.Live.{live_meaning, live_cells}
 use Rattle.bench_laws.specs.There.{LiveState, HasJustItsCells, ShowsRight}
 use Rattle.bench_laws.specs.Stamps.{AreLow}
-use Rattle.bench_laws.specs.Locked.{HoldsOfRight, EditsKeepUnreached, GivesNeeded, HasNoneOutTwice, HasLowMemos, AcceptsJobs, BoundsGiven}
+use Rattle.bench_laws.specs.Locked.{HoldsOfRight, EditsKeepUnreached, GivesNeeded, HasNoneOutTwice, HasLowMemos, AcceptsJobs, BoundsGiven, GivesOnce, GivesReached, BoundsReached}
 use Rattle.bench_laws.proofs.Runs.{kept, has_ranks}
 use Rattle.bench_laws.proofs.There.{has_just_its_cells, shows_right}
 use Rattle.bench_laws.proofs.Ready.{each_on}
 use Rattle.bench_laws.proofs.Jobs.{accepted_from}
 use Rattle.bench_laws.proofs.Given.{bounded_from}
+use Rattle.bench_laws.proofs.Once.{given_open, once_given}
+use Rattle.bench_laws.proofs.OnlyReached.{reached_given, reached_bounded}
 
 apart : (b : LiveState) → IsRightBench live_meaning b → AreApart (state_in live_meaning b)
 apart b right = record { fresh = right.fresh; numbered = right.numbered }
@@ -59,10 +59,7 @@ needed_given old right new number n given keys values step =
     record {
       needed = all_needed old.texts right.valid n work.used;
       work = work;
-      unsettled =
-          unmatched (stamped_net old.texts) old.memos n
-          (present_inputs (stamped_net old.texts) old.memos ((stamped_net old.texts).inputs n))
-          work.unmatched refl;
+      unsettled = given_open live_meaning old new number n given keys values step;
     }
 
 pub none_out_twice : HoldsOfRight HasNoneOutTwice
@@ -90,3 +87,20 @@ pub given_few : HoldsOfRight BoundsGiven
 given_few start right events end settled more jobs decides =
     bounded_from live_meaning kept (λ t. rank t.parts.table) has_ranks events start end settled
     right.valid (apart start right) more jobs decides
+
+pub nodes_once : HoldsOfRight GivesOnce
+nodes_once old right later start mid end number other n m given more keys others values rest claimed
+    run jobs kept again =
+    once_given live_meaning later old start mid end number other n m given more keys others values
+    rest (apart old right) claimed run jobs kept again
+
+pub only_reached : HoldsOfRight GivesReached
+only_reached old right later start mid end e number n given keys values test model step more jobs
+    claim cell under =
+    reached_given old start e right.valid (apart old right) step later mid end number n given keys
+    values test model more jobs claim cell under
+
+pub reached_few : HoldsOfRight BoundsReached
+reached_few old right events start end e is_open step under more jobs =
+    reached_bounded old start end e events is_open right.valid (apart old right) step under more
+    jobs

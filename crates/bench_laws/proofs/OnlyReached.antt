@@ -1,13 +1,14 @@
 -- An edit gives no job of a node under a settled cell that it does not reach.
-use Rattle.std.proofs.Common.{◌≡◌, ℕ, ◌+◌, ◌≤◌, inl, inr, Bool, true, false, not, List, [], ◌∷◌, ◌++◌, Some, refl, sym, ap, subst, ◌∙◌, arith}
+use Rattle.std.proofs.Common.{◌≡◌, ℕ, ◌+◌, ◌≤◌, inl, inr, Bool, true, false, not, List, [], ◌∷◌, Some, refl, sym, ap, subst, ◌∙◌, arith}
 use Rattle.std.specs.List.{AllByRecursion as Each}
 use Rattle.std.proofs.lemmas.Bool.{cases_Bool}
 use Rattle.memo_core.specs.declared.keys.Node.{Node}
+use Rattle.memo_core.specs.declared.keys.Key.{Key}
 use Rattle.memo_core.specs.Graph.{Net, IsSettled}
-use Rattle.memo_core.specs.Run.{MemoEvent, Edit, Claim, NoClaim, Returned, Lose, Renew, Refused, MemoRun, Step, IsNewBench, count_unsettled, state_in}
+use Rattle.memo_core.specs.Run.{MemoEvent, Edit, Claim, NoClaim, Returned, Lose, Renew, Refused, MemoRun, Step, count_unsettled, state_in}
 use Rattle.memo_core.specs.Step.{Has}
 use Rattle.memo_core.specs.Work.{IsJobEvent}
-use Rattle.memo_core.proofs.Exact.{exact_laws}
+use Rattle.memo_core.proofs.Exact.{AreApart}
 use Rattle.memo_core.proofs.Headline.{untouched_edit}
 use Rattle.memo_core.proofs.Runs.{run_since}
 use Rattle.bench_values.specs.Givens.{GivenContent}
@@ -15,14 +16,16 @@ use Rattle.bench_values.specs.Values.{NodeContent}
 use Rattle.bench_nodes.specs.Nodes.{rank}
 use Rattle.bench_texts.specs.declared.edit.Edit.{Edit as Code}
 use Rattle.bench_parts.specs.States.{keeps}
-use Rattle.cells.proofs.Listed.{runs_on}
 use Rattle.bench_instance.specs.StampedTexts.{AreSoundTexts, stamped_net, verdict_of}
 use Rattle.bench_instance.specs.Lemmas.StampedLaws.{since_itself}
 use Rattle.bench_instance.specs.Lemmas.LeftCells.{cells_left}
 use Rattle.bench_laws.specs.Live.{live_meaning, live_last}
 use Rattle.bench_laws.specs.There.{LiveState}
 use Rattle.bench_laws.specs.OnlyReached.{IsUnreachedCell, IsUnderCell, IsUnderUnreached, OnlyReachedIsGiven, ReachedBoundsGiven}
-use Rattle.bench_laws.proofs.Given.{unsettled_given, given_bounded}
+use Rattle.bench_laws.specs.Jobs.{given_count, lost_count}
+use Rattle.bench_laws.proofs.Given.{bounded_from, decision, decision_is}
+use Rattle.bench_laws.proofs.Once.{given_open, run_settled}
+use Rattle.bench_laws.proofs.Ready.{apart_after, step_apart}
 use Rattle.bench_laws.proofs.Runs.{kept, has_ranks, sound_after}
 use Rattle.bench_laws.proofs.SameVerdicts.{same_verdicts}
 use Rattle.bench_laws.proofs.Unreached.{settled_under}
@@ -71,22 +74,20 @@ verdicts_same es old new jobs h sound test model =
 
 -- ---- after an edit
 
-module _ (earlier : List LiveEvent) (first old start : LiveState) (e : Code)
-    (s : IsNewBench AreSoundTexts stamped_net first) (run : MemoRun live_meaning first earlier old)
-    (step : Step live_meaning old (Edit e) start) where
-  -- the events up to the edit, and it
-  abbrev events : List LiveEvent
-  events = earlier ++ Edit e ∷ []
+module _ (old start : LiveState) (e : Code) (sound : AreSoundTexts old.texts)
+    (apart : AreApart (state_in live_meaning old)) (step : Step live_meaning old (Edit e) start) where
+  start_sound : AreSoundTexts start.texts
+  start_sound = kept.valid_edited old.texts start.texts e (old.taken + 1) sound step.0
 
-  run_on : MemoRun live_meaning first events start
-  run_on = runs_on live_meaning earlier (Edit e ∷ []) first old start run (start, step, refl)
+  start_apart : AreApart (state_in live_meaning start)
+  start_apart = step_apart live_meaning old start (Edit e) apart step
 
   -- a settled cell that the edit does not reach stays settled
   verdict_settled : (test model : List ℕ) (v : Node) → IsUnreachedCell old start test model
       → verdict_of start.texts test model ≡ Some v → IsSettled (stamped_net start.texts) start.memos v
   verdict_settled test model v cell is =
       let was = cell.settled in
-      let left = cells_left old.texts start.texts e (old.taken + 1) test model (sound_after earlier first old s run) step.0 (λ reached. reached cell.slice) was.verdict was.is in
+      let left = cells_left old.texts start.texts e (old.taken + 1) test model sound step.0 (λ reached. reached cell.slice) was.verdict was.is in
       subst (λ (k : Node). IsSettled (stamped_net start.texts) start.memos k)
       (some_is (sym left.0 ∙ is))
       (untouched_edit (λ n. keeps start.texts.parts n) (state_in live_meaning old)
@@ -107,20 +108,27 @@ module _ (earlier : List LiveEvent) (first old start : LiveState) (e : Code)
       → IsUnreachedCell old start test model → IsUnderCell mid test model n
       → IsSettled (stamped_net mid.texts) mid.memos n
   settled_later later mid n test model more jobs cell under =
-      let same = verdicts_same later start mid jobs more (sound_after events first start s run_on) test model in
+      let same = verdicts_same later start mid jobs more start_sound test model in
       let was = verdict_settled test model under.verdict cell (sym same ∙ under.is) in
-      let laws = exact_laws live_meaning kept (λ t. rank t.parts.table) has_ranks in
-      let settled = laws.2 events later first start mid s run_on more jobs under.verdict was in
+      let settled = run_settled live_meaning later start mid jobs start_apart more under.verdict was in
       settled_under (stamped_net mid.texts) mid.memos (under.stands).0 settled.0 under.verdict n
       (under.stands).1 settled.1
+
+  pub reached_given : (later : List LiveEvent) (mid end : LiveState) (number : ℕ) (n : Node)
+      (given : GivenContent) (keys : List Key) (values : List NodeContent) (test model : List ℕ)
+      → MemoRun live_meaning start later mid → Each IsJobEvent later
+      → Step live_meaning mid (Claim number n given keys values) end
+      → IsUnreachedCell old start test model → IsUnderCell mid test model n → ⊥
+  reached_given later mid end number n given keys values test model more jobs claim cell under =
+      given_open live_meaning mid end number n given keys values claim
+      (settled_later later mid n test model more jobs cell under)
 
 pub only_reached_is_given : OnlyReachedIsGiven
 only_reached_is_given earlier later first old start mid end e number n given keys values test model
     s run step more jobs claim cell under =
-    let all = runs_on live_meaning (events earlier first old start e s run step) later first start mid (run_on earlier first old start e s run step) more in
-    let unsettled = unsettled_given live_meaning (events earlier first old start e s run step ++ later) first mid end number n given keys values s all claim in
-    unsettled.1 (settled_later earlier first old start e s run step later mid n test model more jobs
-    cell under)
+    reached_given old start e (sound_after earlier first old s run)
+    (apart_after live_meaning earlier first old s run) step later mid end number n given keys
+    values test model more jobs claim cell under
 
 -- ---- how many jobs
 
@@ -143,16 +151,26 @@ count_no_more p q (n ∷ ns) f =
       ]
     ]
 
+pub reached_bounded : (old start end : LiveState) (e : Code) (later : List LiveEvent)
+    (is_open : Node → Bool) → AreSoundTexts old.texts → AreApart (state_in live_meaning old)
+    → Step live_meaning old (Edit e) start
+    → ((n : Node) → Has (stamped_net start.texts).used n → is_open n ≡ false
+    → IsUnderUnreached old start n)
+    → MemoRun live_meaning start later end → Each IsJobEvent later
+    → given_count later
+    ≤ count_unsettled (λ n. not (is_open n)) (stamped_net start.texts).used + lost_count later
+reached_bounded old start end e later is_open sound apart step under more jobs =
+    let now = decision live_meaning kept (λ t. rank t.parts.table) has_ranks start in
+    let is = decision_is live_meaning kept (λ t. rank t.parts.table) has_ranks start (start_sound old start e sound apart step) in
+    let low = bounded_from live_meaning kept (λ t. rank t.parts.table) has_ranks later start end now (start_sound old start e sound apart step) (start_apart old start e sound apart step) more jobs is in
+    let still : (n : Node) → Has (stamped_net start.texts).used n → not (is_open n) ≡ true → now n ≡ true =
+    λ n has t.
+    (is n).1 (under_settled old start e sound apart step n
+    (under n has (not_true (is_open n) t))) in
+    let fewer = count_no_more (λ n. not (is_open n)) now (stamped_net start.texts).used still in
+    omega (arith, low, fewer)
+
 pub reached_bounds_given : ReachedBoundsGiven
 reached_bounds_given earlier later first old start end e is_open s run step under more jobs =
-    let all = run_on earlier first old start e s run step in
-    let before = events earlier first old start e s run step in
-    let laws = exact_laws live_meaning kept (λ t. rank t.parts.table) has_ranks in
-    let now = laws.3 before first start s all in
-    let low = given_bounded live_meaning kept (λ t. rank t.parts.table) has_ranks before later first start end now.0 s all more jobs now.1 in
-    let still : (n : Node) → Has (stamped_net start.texts).used n → not (is_open n) ≡ true → now.0 n ≡ true =
-    λ n has t.
-    (now.1 n).1 (under_settled earlier first old start e s run step n
-    (under n has (not_true (is_open n) t))) in
-    let fewer = count_no_more (λ n. not (is_open n)) now.0 (stamped_net start.texts).used still in
-    omega (arith, low, fewer)
+    reached_bounded old start end e later is_open (sound_after earlier first old s run)
+    (apart_after live_meaning earlier first old s run) step under more jobs

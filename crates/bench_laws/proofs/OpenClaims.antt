@@ -2,6 +2,8 @@
 use Rattle.std.proofs.Common.{◌≡◌, ◌≢◌, ℕ, ◌+◌, ◌<◌, Bool, true, false, ◌==◌, inl, inr, List, [], ◌∷◌, ◌++◌, Some, None, refl, ap, sym, subst, ◌∙◌, eqb-true, eq-eqb, arith}
 use Rattle.std.specs.List.{AllByRecursion as Each}
 use Rattle.std.proofs.lemmas.Bool.{cases_Bool}
+use Rattle.memo_core.specs.declared.keys.Node.{Node}
+use Rattle.memo_core.specs.declared.keys.Key.{Key}
 use Rattle.memo_core.specs.declared.claims.Finish.{Finish}
 use Rattle.memo_core.specs.declared.claims.Finish.TheVariants.{Unknown, Stale, Same, Stored}
 use Rattle.memo_core.specs.Graph.{present_inputs}
@@ -64,7 +66,7 @@ module _ {T E V G : Type 0} (means : TextsMeaning T E V G) where
   lose_leaves number c old new n true ne e h = rw h.2 (left_claim number n old.claims c ne e)
   lose_leaves number c old new n false ne e h = rw h.1 e
 
-  step_leaves : (number : ℕ) (c : OpenClaim) (old new : Bench T V) (e : MemoEvent E V G) → IsJobEvent e
+  pub step_leaves : (number : ℕ) (c : OpenClaim) (old new : Bench T V) (e : MemoEvent E V G) → IsJobEvent e
       → LeavesClaim number e → claim_of number old.claims ≡ Some c → Step means old e new
       → claim_of number new.claims ≡ Some c
   step_leaves number c old new (Edit e) job leaves is h = absurd job
@@ -89,12 +91,31 @@ module _ {T E V G : Type 0} (means : TextsMeaning T E V G) where
       run_leaves number c es h.0 new jobs.1 leaves.1
       (step_leaves number c old h.0 e jobs.0 leaves.0 is h.1) h.2
 
+  -- the claim that a node gets now
+  abbrev pub opened : Bench T V → ℕ → Node → OpenClaim
+  opened b number n =
+      record {
+        number = number;
+        node = n;
+        inputs = present_inputs (means.net b.texts) b.memos ((means.net b.texts).inputs n);
+      }
+
+  pub given_found : (old new : Bench T V) (number : ℕ) (n : Node) (given : G) (keys : List Key)
+      (values : List V) → AreClaimsNumbered old.taken old.claims
+      → Step means old (Claim number n given keys values) new
+      → claim_of number new.claims ≡ Some (opened old number n)
+  given_found old new number n given keys values numbered h =
+      let g = h.1 in
+      let is : number ≡ old.taken + 1 = g.number_is in
+      subst (λ (cs : List OpenClaim). claim_of number cs ≡ Some (opened old number n))
+      (sym (ap (λ (s : MemoState V G). s.claims) g.after))
+      (claim_last old.taken old.claims (opened old number n) (omega (arith, is)) numbered)
+
   pub claims_stay_out : ClaimsStayOut means
   claims_stay_out earlier later first old start end number n given keys values s run claimed more
       jobs leaves =
-      let g = claimed.1 in
-      let is : number ≡ old.taken + 1 = g.number_is in
-      let claim : OpenClaim = record { number = number; node = n; inputs = present_inputs (means.net old.texts) old.memos ((means.net old.texts).inputs n) } in
-      let here = claim_last old.taken old.claims claim (omega (arith, is)) (apart_after means earlier first old s run).numbered in
-      let begun : claim_of number start.claims ≡ Some claim = subst (λ (cs : List OpenClaim). claim_of number cs ≡ Some claim) (sym (ap (λ (s : MemoState V G). s.claims) g.after)) here in
-      (claim, run_leaves number claim later start end jobs leaves begun more)
+      let numbered = (apart_after means earlier first old s run).numbered in
+      let begun = given_found old start number n given keys values numbered claimed in (
+        opened old number n,
+        run_leaves number (opened old number n) later start end jobs leaves begun more,
+      )

@@ -11,3 +11,4 @@ pub mod OutputNames
 pub mod ToldOutputs
 pub mod Openings
 pub mod Locked
+pub mod Reached

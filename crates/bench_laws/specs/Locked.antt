@@ -1,6 +1,6 @@
 -- What holds of a bench behind a lock. No list of events from a new bench is known of it, but what
--- holds of a bench at all times (`IsRightBench`). Read it after There, Stamps and Jobs.
-use Rattle.std.specs.Prelude.{◌≡◌, ◌+◌, ◌≤◌, ℕ, List, Bool, true}
+-- holds of a bench at all times (`IsRightBench`). Read it after There, Stamps, Jobs and OnlyReached.
+use Rattle.std.specs.Prelude.{◌≡◌, ◌≢◌, ◌+◌, ◌≤◌, ⊤, ℕ, List, Bool, true, false, not}
 use Rattle.std.specs.List.{AllByRecursion as Each}
 use Rattle.memo_core.specs.declared.keys.Node.{Node}
 use Rattle.memo_core.specs.declared.keys.Key.{Key}
@@ -8,8 +8,8 @@ use Rattle.memo_core.specs.declared.claims.Finish.{Finish}
 use Rattle.memo_core.specs.Graph.{IsSettled}
 use Rattle.memo_core.specs.Laws.{DecidesSettled}
 use Rattle.memo_core.specs.Run as core
-use Rattle.memo_core.specs.Run.{MemoEvent, Claim, Returned, MemoRun, Step, IsFreshFrom, count_unsettled, state_in}
-use Rattle.memo_core.specs.Step.{Return, IsWork, AreClaimsNumbered}
+use Rattle.memo_core.specs.Run.{MemoEvent, Claim, NoClaim, Returned, Lose, Renew, Refused, MemoRun, Step, IsFreshFrom, count_unsettled, state_in}
+use Rattle.memo_core.specs.Step.{Return, Has, IsWork, AreClaimsNumbered}
 use Rattle.memo_core.specs.Work.{IsJobEvent, is_accepted}
 use Rattle.bench_values.specs.Givens.{GivenContent}
 use Rattle.bench_values.specs.Values.{NodeContent}
@@ -23,6 +23,7 @@ use Rattle.bench_laws.specs.Live.{live_meaning, live_cells}
 use Rattle.bench_laws.specs.There.{LiveState}
 use Rattle.bench_laws.specs.Stamps.{AreLow}
 use Rattle.bench_laws.specs.Jobs.{IsClaimOut, given_count, lost_count}
+use Rattle.bench_laws.specs.OnlyReached.{IsUnreachedCell, IsUnderCell, IsUnderUnreached}
 
 -- it holds wherever that holds which holds of a bench at all times
 abbrev pub HoldsOfRight : (LiveState → Type 0) → Type 0
@@ -83,3 +84,49 @@ BoundsGiven start =
     → MemoRun live_meaning start events end → Each IsJobEvent events
     → DecidesSettled (state_in live_meaning start) settled
     → given_count events ≤ count_unsettled settled (stamped_net start.texts).used + lost_count events
+
+-- the event does not lose the claim of this number
+abbrev pub LosesOther : {E V G : Type 0} → ℕ → MemoEvent E V G → Type 0
+LosesOther number (core.Edit e) = ⊤
+LosesOther number (Claim other n given keys values) = ⊤
+LosesOther number NoClaim = ⊤
+LosesOther number (Returned r answer) = ⊤
+LosesOther number (Lose n answer) = n ≢ number
+LosesOther number Renew = ⊤
+LosesOther number Refused = ⊤
+
+-- While claims, returns, losses and refused calls come alone after a claim, and none loses it: no
+-- claim that is given is of its node.
+abbrev pub GivesOnce : LiveState → Type 0
+GivesOnce old =
+    (later : List (MemoEvent Edit NodeContent GivenContent)) (start mid end : LiveState)
+    (number other : ℕ) (n m : Node) (given more : GivenContent) (keys others : List Key)
+    (values rest : List NodeContent)
+    → Step live_meaning old (Claim number n given keys values) start
+    → MemoRun live_meaning start later mid → Each IsJobEvent later → Each (LosesOther number) later
+    → Step live_meaning mid (Claim other m more others rest) end → m ≢ n
+
+-- While they come alone after an edit, no claim is given of a node under a cell that was settled
+-- before the edit and that the edit does not reach.
+abbrev pub GivesReached : LiveState → Type 0
+GivesReached old =
+    (later : List (MemoEvent Edit NodeContent GivenContent)) (start mid end : LiveState) (e : Edit)
+    (number : ℕ) (n : Node) (given : GivenContent) (keys : List Key) (values : List NodeContent)
+    (test model : List ℕ)
+    → Step live_meaning old (core.Edit e) start
+    → MemoRun live_meaning start later mid → Each IsJobEvent later
+    → Step live_meaning mid (Claim number n given keys values) end
+    → IsUnreachedCell old start test model → IsUnderCell mid test model n → ⊥
+
+-- Where each used node but those that are open is under such a cell: a list of them gives no more
+-- claims after the edit than used nodes are open and claims are lost in it.
+abbrev pub BoundsReached : LiveState → Type 0
+BoundsReached old =
+    (events : List (MemoEvent Edit NodeContent GivenContent)) (start end : LiveState) (e : Edit)
+    (is_open : Node → Bool)
+    → Step live_meaning old (core.Edit e) start
+    → ((n : Node) → Has (stamped_net start.texts).used n → is_open n ≡ false
+    → IsUnderUnreached old start n)
+    → MemoRun live_meaning start events end → Each IsJobEvent events
+    → given_count events
+    ≤ count_unsettled (λ n. not (is_open n)) (stamped_net start.texts).used + lost_count events

@@ -21,7 +21,8 @@ ghost use Rattle.bench_laws.specs.Refusals.{RefusedChangesNothing, RefusedEditCh
 ghost use Rattle.bench_laws.specs.OutputNames.{OutputsHaveTheirNames, OthersHaveOneOutput};
 ghost use Rattle.bench_laws.specs.ToldOutputs.{ReturnsTellOutputs, ReturnsNameOutputs};
 ghost use Rattle.bench_laws.specs.Unreached.{UnreachedNeedsNoJob};
-ghost use Rattle.bench_laws.specs.Locked.{HoldsOfRight, EditsKeepUnreached, GivesNeeded, HasNoneOutTwice, HasLowMemos, AcceptsJobs, BoundsGiven};
+ghost use Rattle.bench_laws.specs.Locked.{HoldsOfRight, EditsKeepUnreached, GivesNeeded, HasNoneOutTwice, HasLowMemos, AcceptsJobs, BoundsGiven, GivesOnce, GivesReached, BoundsReached};
+ghost use Rattle.bench_laws.specs.Reached.{HoldsOfReached, HasFewJobs};
 ghost use Rattle.bench_laws.specs.OnlyReached.{OnlyReachedIsGiven, ReachedBoundsGiven};
 ghost use Rattle.bench_laws.specs.UsedOnce.{ListsEachNodeOnce, HasEachNodeOnce};
 ghost use Rattle.bench_laws.specs.Openings.{with_edit, KeepsUnreached, OpensReached, StaysSettled};
@@ -214,3 +215,24 @@ pub fn locked_work_is_exact()
     ensures accepted { HoldsOfRight AcceptsJobs }
     ensures bounded { HoldsOfRight BoundsGiven }
 {}
+
+/// Of such a bench, whatever came before: while no edit and no renewal comes, no second job is
+/// given of a node unless the claim of the first is lost. Nor is one given, after an edit, under a
+/// cell that was settled and that the edit does not reach: so there are no more jobs than used
+/// nodes under no such cell and lost claims.
+pub fn locked_jobs_are_few()
+    ensures once { HoldsOfRight GivesOnce }
+    ensures reached { HoldsOfRight GivesReached }
+    ensures bounded { HoldsOfRight BoundsReached }
+{}
+
+/// Some list of events leads from a new bench to the one behind a desk's lock, as
+/// `DeskState::is_closed` says. So what holds after any list holds of it. No stamp that it stores
+/// is above the last number taken, also of what claims record. Since the last edit or renewal it
+/// gave no more jobs than nodes were to be settled then and claims were lost since.
+pub fn desk_benches_are_reached()
+    ensures low { HoldsOfReached HasLowStamps }
+    ensures few { HoldsOfReached HasFewJobs }
+{
+    stamps_are_low();
+}

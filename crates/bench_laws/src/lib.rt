@@ -3,8 +3,9 @@
 //! after `Cells` and `CellLaws` of `cells/specs` and `StampedCells` of `bench_instance/specs`, and
 //! then `There` (which cells there are), `Stamps`, `Jobs` (how many jobs are given), `Unreached`
 //! (edits that need no job), `OnlyReached` (which jobs other edits give), `UsedOnce` (what is
-//! counted there), `Refusals`, `OutputNames` and `ToldOutputs` (what the numbers of a return tell)
-//! and `Openings` (which cells of a board an edit opens).
+//! counted there), `Refusals`, `OutputNames` and `ToldOutputs` (what the numbers of a return tell),
+//! `Openings` (which cells of a board an edit opens), `Locked` and `Reached` (a bench behind a
+//! lock).
 #![tactic(auto)]
 
 pub mod laws;

@@ -4,3 +4,5 @@ pub mod Growing
 pub mod Refusing
 pub mod Returning
 pub mod Exchanging
+pub mod Numbering
+pub mod Reaching

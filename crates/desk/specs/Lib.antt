@@ -3,5 +3,6 @@ pub mod Told
 pub mod Posts
 pub mod Held
 pub mod Exchanges
+pub mod Runs
 pub mod Rows
 pub mod Numbers

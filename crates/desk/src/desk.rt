@@ -1,9 +1,9 @@
 //! The lock, and what each thread calls.
 
-ghost use Rattle.std.specs.Prelude.{◌≡◌, ◌≢◌, ◌⊎◌, [], IfOk, IfErr, IsSome, OnErr, OnOk, fold, leb, ⊤};
+ghost use Rattle.std.specs.Prelude.{◌≡◌, ◌≢◌, ◌≤◌, ◌⊎◌, [], IfOk, IfErr, IsSome, OnErr, OnOk, fold, leb, ⊤};
 ghost use mathlib.Core.List.{IsPrefix};
 ghost use Rattle.desk.specs.Boards.{AreSettled};
-ghost use Rattle.desk.specs.Held.{IsClaimRefusedBy, IsRefusedAfter, IsRefusedBy, TellsEdit, TellsSettled};
+ghost use Rattle.desk.specs.Held.{accepted_number, IsClaimRefusedBy, IsRefusedAfter, IsRefusedBy, TellsEdit, TellsSettled};
 ghost use Rattle.desk.specs.Numbers.{desk_fault_number};
 
 use crate::answer::{Accepted, Posted, Settling};
@@ -76,6 +76,7 @@ impl<J: Naming + StoreName, X: BoardTexts, R: Wait + Drop> Desk<J, X, R> {
 
     /// Makes an edit, publishes it and tells this viewer. Errors: K1, K2 if the viewer has seen
     /// more than this desk has, the bench's refusals, want of memory.
+    #[tactic(auto, using(crate::proofs::Numbering::low_number))]
     pub fn edit<W: Wait>(
         &self,
         rt: &W,
@@ -90,6 +91,7 @@ impl<J: Naming + StoreName, X: BoardTexts, R: Wait + Drop> Desk<J, X, R> {
             (me.old ≢ [])) }
         ensures told { IfOk result (λ a.
             TellsEdit X.is_legal X.is_edit X.is_settle edit me.old me.new a) }
+        ensures number { IfOk result (λ a. accepted_number a ≤ LAST) }
     {
         let mut state = self.lock(rt);
         let changes = state.change_count();

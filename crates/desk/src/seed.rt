@@ -1,6 +1,7 @@
 //! What a desk is made of.
 
 ghost use Rattle.std.specs.Prelude.{◌≡◌, [], false, true, IfOk, IfErr, min};
+ghost use Rattle.memo_core.specs.Run.{IsNewBench};
 ghost use Rattle.desk.specs.Held.{held, IsSeedRefusedBy};
 
 use crate::fault::DeskFault;
@@ -74,7 +75,7 @@ fn parts<J: Naming + StoreName, X: BoardTexts, R: Wait + Drop>(
     store: Store<J, X::Value>,
     held: R,
 ) -> Result<(Bench<J, X>, Box<R>), AllocError>
-    ensures valid { IfOk result (λ made. X.is_valid made.0.texts) }
+    ensures new { IfOk result (λ made. IsNewBench X.is_valid X.net made.0) }
     ensures after { IfOk result (λ made. X.are_after made.0.texts []) }
     ensures memos { IfOk result (λ made. made.0.memos ≡ []) }
     ensures claims { IfOk result (λ made. made.0.claims ≡ []) }

@@ -3,7 +3,7 @@
 ghost use Rattle.std.specs.Prelude.{◌≡◌, ◌≢◌, ◌↔◌, ◌+◌, ◌≤◌, ◌<◌, [], true, false, length, fold, not, IfOk, OnOk, OnErr, Ok, Err, IfErr, IfSome, IfNone, leb};
 ghost use mathlib.Core.List.{IsPrefix};
 ghost use Rattle.memo_core.specs.Laws.{meaning};
-ghost use Rattle.memo_core.specs.Run.{Claim as Claimed, NoClaim, Returned, Lose as Lost, Renew as Renewed, Refused, Step};
+ghost use Rattle.memo_core.specs.Run.{Claim as Claimed, IsNewBench, NoClaim, Returned, Lose as Lost, Renew as Renewed, Refused, Step};
 ghost use Rattle.cells.specs.Cells.{cells as cells_of};
 ghost use Rattle.cells.specs.Views.{IsRightBench};
 ghost use Rattle.desk.specs.Boards.{ArePosted, ArePostedBut, AreSettled};
@@ -49,9 +49,11 @@ where
     Plate<J, X>: Absorb<Entry<J, X>, State = [X::Op; 0]>,
 {
     ghost use Rattle.std.specs.Prelude.{◌≡◌, ◌≤◌, false, fold};
+    ghost use Rattle.memo_core.specs.Laws.{meaning};
     ghost use Rattle.cells.specs.Cells.{cells as cells_of};
     ghost use Rattle.desk.specs.Boards.{ArePosted};
     ghost use Rattle.desk.specs.Held.{Held, held};
+    ghost use Rattle.desk.specs.Runs.{IsReachedByEvents};
 
     ghost Value = { Held X X.Value X.Op };
 
@@ -62,7 +64,9 @@ where
         × (s.owes ≡ false
         → (s.ledger.published ≡ s.ledger.all)
         × ArePosted X.net (cells_of X.verdict_of X.outcome_in X.from_scratch X.reaches)
-        s.bench (X.cells (fold X.after X.none s.ledger.all))) };
+        s.bench (X.cells (fold X.after X.none s.ledger.all)))
+        × IsReachedByEvents
+        (meaning X.net X.is_valid X.since X.makes X.keeps X.edited X.last) s.bench };
 }
 
 // Makes an edit on the bench, and appends its operation before it is put in place.
@@ -106,6 +110,7 @@ fn make_edit<J: Naming + StoreName, X: BoardTexts>(
 
 impl<J: Naming + StoreName, X: BoardTexts, R: Wait + Drop> DeskState<J, X, R> {
     ghost use Rattle.desk.specs.Exchanges.{TakesAndClaims};
+    ghost use Rattle.desk.specs.Runs.{IsReachedByEvents};
     ghost use Rattle.desk.specs.Held.{held, accepted_number, AppendsSettles, IsEditTurn, IsRefusedTurn, IsShownOrOwed, Publishes, PublishesOr, IsSettlingTurn, TellsEdit};
 
     /// A bench without texts, and a board that shows nothing.
@@ -115,7 +120,7 @@ impl<J: Naming + StoreName, X: BoardTexts, R: Wait + Drop> DeskState<J, X, R> {
         opening: Opening<J, X>,
         rt: Box<R>,
     ) -> DeskState<J, X, R>
-        requires valid { X.is_valid bench.texts }
+        requires new { IsNewBench X.is_valid X.net bench }
         requires after { X.are_after bench.texts [] }
         requires press { (opening.press.all ≡ []) × (opening.press.published ≡ []) }
         ensures { result ≡ held bench [] [] opening.seats false true }
@@ -133,12 +138,16 @@ impl<J: Naming + StoreName, X: BoardTexts, R: Wait + Drop> DeskState<J, X, R> {
     }
 
     /// Whether it was closed. What it keeps at all times: its bench is right, so a settled cell
-    /// carries what evaluating its texts from nothing gives; the published operations and then the
-    /// pending ones are legal, and the texts of the bench are those after them. Where nothing is
-    /// owed, all is published, and each cell that is settled on the bench is settled there.
+    /// carries what evaluating its texts from nothing gives; a list of events leads to it from a
+    /// new bench, so that all holds of it which holds after any list; the published operations and
+    /// then the pending ones are legal, and the texts of the bench are those after them. Where
+    /// nothing is owed, all is published, and each cell that is settled on the bench is settled
+    /// there.
     pub fn is_closed(&self) -> bool
         ensures closed { result ≡ self.now.closed }
         ensures right { IsRightBench
+            (meaning X.net X.is_valid X.since X.makes X.keeps X.edited X.last) self.now.bench }
+        ensures reached { IsReachedByEvents
             (meaning X.net X.is_valid X.since X.makes X.keeps X.edited X.last) self.now.bench }
         ensures legal { X.is_legal self.now.all }
         ensures begins { IsPrefix self.now.published self.now.all }

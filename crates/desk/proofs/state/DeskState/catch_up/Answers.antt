@@ -15,6 +15,7 @@ invariant_of-self g c =
       posts.after,
       rw posts.number c.self.invariant.2,
       λ owes. absurd (never owes),
+      c.self.invariant.4,
     )
 
 pub invariant_of-self-then-not-publish : goal.invariant_of-self-then-not-publish
@@ -25,6 +26,7 @@ invariant_of-self-then-not-publish g c =
       rw p.all posts.after,
       rw (p.all, posts.number) c.self.invariant.2,
       λ owes. absurd (never owes),
+      c.self.invariant.4,
     )
 
 pub returns-then-not-post-clause-bench : goal.returns-then-not-post-clause-bench
@@ -96,6 +98,7 @@ invariant_of-self-2 g c =
       rw p.all q.posts.after,
       rw (p.all, q.posts.number) c.self.invariant.2,
       λ _. (p.published ∙ sym p.all, rw p.all posted),
+      c.self.invariant.4,
     )
 
 pub returns-clause-posted : goal.returns-clause-posted

@@ -1,10 +1,11 @@
 use Rattle.std.proofs.Common.{◌≡◌, ◌≤◌, false, arith, fold, ap, sym, ◌∙◌, subst}
 use Rattle.std.specs.Prelude.{IfSome, IfNone}
 use Rattle.memo_core.specs.Laws.{meaning}
-use Rattle.memo_core.specs.Run.{Bench, Claim, NoClaim, Step}
+use Rattle.memo_core.specs.Run.{Bench, Claim, NoClaim, Refused, Step}
 use Rattle.cells.specs.Cells.{cells as cells_of}
 use Rattle.desk.specs.Held.{Held}
 use Rattle.desk.proofs.Growing.{grown_from, whole_from}
+use Rattle.desk.proofs.Reaching.{reached_by}
 use Rattle.desk.proofs.Refusing.{not_claim, not_memory, not_ok, other_closed}
 use Rattle.desk.proofs.Returning.{appends_since, still_since, refused_since, given_or_none, posted_claimed, posted_idle, posted_same, later_claimed, later_idle}
 use Rattle.desk.proofs.state.DeskState.claim.Goals as goal
@@ -29,6 +30,10 @@ invariant_of-self-2 g c =
             j.values step (inv.3 owes).1)
             (λ step. posted_idle means of old new cells step (inv.3 owes).1),
       ),
+      given_or_none c.in-Ok.job _ _ _ e.given e.none
+          (λ j step. reached_by means old new (Claim j.claim j.node j.given j.keys j.values)
+          inv.4 step)
+          (λ step. reached_by means old new NoClaim inv.4 step),
     )
 
 pub returns-clause-appends : goal.returns-clause-appends
@@ -64,6 +69,7 @@ invariant_of-self g c =
         posted_same means.net of c.self.inside.bench c.claim.new.self cells same refused.memos
             (inv.3 owes).1,
       ),
+      reached_by means c.self.inside.bench c.claim.new.self Refused inv.4 refused,
     )
 
 pub returns-in-Err-OutOfMemory-clause-err : goal.returns-in-Err-OutOfMemory-clause-err
@@ -95,6 +101,7 @@ invariant_of-self-in-Err-Spent g c =
         posted_same means.net of c.self.inside.bench c.claim.new.self cells same refused.memos
             (inv.3 owes).1,
       ),
+      reached_by means c.self.inside.bench c.claim.new.self Refused inv.4 refused,
     )
 
 pub returns-in-Err-Spent-clause-err : goal.returns-in-Err-Spent-clause-err

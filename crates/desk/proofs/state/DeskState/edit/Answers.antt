@@ -1,14 +1,18 @@
 use Rattle.std.proofs.Common.{◌<◌, length, List, fold, refl, ap, sym, ◌∙◌, subst}
 use mathlib.Core.List.{IsPrefix}
+use Rattle.memo_core.specs.Laws.{meaning}
+use Rattle.memo_core.specs.Run.{Edit, Refused}
 use Rattle.cells.specs.Cells.{cells as cells_of}
 use Rattle.desk.specs.Held.{Held}
 use Rattle.desk.proofs.Growing.{begins_edit}
+use Rattle.desk.proofs.Reaching.{reached_by}
 use Rattle.desk.proofs.Refusing.{never, not_ok, not_seat, other_closed, other_seat, seat_not_ok}
 use Rattle.desk.proofs.Returning.{ahead_of, behind_of, has_edit, posted_refused, was_so}
 use Rattle.desk.proofs.state.DeskState.edit.Goals as goal
 
 pub invariant_of-self-2 : goal.invariant_of-self-2
 invariant_of-self-2 g c =
+    let means = meaning g.X.Texts.net g.X.Texts.is_valid g.X.Texts.since g.X.Texts.makes g.X.Texts.keeps g.X.Texts.edited g.X.Texts.last in
     let p = c.if-not-publish.ensures in
     let q = c.post.ensures in
     let made = c.in_ok-number.ensures in (
@@ -16,6 +20,8 @@ invariant_of-self-2 g c =
       rw p.all q.posts.after,
       rw (p.all, q.posts.number) made.last,
       λ owes. (p.published ∙ sym p.all, rw p.all (q.posted (was_so c.post.result owes))),
+      reached_by means c.self.inside.bench c.make_edit.new.bench (Edit c.args.edit)
+          c.self.invariant.4 (made.made).step,
     )
 
 pub returns-clause-published : goal.returns-clause-published
@@ -57,6 +63,7 @@ returns-then-not-publish-clause-told g c =
 
 pub invariant_of-self : goal.invariant_of-self
 invariant_of-self g c =
+    let means = meaning g.X.Texts.net g.X.Texts.is_valid g.X.Texts.since g.X.Texts.makes g.X.Texts.keeps g.X.Texts.edited g.X.Texts.last in
     let inv = c.self.invariant in
     let made = c.make_edit.ensures in
     let refused = c.in_err-number.ensures.err in
@@ -74,10 +81,12 @@ invariant_of-self g c =
             (λ test model. g.met.X.BoardTexts.verdict_same old.texts new.texts test model inv.0
             refused.0.texts.last since) (inv.3 owes).1,
       ),
+      reached_by means old new Refused inv.4 refused.0,
     )
 
 pub invariant_of-self-then-not-publish : goal.invariant_of-self-then-not-publish
 invariant_of-self-then-not-publish g c =
+    let means = meaning g.X.Texts.net g.X.Texts.is_valid g.X.Texts.since g.X.Texts.makes g.X.Texts.keeps g.X.Texts.edited g.X.Texts.last in
     let p = c.if-not-publish.ensures in
     let posts = c.post.ensures.posts in
     let made = c.in_ok-number.ensures in (
@@ -85,6 +94,8 @@ invariant_of-self-then-not-publish g c =
       rw p.all posts.after,
       rw (p.all, posts.number) made.last,
       λ owes. absurd (never owes),
+      reached_by means c.self.inside.bench c.make_edit.new.bench (Edit c.args.edit)
+          c.self.invariant.4 (made.made).step,
     )
 
 pub returns-then-not-publish-clause-published : goal.returns-then-not-publish-clause-published

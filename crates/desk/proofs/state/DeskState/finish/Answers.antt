@@ -1,10 +1,13 @@
-use Rattle.std.proofs.Common.{◌≡◌, true, List, fold, ap, sym, ◌∙◌}
-use Rattle.memo_core.specs.Run.{Bench}
+use Rattle.std.proofs.Common.{◌≡◌, arith, true, List, fold, ap, sym, ◌∙◌}
+use Rattle.memo_core.specs.Laws.{meaning}
+use Rattle.memo_core.specs.Run.{Bench, Returned}
+use Rattle.memo_core.proofs.Honest.{step_goes}
 use Rattle.cells.specs.Cells.{cells as cells_of}
 use Rattle.desk.specs.Boards.{ArePosted}
 use Rattle.desk.specs.Held.{Held, held}
 use Rattle.desk.proofs.Growing.{grown_from}
-use Rattle.desk.proofs.Refusing.{not_ok, other_closed}
+use Rattle.desk.proofs.Reaching.{reached_by}
+use Rattle.desk.proofs.Refusing.{never, not_ok, other_closed}
 use Rattle.desk.proofs.Returning.{appends_since, publishes_same}
 use Rattle.desk.proofs.state.DeskState.finish.Goals as goal
 
@@ -37,3 +40,18 @@ returns-clause-closed g c =
 
 pub take-finish-requires : goal.take-finish-requires
 take-finish-requires g c = record { posted = λ owes. (c.self.invariant.3 owes).1 }
+
+pub invariant_of-self : goal.invariant_of-self
+invariant_of-self g c =
+    let means = meaning g.X.Texts.net g.X.Texts.is_valid g.X.Texts.since g.X.Texts.makes g.X.Texts.keeps g.X.Texts.edited g.X.Texts.last in
+    let inv = c.self.invariant in
+    let old = c.self.inside.bench in
+    let new = c.take-finish.new.bench in
+    let step = c.take-finish.ensures.step in
+    let more = (step_goes means old new (Returned c.args.done c.take-finish.result.0) step).more in (
+      rw step.1 inv.0,
+      rw step.1 inv.1,
+      omega (arith, inv.2, more),
+      λ owes. absurd (never owes),
+      reached_by means old new (Returned c.args.done c.take-finish.result.0) inv.4 step,
+    )
