@@ -1,11 +1,12 @@
 -- An edit of own texts, by whether it is refused.
-use Rattle.std.proofs.Common.{◌≡◌, ℕ, ◌<◌, ◌-◌, ◌+◌, ◌^◌, arith, List, [], true, false, ap, sym, subst, ◌∙◌}
+use Rattle.std.proofs.Common.{◌≡◌, ℕ, ◌<◌, ◌≤◌, ◌+◌, ◌^◌, arith, List, [], true, false, ap, sym, subst, ◌∙◌}
 use Rattle.bench_texts.specs.BenchTexts.{BenchTexts, no_texts}
 use Rattle.bench_texts.specs.declared.edit.Edit as code
 use Rattle.bench_texts.specs.Edits.{Edit, Applies, edit_of}
 use Rattle.session_edits.specs.Answer.{SessionAnswer}
 use Rattle.session_edits.specs.Edits.{IsEditAnswer, IsAccepted, IsRefused}
 use Rattle.board.specs.declared.operation.BoardOp.{BoardOp}
+use Rattle.memo_engine.specs.declared.graph.TheConstants.{LAST}
 use Rattle.session_views.specs.Knowing.{KnowsOwn, KnowsTexts, HasOwnEdit}
 
 -- an edit that is accepted makes them
@@ -18,7 +19,7 @@ accepted_applies t after e said (IsRefused fault answer refuses is same) accepte
 -- ---- who knows its texts
 
 abbrev pub HasOwnEdits : code.Edit → (seen later : List BoardOp) → Type 0
-HasOwnEdits e seen later = (number : ℕ) × HasOwnEdit e number seen later
+HasOwnEdits e seen later = (number : ℕ) × (number ≤ LAST) × HasOwnEdit e number seen later
 
 -- the law of own edits
 abbrev pub EditsAreKnown : BenchTexts → Type 0
@@ -33,12 +34,21 @@ knows_texts seen t k nothing none =
     subst (λ (l : List BoardOp). KnowsOwn l 0 t) (sym nothing)
     (subst (λ (x : BenchTexts). KnowsOwn [] 0 x) (sym none) k)
 
+-- the law that they are few
+abbrev pub EditsAreFew : Type 0
+EditsAreFew =
+    (e : code.Edit) (number : ℕ) (seen later : List BoardOp) (made : ℕ) (t : BenchTexts)
+    → KnowsOwn seen made t → HasOwnEdit e number seen later → made < number
+
 pub accepted_ready : (e : code.Edit) (seen later : List BoardOp) (made : ℕ) (t after : BenchTexts)
-    (said : SessionAnswer) → EditsAreKnown t → KnowsTexts seen made t → HasOwnEdits e seen later
-    → IsEditAnswer t (edit_of e) said after → said.refused ≡ false → made < 2 ^ 64 - 2
+    (said : SessionAnswer) → EditsAreKnown t → EditsAreFew → KnowsTexts seen made t
+    → HasOwnEdits e seen later
+    → IsEditAnswer t (edit_of e) said after → said.refused ≡ false
     → KnowsTexts later (made + 1) after
-accepted_ready e seen later made t after said law ready has edited accepted few = (
-  omega (arith, few),
-  law e has.0 seen later made after ready.1 has.1
-      (accepted_applies t after (edit_of e) said edited accepted),
-)
+accepted_ready e seen later made t after said law few ready has edited accepted =
+    let below : made < has.0 = few e has.0 seen later made t ready.1 has.2 in
+    let most : has.0 ≤ 2 ^ 63 = has.1 in (
+      omega (arith, below, most),
+      law e has.0 seen later made after ready.1 has.2
+          (accepted_applies t after (edit_of e) said edited accepted),
+    )

@@ -1,5 +1,5 @@
 -- What a viewer knows goes on from what it knew, and how a session tells the faults of its desk.
-use Rattle.std.proofs.Common.{◌≡◌, ◌≢◌, false, true, ℕ, ◌≤◌, ◌-◌, ◌^◌, List, sym, ◌∙◌}
+use Rattle.std.proofs.Common.{◌≡◌, ◌≢◌, false, true, List, sym, ◌∙◌}
 use Rattle.std.specs.Prelude.{IsSome}
 use mathlib.Core.List.{IsPrefix}
 use Rattle.desk.specs.declared.answer.Settling.{Settling}
@@ -15,7 +15,7 @@ use Rattle.board.specs.declared.operation.BoardOp.{BoardOp}
 use Rattle.command_line.specs.declared.fault.SessionFault.{SessionFault}
 use Rattle.command_line.specs.declared.fault.SessionFault.TheVariants as faults
 use Rattle.session_run.specs.Faults.{fault_for}
-use Rattle.session_run.specs.Untold.{IsUntold, IsPutOff, IsRefused, IsDisputed, IsRefusedByRule, EndsCount}
+use Rattle.session_run.specs.Untold.{IsUntold, IsPutOff, IsRefused, IsDisputed}
 
 pub told_begins : {O : Type 0} (is_legal are_settled : List O → Type 0) (me me' : List O)
     (s : Settling) → TellsSettled is_legal are_settled me me' s → IsPrefix me me'
@@ -33,22 +33,15 @@ seat_fault desk_faults.Closed some e = cc
 seat_fault desk_faults.NoSeat some e = cc
 
 -- an edit that is not told as want of memory is refused by a rule
-pub disputed : (e : Edit) (made : ℕ) (seen : List BoardOp) (fault : SessionFault)
-    → IsUntold e seen fault → fault ≡ faults.Shared → IsDisputed e made seen
-disputed e made seen fault (IsPutOff number next has memory) shared =
+pub disputed : (e : Edit) (seen : List BoardOp) (fault : SessionFault) → IsUntold e seen fault
+    → fault ≡ faults.Shared → IsDisputed e seen
+disputed e seen fault (IsPutOff number next has memory) shared =
     let wrong : faults.Memory ≡ faults.Shared = sym memory ∙ shared in absurd cc
-disputed e made seen fault (IsRefused (desk_faults.Edit refusal) refuses is) shared =
-    IsRefusedByRule refusal refuses
-disputed e made seen fault (IsRefused (desk_faults.Claim refusal) refuses is) shared =
-    absurd refuses
-disputed e made seen fault (IsRefused desk_faults.OutOfMemory refuses is) shared =
+disputed e seen fault (IsRefused (desk_faults.Edit refusal) refuses is) shared = (refusal, refuses)
+disputed e seen fault (IsRefused (desk_faults.Claim refusal) refuses is) shared = absurd refuses
+disputed e seen fault (IsRefused desk_faults.OutOfMemory refuses is) shared =
     let wrong : faults.Memory ≡ faults.Shared = sym is ∙ shared in absurd cc
-disputed e made seen fault (IsRefused desk_faults.Closed refuses is) shared =
+disputed e seen fault (IsRefused desk_faults.Closed refuses is) shared =
     let wrong : faults.Memory ≡ faults.Shared = sym is ∙ shared in absurd cc
-disputed e made seen fault (IsRefused desk_faults.NoSeat refuses is) shared =
+disputed e seen fault (IsRefused desk_faults.NoSeat refuses is) shared =
     let wrong : faults.Memory ≡ faults.Shared = sym is ∙ shared in absurd cc
-
--- or so many edits were made
-pub uncounted : (e : Edit) (made : ℕ) (seen : List BoardOp) → 2 ^ 64 - 2 ≤ made
-    → IsDisputed e made seen
-uncounted e made seen many = EndsCount many

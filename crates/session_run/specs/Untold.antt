@@ -1,5 +1,5 @@
 -- Why the viewer of a session was not told of its edit, and when that is `Shared`. Read after Faults.
-use Rattle.std.specs.Prelude.{◌≡◌, ◌≢◌, ℕ, ◌≤◌, ◌-◌, ◌^◌, List, [], leb}
+use Rattle.std.specs.Prelude.{◌≡◌, ◌≢◌, ℕ, List, [], leb}
 use Rattle.bench_texts.specs.declared.edit.Edit.{Edit}
 use Rattle.bench_texts.specs.declared.fault.EditFault.{EditFault}
 use Rattle.bench_texts.specs.Edits.{edit_of, RefusesEdit}
@@ -38,10 +38,7 @@ pub data IsUntold (e : Edit) (seen : List BoardOp) (fault : SessionFault) : Type
   IsRefused : (refusal : DeskFault EditFault) → IsRefusedEdit e seen refusal
       → fault ≡ fault_for refusal → IsUntold e seen fault
 
--- Why an edit that the own texts accept ends a session as shared: the texts of the desk's bench
--- refuse it by a rule; or so many edits were made that a count of edits, which stops at 2^64 - 1,
--- would not tell one more from others.
-pub data IsDisputed (e : Edit) (made : ℕ) (seen : List BoardOp) : Type 0 where
-  IsRefusedByRule : (fault : EditFault) → IsRefusedEdit e seen (desk_faults.Edit fault)
-      → IsDisputed e made seen
-  EndsCount : 2 ^ 64 - 2 ≤ made → IsDisputed e made seen
+-- an edit that the own texts accept ends a session as shared because the texts of the desk's bench
+-- refuse it by a rule
+abbrev pub IsDisputed : Edit → (seen : List BoardOp) → Type 0
+IsDisputed e seen = (fault : EditFault) × IsRefusedEdit e seen (desk_faults.Edit fault)

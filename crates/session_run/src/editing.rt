@@ -1,6 +1,6 @@
 //! Edits of a session.
 
-ghost use Rattle.std.specs.Prelude.{◌≡◌, ℕ, IfOk, IfErr, OnOk, OnErr, Err};
+ghost use Rattle.std.specs.Prelude.{◌≡◌, ◌≤◌, ℕ, IfOk, IfErr, OnOk, OnErr, Err};
 ghost use Rattle.bench_texts.specs.Edits.{edit_of};
 ghost use Rattle.bench_texts.specs.Held.{texts_of};
 ghost use Rattle.session_edits.specs.Edits.{IsEditAnswer};
@@ -14,14 +14,12 @@ use bench_instance::{RunningDesk, StampedTexts};
 use bench_texts::Edit;
 use command_answers::SessionFault;
 use desk::{Accepted, Naming, Viewer};
+use memo_engine::graph::LAST;
 use session_edits::{Answer, answer_edit};
-use session_views::laws::own_edits_are_known;
+use session_views::laws::{own_edits_are_few, own_edits_are_known};
 use std::alloc::Global;
 use std::sync::Wait;
 use value_store::StoreName;
-
-// The numbers of edits that a board counts, below the greatest.
-const MOST_EDITS: u64 = u64::MAX - 1;
 
 // Gives an edit to the desk, which tells the viewer. A viewer that is not told knows what it knew.
 fn tell_desk<J: Naming + StoreName, R: Wait + Drop, W: Wait>(
@@ -30,7 +28,8 @@ fn tell_desk<J: Naming + StoreName, R: Wait + Drop, W: Wait>(
     viewer: &mut Viewer<J, StampedTexts>,
     edit: Edit,
 ) -> Result<(), SessionFault>
-    ensures told { OnOk result ((number : ℕ) × HasOwnEdit edit number viewer.old viewer.new) }
+    ensures told { OnOk result
+        ((number : ℕ) × (number ≤ LAST) × HasOwnEdit edit number viewer.old viewer.new) }
     ensures same { OnErr result (viewer.new ≡ viewer.old) }
     ensures untold { IfErr result (IsUntold edit viewer.old) }
     ensures fault { IfErr result IsOwnFault }
@@ -43,8 +42,8 @@ fn tell_desk<J: Naming + StoreName, R: Wait + Drop, W: Wait>(
 }
 
 /// Makes an edit of the session's own texts, and an accepted one at the desk. The answer is that of
-/// the own texts.
-#[tactic(auto, using(crate::proofs::Viewers::disputed, crate::proofs::Viewers::uncounted))]
+/// the own texts. The desk numbers its edits, so there are never more than are counted.
+#[tactic(auto, using(crate::proofs::Viewers::disputed))]
 pub(crate) fn make_edit<J: Naming + StoreName, R: Wait + Drop, W: Wait>(
     rt: &W,
     alloc: Global,
@@ -59,19 +58,16 @@ pub(crate) fn make_edit<J: Naming + StoreName, R: Wait + Drop, W: Wait>(
     ensures ready { OnOk result (KnowsTexts session.new.viewer session.new.made
         (texts_of session.new.texts)) }
     ensures fault { IfErr result IsOwnFault }
-    ensures shared { result ≡ Err SessionFault.Shared
-        → IsDisputed edit session.old.made session.old.viewer }
+    ensures shared { result ≡ Err SessionFault.Shared → IsDisputed edit session.old.viewer }
 {
     own_edits_are_known(&session.texts);
+    own_edits_are_few();
     let answer = match answer_edit(alloc, &mut session.texts, &edit) {
         Ok(answer) => answer,
         Err(_) => return Err(SessionFault::Memory),
     };
     if answer.is_refused() {
         return Ok(answer);
-    }
-    if session.made >= MOST_EDITS {
-        return Err(SessionFault::Shared);
     }
     tell_desk(rt, desk, &mut session.viewer, edit)?;
     session.made += 1;

@@ -8,10 +8,11 @@ use Rattle.bench_texts.specs.BenchTexts.{BenchTexts, no_texts}
 use Rattle.bench_texts.specs.Edits as edits
 use Rattle.bench_texts.specs.Edits.{edit_of}
 use Rattle.bench_texts.specs.declared.edit.Edit as code
+use Rattle.board.specs.declared.operation.BoardEdit.{BoardEdit}
 use Rattle.board.specs.declared.operation.BoardOp.{BoardOp}
 use Rattle.board.specs.declared.operation.BoardOp.TheVariants.{Edit, Settle}
 use Rattle.board.specs.Operations.{board_after}
-use Rattle.board.specs.Legal.{IsLegal}
+use Rattle.board.specs.Legal.{TestsAndModels, no_tests_or_models, tests_and_models_after, LegalFrom, IsLegal}
 use Rattle.board.specs.Histories.{contents_with, contents_after, IsEditOf}
 use Rattle.board.specs.Edits.{counted_with, edits_in, edit_count}
 use Rattle.bench_text_laws.specs.Laws.{HasOneEditResult}
@@ -161,6 +162,35 @@ pub knows_own_edit : (e : code.Edit) (number : ℕ) (seen later : List BoardOp) 
 knows_own_edit e number seen later made t new k h one applies =
     subst (λ (l : List BoardOp). KnowsOwn l (made + 1) new) (sym h.list)
     (knows_edit seen h.between h.settles h.op made number t new (edit_of e) k h.is one applies)
+
+-- numbers of edits rise, so the number of an edit is above the count of those before it
+numbered_above : (h : TestsAndModels) (last : ℕ) (ops rest : List BoardOp) (edit : BoardEdit)
+    → LegalFrom h last (ops ++ Edit edit ∷ rest) → edits_in ops + last < edit.number
+numbered_above h last [] rest edit legal =
+    let here : last < edit.number = legal.0.0 in omega (arith, here)
+numbered_above h last (Edit first ∷ ops) rest edit legal =
+    let above = numbered_above (tests_and_models_after h (Edit first)) first.number ops rest edit legal.1 in
+    let here : last < first.number = legal.0.0 in
+    omega (arith, above, here)
+numbered_above h last (Settle at outcome ∷ ops) rest edit legal =
+    numbered_above h last ops rest edit legal.1
+
+numbered_so : (t : BenchTexts) (ops rest : List BoardOp) (op : BoardOp) (e : edits.Edit) (number : ℕ)
+    → IsEditOf t op e number → IsLegal (ops ++ op ∷ rest) → edits_in ops < number
+numbered_so t ops rest (Edit edit) e number is legal =
+    let above = numbered_above no_tests_or_models 0 ops rest edit legal in
+    let same : edit.number ≡ number = is.0 in
+    omega (arith, above, same)
+numbered_so t ops rest (Settle at outcome) e number is legal = absurd is
+
+pub few_before : (e : code.Edit) (number : ℕ) (seen later : List BoardOp) (made : ℕ) (t : BenchTexts)
+    → KnowsOwn seen made t → HasOwnEdit e number seen later → made < number
+few_before e number seen later made t k h =
+    let front : List BoardOp = seen ++ h.between in
+    let legal : IsLegal (front ++ h.op ∷ h.settles) = subst IsLegal (h.list ∙ append_assoc front (h.op ∷ []) h.settles) (h.legal).0 in
+    let below = numbered_so (contents_after front) front h.settles h.op (edit_of e) number h.is legal in
+    let least = k.all h.between in
+    omega (arith, below, least)
 
 -- ---- a board
 

@@ -39,6 +39,12 @@ pub fn own_edits_are_known(own: &Texts)
     let _own = own;
 }
 
+/// The number of an edit that is told to who made it is above the count of those made before.
+pub fn own_edits_are_few()
+    ensures { (e : CodeEdit) (number : ℕ) (seen later : List BoardOp) (made : ℕ) (t : BenchTexts)
+        → KnowsOwn seen made t → HasOwnEdit e number seen later → made < number }
+{}
+
 /// A board of which all operations were seen by who knows its texts shows these texts, if it counts
 /// as many edits as were made.
 pub fn own_texts_are_shown()

@@ -9,10 +9,10 @@ returns-clause-ready g c =
     accepted_ready c.args.edit c.args.session.now.viewer c.tell_desk.new.viewer
     c.args.session.now.made (texts_of c.args.session.now.texts)
     (texts_of c.answer_edit.new.texts) c.in-Ok.answer
-    c.own_edits_are_known.ensures c.requires.ready
-    c.in_ok-tell_desk.ensures.told c.in-Ok.ensures.edited (search rules) (search rules)
+    c.own_edits_are_known.ensures c.own_edits_are_few.ensures c.requires.ready
+    c.in_ok-tell_desk.ensures.told c.in-Ok.ensures.edited (search rules)
 
 pub returns-in_err-tell_desk-clause-shared : goal.returns-in_err-tell_desk-clause-shared
 returns-in_err-tell_desk-clause-shared g c is =
-    disputed c.args.edit c.args.session.now.made c.args.session.now.viewer _
+    disputed c.args.edit c.args.session.now.viewer _
     c.in_err-tell_desk.ensures.untold (search rules)

@@ -46,3 +46,9 @@ hire_crew-requires-sync-X-Given g c κs within = search bench_crosses depth 100 
 
 pub hire_crew-requires-sync-X-Prepared : goal.hire_crew-requires-sync-X-Prepared
 hire_crew-requires-sync-X-Prepared g c κs within = search bench_crosses depth 100 fits 20000
+
+pub hire_crew-requires-send-X-Op : goal.hire_crew-requires-send-X-Op
+hire_crew-requires-send-X-Op g c κs within = search bench_crosses depth 100 fits 20000
+
+pub hire_crew-requires-sync-X-Op : goal.hire_crew-requires-sync-X-Op
+hire_crew-requires-sync-X-Op g c κs within = search bench_crosses depth 100 fits 20000
