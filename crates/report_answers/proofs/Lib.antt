@@ -1,0 +1,4 @@
+pub mod Drawn
+pub mod Known
+pub mod Pages
+pub mod Plain

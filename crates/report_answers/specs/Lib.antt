@@ -1,0 +1,4 @@
+pub mod Drawn
+pub mod Known
+pub mod Judges
+pub mod Pages

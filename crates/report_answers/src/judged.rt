@@ -1,5 +1,13 @@
 //! The tests of some files, judged and drawn.
 
+ghost use Rattle.std.specs.Prelude.{◌≡◌, ◌||◌, List, ℕ, IfOk, OnOk, map};
+ghost use Rattle.litmus_grammar.specs.Texts.{ReadsTest};
+ghost use Rattle.text_values.specs.TestValue.{content_of};
+ghost use Rattle.report_details.specs.Groups.{are_told_apart};
+ghost use Rattle.report_answers.specs.Drawn.{AreDrawingsIf};
+ghost use Rattle.report_answers.specs.Judges.{AreJudges, IsRowUnder, content_in};
+ghost use Rattle.report_answers.specs.Known.{shown_test, start_content, AddsKnownTest, AreKnownTests};
+
 use crate::drawings::{DrawingBudget, drawings_of};
 use crate::models::KnownModel;
 use binding_graph::{ModelFault, Resolved};
@@ -40,14 +48,30 @@ pub struct KnownTests<'a> {
     pub budget: DrawingBudget,
 }
 
+// Whether a test of these outcomes is drawn.
+fn is_drawn(alloc: Global, judges: &Judges<'_, '_>, row: &TestOutcomes) -> Result<bool, AllocError>
+    ensures { IfOk result
+        (λ b. b ≡ (judges.now.is_all || are_told_apart row.now.outcomes.items)) }
+{
+    if judges.is_all {
+        return Ok(true);
+    }
+    is_told_apart(alloc, &row.outcomes)
+}
+
 fn drawings_if(
     alloc: Global,
     judges: &Judges<'_, '_>,
     test: &Test,
     row: &TestOutcomes,
     budget: &mut DrawingBudget,
-) -> Result<Vec<Vec<u8>>, AllocError> {
-    if judges.is_all || is_told_apart(alloc, &row.outcomes)? {
+) -> Result<Vec<Vec<u8>>, AllocError>
+    requires { IsRowUnder test.now judges.now.models.now row.now }
+    ensures { IfOk result (λ v. AreDrawingsIf
+        (judges.now.is_all || are_told_apart row.now.outcomes.items) test.now judges.now.models.now
+        row.now.outcomes.items budget.old (map (λ d. d.items) v.items) budget.new) }
+{
+    if is_drawn(alloc, judges, row)? {
         return drawings_of(alloc, test, judges.models, &row.outcomes, budget);
     }
     Ok(Vec::new(alloc))
@@ -59,7 +83,12 @@ fn add_judged<'a>(
     file: &'a TextFile<'a>,
     test: &Test,
     known: &mut KnownTests<'a>,
-) -> Result<(), AllocError> {
+) -> Result<(), AllocError>
+    requires judges { AreJudges judges.now.models.now judges.now.resolved.now }
+    requires read { ReadsTest file.now.text.items (content_of test.now) }
+    ensures { (lines : List ℕ) → OnOk result (AddsKnownTest judges.now.is_all judges.now.models.now
+        file.now (content_in known.old lines) (content_in known.new lines)) }
+{
     let row = outcomes_of(alloc, test, judges.resolved)?;
     let drawings = drawings_if(alloc, judges, test, &row, &mut known.budget)?;
     known.tests.push(KnownTest {
@@ -76,7 +105,11 @@ fn add_test<'a>(
     file: &'a TextFile<'a>,
     known: &mut KnownTests<'a>,
     faults: &mut Vec<u8>,
-) -> Result<(), AllocError> {
+) -> Result<(), AllocError>
+    requires { AreJudges judges.now.models.now judges.now.resolved.now }
+    ensures { OnOk result (AddsKnownTest judges.now.is_all judges.now.models.now file.now
+        (content_in known.old faults.old.items) (content_in known.new faults.new.items)) }
+{
     match read_test(alloc, &file.text) {
         Ok(test) => add_judged(alloc, judges, file, &test, known),
         Err(LitmusFault::OutOfMemory(e)) => Err(e),
@@ -95,7 +128,11 @@ pub fn known_tests<'a, L: ProgressListener>(
     most: u64,
     faults: &mut Vec<u8>,
     listener: &mut L,
-) -> Result<KnownTests<'a>, AllocError> {
+) -> Result<KnownTests<'a>, AllocError>
+    requires { AreJudges judges.now.models.now judges.now.resolved.now }
+    ensures { IfOk result (λ k. AreKnownTests judges.now.is_all judges.now.models.now
+        (start_content most faults.old.items) files.now (content_in k faults.new.items)) }
+{
     let count = judges.models.len();
     let budget = DrawingBudget {
         left: most,
@@ -115,7 +152,9 @@ pub fn known_tests<'a, L: ProgressListener>(
 pub fn reported_tests<'a>(
     alloc: Global,
     tests: &'a [KnownTest<'_>],
-) -> Result<Vec<ReportedTest<'a>>, AllocError> {
+) -> Result<Vec<ReportedTest<'a>>, AllocError>
+    ensures { IfOk result (λ v. v.items ≡ map shown_test tests.now) }
+{
     let mut reported = Vec::with_capacity(alloc, tests.len())?;
     for test in tests {
         reported.push(ReportedTest {

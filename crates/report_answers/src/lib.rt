@@ -1,5 +1,6 @@
 //! The page of the tests of some files under the models of others. `report_page` says what the page
-//! is of what is known of each test; this crate reads the files, judges the tests and draws.
+//! is of what is known of each test; this crate reads the files, judges the tests and draws. Read
+//! specs/Drawn first, then specs/Known and specs/Pages.
 #![tactic(auto)]
 
 mod drawings;

@@ -1,5 +1,8 @@
 //! The models of some files.
 
+ghost use Rattle.std.specs.Prelude.{◌≡◌, IfOk, OnOk, map};
+ghost use Rattle.report_answers.specs.Known.{shown_model, AddsKnownModel, AreKnownModels};
+
 use cat_syntax::{CatFault, ModelText, read_model};
 use command_answers::{TextFile, model_stem, put_fault};
 use report_page::ReportedModel;
@@ -19,7 +22,10 @@ fn add_model<'a>(
     file: &'a TextFile<'a>,
     models: &mut Vec<KnownModel<'a>>,
     faults: &mut Vec<u8>,
-) -> Result<(), AllocError> {
+) -> Result<(), AllocError>
+    ensures { OnOk result (AddsKnownModel file.now models.old.items faults.old.items
+        models.new.items faults.new.items) }
+{
     match read_model(alloc, &file.text) {
         Ok(model) => {
             models.push(KnownModel { file, model })?;
@@ -38,7 +44,10 @@ pub fn known_models<'a>(
     alloc: Global,
     files: &'a [TextFile<'a>],
     faults: &mut Vec<u8>,
-) -> Result<Vec<KnownModel<'a>>, AllocError> {
+) -> Result<Vec<KnownModel<'a>>, AllocError>
+    ensures { IfOk result
+        (λ v. AreKnownModels faults.old.items files.now v.items faults.new.items) }
+{
     let mut models = Vec::new(alloc);
     for file in files {
         add_model(alloc, file, &mut models, faults)?;
@@ -50,7 +59,9 @@ pub fn known_models<'a>(
 pub fn model_texts<'a>(
     alloc: Global,
     models: &'a [KnownModel<'_>],
-) -> Result<Vec<&'a ModelText>, AllocError> {
+) -> Result<Vec<&'a ModelText>, AllocError>
+    ensures { IfOk result (λ v. map (λ t. t.now) v.items ≡ map (λ m. m.model) models.now) }
+{
     let mut texts = Vec::with_capacity(alloc, models.len())?;
     for model in models {
         texts.push(&model.model)?;
@@ -62,7 +73,9 @@ pub fn model_texts<'a>(
 pub fn reported_models<'a>(
     alloc: Global,
     models: &'a [KnownModel<'_>],
-) -> Result<Vec<ReportedModel<'a>>, AllocError> {
+) -> Result<Vec<ReportedModel<'a>>, AllocError>
+    ensures { IfOk result (λ v. v.items ≡ map shown_model models.now) }
+{
     let mut reported = Vec::with_capacity(alloc, models.len())?;
     for model in models {
         reported.push(ReportedModel {

@@ -1,5 +1,12 @@
 //! The page.
 
+ghost use Rattle.std.specs.Prelude.{◌≡◌, IfOk, map};
+ghost use Rattle.report_page.specs.Page.{report_page};
+ghost use Rattle.report_laws.specs.Whole.{IsWellFormed};
+ghost use Rattle.report_answers.specs.Judges.{content_in};
+ghost use Rattle.report_answers.specs.Known.{shown_model, shown_test, start_content, AreKnownTests};
+ghost use Rattle.report_answers.specs.Pages.{extras_of, IsPageReport};
+
 use crate::judged::{Judges, KnownTests, known_tests, reported_tests};
 use crate::models::{KnownModel, known_models, model_texts, reported_models};
 use command_answers::{Report, TextFile};
@@ -22,7 +29,10 @@ fn page_of(
     models: &[KnownModel<'_>],
     known: &KnownTests<'_>,
     faults: &[u8],
-) -> Result<Vec<u8>, AllocError> {
+) -> Result<Vec<u8>, AllocError>
+    ensures { IfOk result (λ v. v.items ≡ report_page (map shown_model models.now)
+        (map shown_test known.now.tests.items) (extras_of (content_in known.now faults.now))) }
+{
     let models = reported_models(alloc, models)?;
     let tests = reported_tests(alloc, &known.tests)?;
     let extras = Extras {
@@ -41,7 +51,10 @@ fn judged_tests<'a, L: ProgressListener>(
     files: &'a [TextFile<'a>],
     faults: &mut Vec<u8>,
     listener: &mut L,
-) -> Result<KnownTests<'a>, AllocError> {
+) -> Result<KnownTests<'a>, AllocError>
+    ensures { IfOk result (λ k. AreKnownTests request.is_all models.now
+        (start_content request.most faults.old.items) files.now (content_in k faults.new.items)) }
+{
     let texts = model_texts(alloc, models)?;
     let resolved = resolved_models(alloc, &texts)?;
     let judges = Judges {
@@ -60,7 +73,11 @@ pub fn page_report<L: ProgressListener>(
     models: &[TextFile<'_>],
     tests: &[TextFile<'_>],
     listener: &mut L,
-) -> Result<Report, AllocError> {
+) -> Result<Report, AllocError>
+    ensures page { IfOk result
+        (λ r. IsPageReport request models.now tests.now r.text.items r.faults.items) }
+    ensures well_formed { IfOk result (λ r. IsWellFormed r.text.items) }
+{
     let mut faults = Vec::new(alloc);
     let known = known_models(alloc, models, &mut faults)?;
     let judged = judged_tests(alloc, request, &known, tests, &mut faults, listener);

@@ -3,3 +3,4 @@ pub mod Elements
 pub mod Tests
 pub mod Pages
 pub mod Pictures
+pub mod Figures

@@ -26,7 +26,7 @@ use Rattle.report_laws.proofs.Passing.{nothing, onward, stays, none_plain, besid
 onto : {p q r : MarkupReader} {s t : List ℕ} → Passes p q s → Passes q r t → Passes p r (s ++ t)
 onto {p} {q} {r} {s} {t} first second = onward p q r s t first second
 
-fixed : (p q : MarkupReader) (text : List ℕ) → markup_behind p text ≡ q → script_count p text ≡ 0
+pub fixed : (p q : MarkupReader) (text : List ℕ) → markup_behind p text ≡ q → script_count p text ≡ 0
     → Passes p q text
 fixed p q text goes opens = record { goes = goes; opens_none = opens }
 
