@@ -1,5 +1,5 @@
 -- The lines of files as a board shows them, and what a viewer knows of its texts. Read after Runs.
-use Rattle.std.specs.Prelude.{◌≡◌, ◌≢◌, ℕ, Bool, List, [], map, length, Option, Some, None, Vec}
+use Rattle.std.specs.Prelude.{◌≡◌, ◌≢◌, ℕ, Bool, List, [], map, length, Option, Some, None, Vec, Contains}
 use Rattle.std.specs.declared.alloc.Global.{Global}
 use Rattle.std.specs.List.{AllByRecursion as Each}
 use Rattle.outcome_texts.specs.Cells.{Cell, Open}
@@ -28,6 +28,11 @@ shown_cells ops name models = map (cell_named (board_after ops) name) models
 abbrev pub AreCellsClosed : List BoardOp → (name : List ℕ) → (models : List (List ℕ)) → Type 0
 AreCellsClosed ops name models = Each (λ m. cell_named (board_after ops) name m ≢ Open) models
 
+-- one of them is open
+abbrev pub HasOpenCell : List BoardOp → (name : List ℕ) → (models : List (List ℕ)) → Type 0
+HasOpenCell ops name models =
+    (m : List ℕ) × Contains models m × (cell_named (board_after ops) name m ≡ Open)
+
 -- the line of a test on that board
 abbrev pub shown_line : List BoardOp → (models : List (List ℕ)) → (name : List ℕ) → List ℕ
 shown_line ops models name = behind_line (test_table models name (shown_cells ops name models))
@@ -41,10 +46,18 @@ abbrev pub IsClosedBy : List BoardOp → (models : List (List ℕ)) → Option (
 IsClosedBy ops models None = Unit {0}
 IsClosedBy ops models (Some name) = AreCellsClosed ops name models
 
+abbrev pub IsOpenBy : List BoardOp → (models : List (List ℕ)) → Option (List ℕ) → Type 0
+IsOpenBy ops models None = ⊥
+IsOpenBy ops models (Some name) = HasOpenCell ops name models
+
 -- the lines of all files on the board after these operations
 abbrev pub shown_lines : List BoardOp → (models : List (List ℕ)) → List (Option (List ℕ))
     → List (List ℕ)
 shown_lines ops models names = map (shown_line_of ops models) names
+
+-- the line of one of the files has an open cell
+abbrev pub HasOpenLine : List BoardOp → (models : List (List ℕ)) → List (Option (List ℕ)) → Type 0
+HasOpenLine ops models names = (n : Option (List ℕ)) × Contains names n × IsOpenBy ops models n
 
 -- These are the lines of the files on the board after these operations, whose cells are closed, and
 -- right for its texts.

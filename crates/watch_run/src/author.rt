@@ -1,10 +1,10 @@
 //! Who makes the edits of the files that are watched.
 
-ghost use Rattle.std.specs.Prelude.{◌≡◌, List, IfOk, IfSome, OnOk, OnErr, Err};
+ghost use Rattle.std.specs.Prelude.{◌≡◌, List, IfOk, IfSome, IfNone, OnOk, OnErr, Err};
 ghost use mathlib.Core.List.{IsPrefix};
 ghost use Rattle.board.specs.declared.operation.BoardOp.{BoardOp};
 ghost use Rattle.session_views.specs.Knowing.{HasOwnEdit};
-ghost use Rattle.watch_run.specs.Boards.{lists_of, AreOwnLines};
+ghost use Rattle.watch_run.specs.Boards.{lists_of, AreOwnLines, HasOpenLine};
 
 use bench_texts::Edit;
 use command_answers::SessionFault;
@@ -41,5 +41,7 @@ pub trait Author {
     ) -> Result<Option<Vec<Vec<u8>>>, AllocError>
         ensures begins { IsPrefix (seen self.old) (seen self.new) }
         ensures lines { IfOk result (λ o. IfSome o (λ v.
-            AreOwnLines (seen self.new) made models.now names.now (lists_of v.items))) };
+            AreOwnLines (seen self.new) made models.now names.now (lists_of v.items))) }
+        ensures waits { IfOk result (λ o.
+            IfNone o (HasOpenLine (seen self.new) models.now names.now)) };
 }

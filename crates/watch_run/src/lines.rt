@@ -1,6 +1,6 @@
 //! What is written of the tests.
 
-ghost use Rattle.std.specs.Prelude.{◌≡◌, ◌≢◌, ◌++◌, [], map, get_or, IfOk, OnOk, IfSome, IfErr};
+ghost use Rattle.std.specs.Prelude.{◌≡◌, ◌≢◌, ◌++◌, [], map, get_or, IfOk, OnOk, IfSome, IfNone, IfErr};
 ghost use Rattle.std.specs.List.{AllByRecursion as Each};
 ghost use mathlib.Core.List.{IsPrefix};
 ghost use Rattle.outcome_texts.specs.Cells.{cell_of, Open};
@@ -9,7 +9,7 @@ ghost use Rattle.board.specs.Contents.{cell_named};
 ghost use Rattle.board.specs.Legal.{IsLegal};
 ghost use Rattle.board.specs.Operations.{board_after};
 ghost use Rattle.watch_run.specs.Lines.{test_table, behind_line, AreLinesOf, changed_line, changed_lines, jobs_line, AreLinesWritten};
-ghost use Rattle.watch_run.specs.Boards.{lists_of, shown_cells, AreCellsClosed, shown_line, shown_line_of, IsClosedBy, shown_lines, AreOwnLines, KnowsItsTexts};
+ghost use Rattle.watch_run.specs.Boards.{lists_of, shown_cells, AreCellsClosed, HasOpenCell, shown_line, shown_line_of, IsClosedBy, IsOpenBy, shown_lines, HasOpenLine, AreOwnLines, KnowsItsTexts};
 
 use crate::author::Author;
 use crate::watched::Watched;
@@ -58,6 +58,7 @@ fn cell_now<'v, J: Naming>(
         cell_of c ≡ cell_named (board_after view.now) name.now model.now) }
     ensures closed { IfSome result (λ c.
         cell_named (board_after view.now) name.now model.now ≢ Open) }
+    ensures waits { IfNone result (cell_named (board_after view.now) name.now model.now ≡ Open) }
 {
     match result_in(view, name, model) {
         Cell::Open => None,
@@ -77,6 +78,7 @@ fn cells_now<'v, J: Naming>(
         map cell_of v.items ≡ shown_cells view.now name.now models.now)) }
     ensures closed { IfOk result (λ o. IfSome o (λ v.
         AreCellsClosed view.now name.now models.now)) }
+    ensures waits { IfOk result (λ o. IfNone o (HasOpenCell view.now name.now models.now)) }
 {
     let mut cells = Vec::with_capacity(alloc, models.len())?;
     for model in models {
@@ -101,6 +103,7 @@ pub fn test_line<J: Naming>(
         IfSome o (λ v. v.items ≡ shown_line view.now models.now name.now)) }
     ensures closed { IfOk result (λ o.
         IfSome o (λ v. AreCellsClosed view.now name.now models.now)) }
+    ensures waits { IfOk result (λ o. IfNone o (HasOpenCell view.now name.now models.now)) }
 {
     match cells_now(alloc, view, name, models)? {
         Some(cells) => {
@@ -124,6 +127,7 @@ fn line_now<J: Naming>(
         IfSome o (λ v. v.items ≡ shown_line_of view.now models.now name.now)) }
     ensures closed { IfOk result (λ o.
         IfSome o (λ v. IsClosedBy view.now models.now name.now)) }
+    ensures waits { IfOk result (λ o. IfNone o (IsOpenBy view.now models.now name.now)) }
 {
     match name {
         Some(name) => test_line(alloc, view, models, name.as_bytes()),
@@ -143,6 +147,7 @@ fn lines_now<J: Naming>(
         IfSome o (λ v. lists_of v.items ≡ shown_lines view.now models.now names.now)) }
     ensures closed { IfOk result (λ o.
         IfSome o (λ v. Each (IsClosedBy view.now models.now) names.now)) }
+    ensures waits { IfOk result (λ o. IfNone o (HasOpenLine view.now models.now names.now)) }
 {
     let mut lines = Vec::with_capacity(alloc, names.len())?;
     for name in names {
@@ -182,6 +187,8 @@ pub fn read_board<'p, J: Naming>(
     ensures lines { IfOk result.1 (λ o. IfSome o (λ v.
         AreOwnLines result.0 asked.entry.made asked.entry.models.now asked.entry.names.now
         (lists_of v.items))) }
+    ensures waits { IfOk result.1 (λ o. IfNone o
+        (HasOpenLine result.0 asked.entry.models.now asked.entry.names.now)) }
 {
     match newest_view(viewer) {
         Ok(view) => {
@@ -269,6 +276,8 @@ impl<A: Author> Watched<A> {
         ensures lines { IfOk result (λ o. IfSome o (λ v.
             AreLinesOf models.now (texts_of self.new.texts) self.new.names.items
             (lists_of v.items))) }
+        ensures waits { IfOk result (λ o. IfNone o
+            (HasOpenLine (A.seen self.new.author) models.now self.new.names.items)) }
     {
         self.author
             .lines(alloc, models, self.names.as_slice(), self.made)
