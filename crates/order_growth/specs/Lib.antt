@@ -1,0 +1,4 @@
+pub mod Growth
+pub mod Laws
+pub mod Stacks
+pub mod Within
