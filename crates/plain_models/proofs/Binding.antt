@@ -21,8 +21,8 @@ use Rattle.plain_expressions.specs.Scopes.{function_of, bound_as, with_named}
 use Rattle.plain_expressions.proofs.Inside.{alike_through}
 use Rattle.plain_expressions.proofs.Alike.{AlikeBound, meanings, AlikeNames, none, more}
 use Rattle.plain_expressions.proofs.Applying.{named_alike, function_alike}
-use Rattle.plain_models.specs.Groups.{name_of, body_of, AreRelations}
-use Rattle.plain_models.specs.Answers.{IsBoundTo, AreBoundTo, AreBound, Binds}
+use Rattle.plain_groups.specs.Groups.{name_of, body_of, AreRelations}
+use Rattle.plain_items.specs.Items.{IsBoundTo, AreBoundTo, AreBound, Binds}
 use Rattle.plain_models.proofs.Knowing.{IsKnown, IsFunctionKnown, Knows, knows_append, with_append, group_known, bodies_known}
 
 bound_to_alike : (all : Set ℕ) (is : List Item) (N : Names ℕ) (v : Value) (b : Bound)

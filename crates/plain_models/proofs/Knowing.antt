@@ -27,8 +27,9 @@ use Rattle.plain_expressions.proofs.Inside.{pair_inside}
 use Rattle.plain_expressions.proofs.Alike.{AlikeNames}
 use Rattle.plain_expressions.proofs.Alike as alikes
 use Rattle.plain_expressions.proofs.Applying.{named_alike}
-use Rattle.plain_models.specs.Groups.{name_of, AreApart, IsChoiceInside, DoesGrow, IsSolvable}
-use Rattle.plain_models.specs.Answers.{IsOfValue, AreValuesOf, ArePredefined, IsBoundTo, AreBoundTo}
+use Rattle.plain_groups.specs.Groups.{name_of, AreApart, IsChoiceInside, DoesGrow, IsSolvable}
+use Rattle.plain_items.specs.Items.{IsBoundTo, AreBoundTo}
+use Rattle.plain_models.specs.Answers.{IsOfValue, AreValuesOf, ArePredefined}
 use Rattle.plain_models.proofs.Risen.{RisesBound, value, function, RisesNames, none, more, same_risen, rises, body_rises}
 
 abbrev pub IsFunctionKnown : Scope → Option Item → Known → Type 0

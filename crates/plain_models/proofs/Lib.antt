@@ -1,9 +1,4 @@
 pub mod Risen
-pub mod Behind
 pub mod Knowing
-pub mod Solving
 pub mod Binding
 pub mod Reading
-pub mod Stepping
-pub mod Checking
-pub mod Rounds

@@ -14,9 +14,10 @@ use Rattle.plain_expressions.specs.declared.scope.Named.{Named}
 use Rattle.plain_expressions.specs.Scopes.{with_named}
 use Rattle.plain_models.specs.declared.model.Answers as code
 use Rattle.plain_models.specs.declared.model.Reading as code_reading
-use Rattle.plain_models.specs.Groups.{IsSolvable}
-use Rattle.plain_models.specs.Answers.{AreModelAnswers, ArePredefined, Binds, IsReading}
-use Rattle.plain_models.proofs.Behind.{turned_names, met_alike, flag_alike}
+use Rattle.plain_groups.specs.Groups.{IsSolvable}
+use Rattle.plain_items.specs.Items.{Binds}
+use Rattle.plain_models.specs.Answers.{AreModelAnswers, ArePredefined, IsReading}
+use Rattle.plain_items.proofs.Behind.{turned_names, met_alike, flag_alike}
 use Rattle.plain_models.proofs.Knowing.{outer_rises, predefined_know, no_parts, item_solvable}
 use Rattle.plain_models.proofs.Binding.{IsBehind, item_behind, IsReadTo, left_is, flag_head, flag_tail}
 

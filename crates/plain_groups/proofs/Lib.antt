@@ -1,0 +1,3 @@
+pub mod Solving
+pub mod Stepping
+pub mod Rounds
