@@ -1,0 +1,16 @@
+pub mod At
+pub mod Meeting
+pub mod Inputs
+pub mod Carried
+pub mod Coded
+pub mod Checks
+pub mod Events
+pub mod Steps
+pub mod Named
+pub mod Labels
+pub mod Shown
+pub mod Reasons
+pub mod Found
+pub mod Findings
+pub mod Whys
+pub mod Answered

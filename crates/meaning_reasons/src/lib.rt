@@ -1,0 +1,39 @@
+//! What `why` says, by the definitions of `meaning`: how many executions of a test a model keeps
+//! in which the condition holds, and of each other one the first check that is not met, with what
+//! shows it. Read in specs/: Told, Findings, Answers.
+#![tactic(auto)]
+
+ghost use Rattle.std.specs.Prelude.{IfOk, IfErr};
+ghost use Rattle.command_answers.specs.Answer.{IsEvalRefusal};
+ghost use Rattle.meaning_reasons.specs.Answers.{WhysAreSaid, WhysAgree, IsWhySaidOf, ReportsAreSaid};
+
+use command_answers::{Asked, EvalFault};
+use std::alloc::Global;
+
+/// What `why` says of a test under a model is so by the definitions.
+pub fn whys_are_said()
+    ensures said { WhysAreSaid }
+    ensures reports { ReportsAreSaid }
+{}
+
+/// Where a test says something under a model, `why` finds as many witnesses.
+pub fn whys_agree()
+    ensures { WhysAgree }
+{}
+
+/// Does what `command_answers::why_report` does: the report is so by the definitions. Errors: those
+/// of `eval`.
+pub fn why_report(
+    alloc: Global,
+    asked: Asked,
+    model: &[u8],
+    test: &[u8],
+) -> Result<Vec<u8>, EvalFault>
+    // A report is what is said of the test and the model that the texts mean.
+    ensures report { IfOk result (λ text. IsWhySaidOf asked model.now test.now text.items) }
+    // A refusal is that of the first text that means nothing.
+    ensures refusal { IfErr result (IsEvalRefusal model.now test.now) }
+{
+    whys_are_said();
+    command_answers::why_report(alloc, asked, model, test)
+}
