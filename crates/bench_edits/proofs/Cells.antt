@@ -19,6 +19,7 @@ use Rattle.memo_core.specs.declared.keys.Key.TheVariants.{Output}
 use Rattle.memo_core.specs.Graph.{Memo, Net, at, input_nodes}
 use Rattle.memo_core.specs.Right as core
 use Rattle.from_scratch.specs.FromScratch.{IsFaultless, AreItemsOf, IsFromScratch}
+use Rattle.binding_shapes.specs.Shapes.{role_shape}
 use Rattle.bench_items.specs.Naming.{SeenName, item_outputs}
 use Rattle.bench_values.specs.Givens.{GivenContent, asked, ForSpace, ForItem, ForVerdict}
 use Rattle.bench_items.specs.Items.{role_content}
@@ -54,7 +55,7 @@ one_is v w e = cc
 -- a check gives one value
 check_gives : (role : Role) (history : List SeenName) (values outputs : List NodeContent)
     → is_check role ≡ true
-    → Makes (ForItem (role_content role) (item_outputs (role_content role) history)) values outputs
+    → Makes (ForItem (role_shape (role_content role)) (item_outputs (role_content role) history)) values outputs
     → (v : NodeContent) × (outputs ≡ v ∷ [])
 check_gives (roles.Group recursive bodies) history values outputs check made =
     absurd (let e : false ≡ true = check in cc)
@@ -65,7 +66,7 @@ check_gives roles.Silent history values outputs check made =
 -- its name is 0
 check_name : (role : Role) (history : List SeenName) → is_check role ≡ true
     → slice_get
-    (output_names (ForItem (role_content role) (item_outputs (role_content role) history)))
+    (output_names (ForItem (role_shape (role_content role)) (item_outputs (role_content role) history)))
     0 ≡ Some 0
 check_name (roles.Group recursive bodies) history check =
     absurd (let e : false ≡ true = check in cc)
@@ -80,7 +81,7 @@ check_is_node roles.Silent h = h
 -- what has a named output is a node
 named_is_node : (role : Role) (history : List SeenName) (place x : ℕ)
     → slice_get
-    (output_names (ForItem (role_content role) (item_outputs (role_content role) history)))
+    (output_names (ForItem (role_shape (role_content role)) (item_outputs (role_content role) history)))
     place ≡ Some x → is_node role ≡ true
 named_is_node (roles.Group recursive bodies) history place x h = refl
 named_is_node (roles.Check c) history place x h = refl

@@ -26,6 +26,7 @@ use Rattle.binding_kinds.specs.Outermost.{outermost_names}
 use Rattle.from_scratch.proofs.Knowing.{risen_at}
 use Rattle.from_scratch.proofs.Ordered.{resolved_ordered}
 use Rattle.from_scratch.proofs.Rising.{resolved_rising}
+use Rattle.shape_laws.proofs.Models.{read_by_kind}
 use Rattle.bench_edits.specs.Solved.{SolvedCell, IsCellSolved, IsSolvedFault, answers_in, flag_names}
 use Rattle.bench_edits.proofs.Latest.{late_answers, late_names, each_reversed, answers_reversed, names_reversed}
 use Rattle.bench_edits.proofs.Said.{Say, say_at, all_said}
@@ -59,7 +60,7 @@ evaluated_result test model items space checks flags (Evaluated e) none are list
 
 module _ (test : Test) (model : ModelText) (cell : SolvedCell) (solved : IsCellSolved test model cell) where
   item_fits : (k : ℕ) (r : ResolvedItem) → slice_get cell.items k ≡ Some r
-      → Fits cell.table cell.is_needed k r
+      → Fits cell.items cell.table cell.is_needed k r
   item_fits k r e = record {
     rises =
         risen_at cell.items k r e (resolved_rising outermost_names 0 (bare_items model) cell.items
@@ -67,6 +68,8 @@ module _ (test : Test) (model : ModelText) (cell : SolvedCell) (solved : IsCellS
     asked = λ check. solved.checks k (r, e, check);
     closed = λ needs node. solved.names k r needs e node;
     solved = λ needs node. solved.items k r needs e node;
+    there = e;
+    read = read_by_kind model cell.items solved.no_fault solved.of_model k r e;
   }
 
   items_said : (space : Space) → cell.table.space ≡ OfSpace (space_content space)
@@ -77,8 +80,8 @@ module _ (test : Test) (model : ModelText) (cell : SolvedCell) (solved : IsCellS
       (flag_names cell.items) (late_answers cell.table (reverse cell.items))
       (answers_in cell.table 0 cell.items) (sym (names_reversed cell.items))
       (sym (answers_reversed cell.table cell.items))
-      (all_said space cell.table cell.is_needed is_space (reverse cell.items)
-      (each_reversed (Fits cell.table cell.is_needed) cell.items item_fits)
+      (all_said cell.items space cell.table cell.is_needed is_space (reverse cell.items)
+      (each_reversed (Fits cell.items cell.table cell.is_needed) cell.items item_fits)
       (resolved_ordered PREDEFINED (bare_items model) cell.items solved.of_model.0))
 
   by_space : (space : Space) → ListsExecutions test space

@@ -1,5 +1,5 @@
 -- What a node is made of columns and answers holds over each space that shows the same.
-use Rattle.std.proofs.Common.{◌≡◌, List, map, Bool, ap}
+use Rattle.std.proofs.Common.{◌≡◌, List, map, Bool, ap, ◌∙◌}
 use denote.Ref.{Bor}
 use Rattle.binding_graph.specs.declared.resolved.Role.{Role}
 use Rattle.candidates.specs.declared.candidate.Space.{Space}
@@ -8,8 +8,9 @@ use Rattle.cat_eval.specs.Columns.{ColumnsOf}
 use Rattle.cat_eval.specs.Values.{AnswersOf}
 use Rattle.cat_eval_laws.specs.Laws.{AreSameItems}
 use Rattle.cat_eval_laws.proofs.Keeping.{columns_kept, answers_kept}
+use Rattle.binding_shapes.specs.Shapes.{role_shape}
 use Rattle.bench_items.specs.Items.{role_content}
-use Rattle.bench_values.specs.Makes.{HasGroupColumns, HasCheckAnswers}
+use Rattle.bench_values.specs.Makes.{role_over, HasGroupColumns, HasCheckAnswers}
 use Rattle.bench_values.specs.Spaces.{SpaceContent, space_content}
 
 same_items : (role read : Role) (space over : Space) (inputs found : List (Bor Column))
@@ -21,16 +22,23 @@ same_items role read space over inputs found reading shown are = record {
   values = are;
 }
 
+-- the item reads its inputs by the kinds of these columns
+abbrev pub IsOver : Role → List Column → Type 0
+IsOver role columns = role_over (role_shape (role_content role)) columns ≡ role_content role
+
 pub columns_over : (role : Role) (space : Space) (inputs : List (Bor Column)) (cs : List Column)
-    → HasGroupColumns (role_content role) (space_content space) (map (λ c. c.now) inputs) cs
+    → IsOver role (map (λ c. c.now) inputs)
+    → HasGroupColumns (role_shape (role_content role)) (space_content space) (map (λ c. c.now) inputs) cs
     → ColumnsOf role inputs space cs
-columns_over role space inputs cs h =
+columns_over role space inputs cs is h =
     columns_kept h.read role h.over space h.inputs inputs cs
-    (same_items role h.read space h.over inputs h.inputs h.reading h.shown h.are) h.values
+    (same_items role h.read space h.over inputs h.inputs (h.reading ∙ is) h.shown h.are) h.values
 
 pub answers_over : (role : Role) (space : Space) (inputs : List (Bor Column)) (answers : List Bool)
-    → HasCheckAnswers (role_content role) (space_content space) (map (λ c. c.now) inputs) answers
+    → IsOver role (map (λ c. c.now) inputs)
+    → HasCheckAnswers (role_shape (role_content role)) (space_content space) (map (λ c. c.now) inputs)
+    answers
     → AnswersOf role inputs space answers
-answers_over role space inputs answers h =
+answers_over role space inputs answers is h =
     answers_kept h.read role h.over space h.inputs inputs answers
-    (same_items role h.read space h.over inputs h.inputs h.reading h.shown h.are) h.values
+    (same_items role h.read space h.over inputs h.inputs (h.reading ∙ is) h.shown h.are) h.values

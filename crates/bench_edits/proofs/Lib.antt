@@ -4,6 +4,7 @@ pub mod ModelEdits
 pub mod PutModels
 pub mod PutTests
 pub mod TestEdits
+pub mod Emptied
 pub mod FromScratch
 pub mod KeptNodes
 pub mod Latest
@@ -35,3 +36,4 @@ pub mod LeftCells
 pub mod SliceCells
 pub mod Wholes
 pub mod Stamped
+pub mod Touching

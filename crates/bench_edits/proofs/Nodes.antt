@@ -27,6 +27,7 @@ use Rattle.bench_nodes.specs.declared.table.TestRow.{TestRow}
 use Rattle.bench_nodes.specs.Nodes.{used, key_at, keys_at, slot_keys, thread_parts, row_of, row_parts}
 use Rattle.bench_nodes.proofs.Laws.{used_by}
 use Rattle.bench_values.specs.Givens.{GivenContent, ForSpace, ForItem, ForVerdict, ForFault, asked, faulted}
+use Rattle.binding_shapes.specs.Shapes.{role_shape}
 use Rattle.bench_items.specs.Items.{role_content}
 use Rattle.bench_values.specs.Makes.{output_names}
 use Rattle.bench_items.specs.Naming.{SeenName, item_outputs as numbers_in, seen_names_in, body_names, number_in_history, IsInHistory, AreInHistory}
@@ -149,7 +150,8 @@ names_many (b ∷ bs) = ap suc (names_many bs)
 -- the output at a name's position goes by the number of the name
 outputs_numbered : (history : List SeenName) (role : Role) (p : ℕ) → p < name_count role
     → slice_get
-    (output_names (ForItem (role_content role) (numbers_in (role_content role) history))) p
+    (output_names (ForItem (role_shape (role_content role))
+    (numbers_in (role_content role) history))) p
     ≡ Some (number_in_history history (get_or (seen_names_in (role_content role)) p no_name))
 outputs_numbered history (roles.Group recursive bodies) p lt =
     let names = body_names bodies.items in
@@ -186,20 +188,20 @@ mapped_once history names all once p q n at also =
 
 -- how the name at a position is spelt
 spelt_at : (bodies : List Body) (p : ℕ) (x : SeenName) → slice_get (body_names bodies) p ≡ Some x
-    → slice_get (map (λ b. b.name) bodies) p ≡ Some x.name
+    → slice_get (map (λ b. b.name) bodies) p ≡ Some x
 spelt_at [] p x at = absurd (none-some x at)
-spelt_at (b ∷ bs) zero x at = ap (λ (n : SeenName). Some n.name) (same_Some _ _ at)
+spelt_at (b ∷ bs) zero x at = at
 spelt_at (b ∷ bs) (suc p) x at = spelt_at bs p x at
 
 body_once : (bodies : List Body) → StandsOnce (map (λ b. b.name) bodies)
     → StandsOnce (body_names bodies)
 body_once bodies once p q x at also =
-    once p q x.name (spelt_at bodies p x at) (spelt_at bodies q x also)
+    once p q x (spelt_at bodies p x at) (spelt_at bodies q x also)
 
 -- no two outputs of an item go by one number
 outputs_once : (history : List SeenName) (role : Role) → AreInHistory history (role_content role)
     → StandsOnce (bound_names role)
-    → StandsOnce (output_names (ForItem (role_content role)
+    → StandsOnce (output_names (ForItem (role_shape (role_content role))
     (numbers_in (role_content role) history)))
 outputs_once history (roles.Group recursive bodies) all once =
     mapped_once history (body_names bodies.items) all (body_once bodies.items once)
@@ -507,7 +509,7 @@ module _ (s : PartsState) where
           (held k r at_k).1
           ∙ ap
           (λ (h : List SeenName).
-          Some (ForItem (role_content r.role) (numbers_in (role_content r.role) h)))
+          Some (ForItem (role_shape (role_content r.role)) (numbers_in (role_content r.role) h)))
           (sym (history_is k r at_k))
 
       abbrev ItemIs : ℕ → ResolvedItem → Node → Type 0

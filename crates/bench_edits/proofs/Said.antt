@@ -1,23 +1,31 @@
 -- The outputs of the checks and flags in a solved table are the answers of the model.
-use Rattle.std.proofs.Common.{ℕ, ◌≡◌, List, [], ◌∷◌, ◌++◌, length, map, Bool, true, false, if◌then◌else◌, Option, Some, None, length-append, refl, sym, ap, ◌∙◌, subst, arith}
+use Rattle.std.proofs.Common.{ℕ, zero, suc, ◌≡◌, List, [], ◌∷◌, ◌++◌, length, map, Bool, true, false, if◌then◌else◌, Option, Some, None, length-append, refl, sym, ap, ◌∙◌, subst, arith}
+use denote.Ref.{Bor}
+use Rattle.std.specs.Prelude.{slice_get}
 use Rattle.std.proofs.lemmas.List.{append-nil}
+use Rattle.std.proofs.lemmas.Option.{none-some}
 use Rattle.std.proofs.lemmas.List.Elements.{filter_map-append}
 use Rattle.binding_graph.specs.declared.resolved.ResolvedItem.{ResolvedItem}
 use Rattle.binding_graph.specs.declared.resolved.Role.{Role}
 use Rattle.binding_graph.specs.declared.resolved.Role.TheVariants as roles
 use Rattle.binding_graph.specs.Reach.{is_check}
 use Rattle.candidates.specs.declared.candidate.Space.{Space}
+use Rattle.candidates.specs.Space.{Candidate, candidates_in}
 use Rattle.cat_eval.specs.declared.column.Column.{Column}
+use Rattle.cat_eval.specs.Values.{AnswersOf}
+use Rattle.cat_eval_laws.proofs.Keeping.{answers_kept}
 use Rattle.verdict.specs.Kept.{Flag}
+use Rattle.binding_shapes.specs.Shapes.{role_shape}
+use Rattle.shape_laws.specs.Laws.{IsReadByKind}
 use Rattle.bench_items.specs.Items.{role_content}
 use Rattle.bench_values.specs.Makes as nodes
 use Rattle.bench_values.specs.Spaces.{SpaceContent, space_content}
-use Rattle.bench_values.specs.Values.{NodeContent, OfSpace, OfCheck, check_in, space_of, columns_of, answers_of}
+use Rattle.bench_values.specs.Values.{NodeContent, OfSpace, OfCheck, check_in, answers_of}
 use Rattle.from_scratch.specs.Answers.{HasAnswers, AreItemColumns, IsSaidAs, IsSaidBy, AreSaid, AreOrdered}
 use Rattle.bench_edits.specs.Solved.{Table, is_node, flag_name}
 use Rattle.bench_edits.proofs.KeptNodes.{answers_over}
 use Rattle.bench_edits.proofs.Latest.{Each, late_answers, late_names}
-use Rattle.bench_edits.proofs.Valued.{Fits, inputs_of, values_space, values_columns}
+use Rattle.bench_edits.proofs.Valued.{Fits, AreColumnsOf, count, held_column, held_are, counted_so, over_inputs, made_over, inputs_of}
 
 abbrev Names : Type 0
 Names = List (Option (List ℕ))
@@ -161,8 +169,8 @@ item_said P A names values outputs roles.Silent gives h =
 
 check_made : (role : Role) (space : SpaceContent) (columns : List Column)
     (outputs : List NodeContent) → is_check role ≡ true
-    → nodes.RoleMakes (role_content role) space columns outputs
-    → Gives (nodes.HasCheckAnswers (role_content role) space columns) outputs
+    → nodes.RoleMakes (role_shape (role_content role)) space columns outputs
+    → Gives (nodes.HasCheckAnswers (role_shape (role_content role)) space columns) outputs
 check_made (roles.Group recursive bodies) space columns outputs is h =
     absurd (let f : false ≡ true = is in cc)
 check_made (roles.Check check) space columns outputs is h = h
@@ -173,29 +181,73 @@ check_is_node (roles.Group recursive bodies) is = refl
 check_is_node (roles.Check check) is = refl
 check_is_node roles.Silent is = is
 
-module _ (space : Space) (table : Table) (needed : ℕ → Bool)
+-- ---- over no candidates there is no answer
+
+no_candidate : (candidates : List Candidate) → length candidates ≡ 0 → (k : ℕ) (one : Candidate)
+    → slice_get candidates k ≡ Some one → ⊥
+no_candidate [] none k one e = none-some one e
+no_candidate (x ∷ xs) none k one e = omega (arith, none)
+
+read_none : (space : Space) (read : Role) (inputs : List (Bor Column)) (answers : List Bool)
+    → count space ≡ 0 → AnswersOf read inputs space answers → length answers ≡ 0
+read_none space (roles.Group recursive bodies) inputs answers none h =
+    ap (λ (l : List Bool). length l) h
+read_none space (roles.Check check) inputs answers none h = h.0 ∙ none
+read_none space roles.Silent inputs answers none h = ap (λ (l : List Bool). length l) h
+
+check_empty : (space : Space) (role : Role) (inputs : List (Bor Column)) (columns : List Column)
+    (outputs : List NodeContent) → is_check role ≡ true → count space ≡ 0
+    → nodes.RoleMakes (role_shape (role_content role)) (space_content space) columns outputs
+    → Gives (AnswersOf role inputs space) outputs
+check_empty space (roles.Group recursive bodies) inputs columns outputs is none h =
+    absurd (let f : false ≡ true = is in cc)
+check_empty space (roles.Check check) inputs columns outputs is none h =
+    let made = h.2 in
+    let moved = answers_kept made.read made.read made.over space made.inputs made.inputs h.0 (record { roles = refl; candidates = ap (λ (s : SpaceContent). s.executions) made.shown; values = refl }) made.values in (
+      h.0,
+      h.1,
+      (
+        read_none space made.read made.inputs h.0 none moved ∙ sym none,
+        λ k one answer e f. absurd (no_candidate (candidates_in space.combinations.items) none k
+            one e),
+      ),
+    )
+check_empty space roles.Silent inputs columns outputs is none h =
+    absurd (let f : false ≡ true = is in cc)
+
+module _ (items : List ResolvedItem) (space : Space) (table : Table) (needed : ℕ → Bool)
     (is_space : table.space ≡ OfSpace (space_content space)) where
-  check_given : (rs : List ResolvedItem) (r : ResolvedItem) → Each (Fits table needed) rs
-      → AreOrdered (r ∷ rs) → Fits table needed (length rs) r → is_check r.role ≡ true
+  -- the answers that a check or a flag gives
+  check_answers : (rs : List ResolvedItem) (r : ResolvedItem) (values : List NodeContent)
+      (are : AreColumnsOf items space rs r.inputs.items values) → IsReadByKind items r
+      → is_check r.role ≡ true → (outputs : List NodeContent)
+      → nodes.RoleMakes (role_shape (role_content r.role)) (space_content space)
+      (map held_column are.inputs) outputs
+      → (n : ℕ) → count space ≡ n → Gives (AnswersOf r.role are.inputs space) outputs
+  check_answers rs r values are read is outputs h zero none =
+      check_empty space r.role are.inputs (map held_column are.inputs) outputs is none h
+  check_answers rs r values are read is outputs h (suc n) some =
+      let held = held_are are.inputs n (counted_so are.inputs (count space) (suc n) some are.long) in
+      let made = check_made r.role (space_content space) (map (λ b. b.now) are.inputs) outputs is
+      (subst (λ (l : List Column). nodes.RoleMakes (role_shape (role_content r.role)) (space_content space) l outputs) held h) in (
+        made.0,
+        made.1,
+        answers_over r.role space are.inputs made.0 (over_inputs items r are.inputs
+            read are.kinds) made.2,
+      )
+
+  check_given : (rs : List ResolvedItem) (r : ResolvedItem) → Each (Fits items table needed) rs
+      → AreOrdered (r ∷ rs) → Fits items table needed (length rs) r → is_check r.role ≡ true
       → Gives (HasAnswers space (λ j ds. AreItemColumns space rs j ds) r) (table.outputs (length rs))
   check_given rs r before ordered fits is =
       let needs = fits.asked is in
       let solved = fits.solved needs (check_is_node r.role is) in
-      let are = inputs_of space table needed is_space rs r solved.0 before ordered fits needs (check_is_node r.role is) solved.1 in
-      let made = check_made r.role (space_of (table.space ∷ solved.0)) (columns_of (table.space ∷ solved.0)) (table.outputs (length rs)) is solved.2 in
-      let over : nodes.HasCheckAnswers (role_content r.role) (space_content space) (map (λ b. b.now) are.inputs) made.0 =
-      subst
-      (λ (s : SpaceContent).
-      nodes.HasCheckAnswers (role_content r.role) s (map (λ b. b.now) are.inputs) made.0)
-      (values_space table.space (space_content space) solved.0 is_space)
-      (subst
-      (λ (l : List Column). nodes.HasCheckAnswers (role_content r.role)
-      (space_of (table.space ∷ solved.0)) l made.0)
-      (values_columns table.space (space_content space) solved.0
-      (map (λ b. b.now) are.inputs) is_space are.columns) made.2) in
-      (made.0, made.1, (are.inputs, are.named, answers_over r.role space are.inputs made.0 over))
+      let are = inputs_of items space table needed is_space rs r solved.0 before ordered fits needs (check_is_node r.role is) solved.1 in
+      let made = made_over (role_shape (role_content r.role)) table.space (space_content space) solved.0 (table.outputs (length rs)) (map held_column are.inputs) is_space are.columns solved.2 in
+      let answers = check_answers rs r solved.0 are fits.read is (table.outputs (length rs)) made (count space) refl in
+      (answers.0, answers.1, (are.inputs, are.named, answers.2))
 
-  pub all_said : (rs : List ResolvedItem) → Each (Fits table needed) rs → AreOrdered rs
+  pub all_said : (rs : List ResolvedItem) → Each (Fits items table needed) rs → AreOrdered rs
       → Say (λ cs fs. AreSaid space rs cs fs) (late_names rs) (late_answers table rs)
   all_said [] fits ordered = record { said = (refl, refl); as_many = refl }
   all_said (r ∷ rs) fits ordered =

@@ -8,3 +8,4 @@ pub mod Kept
 pub mod BenchCells
 pub mod Left
 pub mod Slices
+pub mod Touched

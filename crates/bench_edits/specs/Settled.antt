@@ -16,6 +16,7 @@ use Rattle.memo_core.specs.Graph.{Memo, Net, at, IsSettled}
 use Rattle.memo_core.specs.Laws.{IsUsedClosed}
 use Rattle.memo_core.specs.Right as core
 use Rattle.memo_core.specs.Step.{Has}
+use Rattle.binding_shapes.specs.Shapes.{role_shape}
 use Rattle.bench_items.specs.Naming.{SeenName, item_outputs}
 use Rattle.bench_values.specs.Givens.{GivenContent, asked, faulted, ForSpace, ForItem, ForVerdict, ForFault}
 use Rattle.bench_items.specs.Items.{role_content}
@@ -58,10 +59,11 @@ check_keys nodes index (r ∷ rs) =
 abbrev pub StandsOnce : {A : Type 0} → List A → Type 0
 StandsOnce {A} xs = (p q : ℕ) (x : A) → slice_get xs p ≡ Some x → slice_get xs q ≡ Some x → p ≡ q
 
--- what the node of an item is given: what the item does, and the numbers by which its outputs go
+-- what the node of an item is given: what the item does, kinds left out, and the numbers by which its
+-- outputs go
 abbrev pub item_given : CellNodes → ℕ → ResolvedItem → GivenContent
 item_given nodes index r =
-    ForItem (role_content r.role) (item_outputs (role_content r.role) (nodes.history index))
+    ForItem (role_shape (role_content r.role)) (item_outputs (role_content r.role) (nodes.history index))
 
 abbrev pub name_output : CellNodes → Input → Key
 name_output nodes name = Output (nodes.item name.item) (nodes.name name)

@@ -11,6 +11,7 @@ use Rattle.binding_graph.specs.declared.resolved.Role.{Role}
 use Rattle.binding_graph.specs.declared.resolved.Role.TheVariants as roles
 use Rattle.binding_graph.specs.Reach.{is_check, IsCheckAt}
 use Rattle.verdict.specs.declared.answer.Outcome.{Outcome}
+use Rattle.binding_shapes.specs.Shapes.{role_shape}
 use Rattle.bench_values.specs.Givens.{asked, faulted, ForSpace, ForVerdict, ForFault}
 use Rattle.bench_items.specs.Items.{role_content}
 use Rattle.bench_values.specs.Makes.{ItemMakes, Makes}
@@ -33,7 +34,7 @@ IsValueOf table name v = slice_get (table.outputs name.item) name.position ≡ S
 abbrev pub IsSolvedItem : Table → ℕ → ResolvedItem → Type 0
 IsSolvedItem table index r =
     (values : List NodeContent) × AllZip (IsValueOf table) r.inputs.items values
-    × ItemMakes (role_content r.role) (table.space ∷ values) (table.outputs index)
+    × ItemMakes (role_shape (role_content r.role)) (table.space ∷ values) (table.outputs index)
 
 -- groups, checks and flags are nodes; what has no value is none
 abbrev pub is_node : Role → Bool

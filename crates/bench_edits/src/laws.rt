@@ -1,5 +1,7 @@
 //! Laws of the parts of the bench after an edit.
 
+ghost use Rattle.bench_values.specs.Givens.{GivenContent};
+ghost use Rattle.bench_edits.specs.Touched.{EditsTouchOnly};
 ghost use Rattle.bench_edits.specs.Laws.{TestEditsKeepParts, TestEditsGoOn, EditsKeepParts, EditsGoOn, EditsKeepStamps, PartsAreWhole, EditsAreStamped};
 
 /// After an edit of a test the parts are those of the texts after it.
@@ -36,4 +38,9 @@ pub fn parts_are_whole()
 /// After any edit the state is stamped with the number of the edit.
 pub fn edits_are_stamped()
     ensures { EditsAreStamped }
+{}
+
+/// An edit changes the use, the inputs and the stamps of those nodes alone that it touches.
+pub fn edits_touch_only()
+    ensures { EditsTouchOnly GivenContent }
 {}

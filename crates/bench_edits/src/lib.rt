@@ -23,7 +23,9 @@ pub mod node_laws;
 mod prepare;
 mod slots;
 mod tests;
+mod touched;
 
 pub use commit::commit_parts;
 pub use edited::{EditedParts, ModelParts};
 pub use prepare::prepare_parts;
+pub use touched::touched_nodes;

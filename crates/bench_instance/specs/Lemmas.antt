@@ -5,3 +5,4 @@ pub mod Laws
 pub mod LeftCells
 pub mod StampedLaws
 pub mod Listing
+pub mod Touched

@@ -1,5 +1,5 @@
 -- The names of outputs, which returns tell by their numbers.
-use Rattle.std.specs.Prelude.{ℕ, ◌==◌, List, Option, Some, None, codes, option_map, slice_get, if◌then◌else◌}
+use Rattle.std.specs.Prelude.{ℕ, ◌==◌, List, Option, Some, None, codes, slice_get, if◌then◌else◌}
 use Rattle.memo_core.specs.declared.keys.Kind.{Kind}
 use Rattle.memo_core.specs.declared.keys.Kind.TheVariants as kinds
 use Rattle.memo_core.specs.declared.keys.Node.{Node}
@@ -7,7 +7,7 @@ use Rattle.bench_items.specs.Naming.{SeenName}
 
 -- how the name of that number is spelt, counted from 0 in the order in which an item got its names
 abbrev pub seen_at : (history : List SeenName) → (number : ℕ) → Option (List ℕ)
-seen_at history number = option_map (λ n. n.name) (slice_get history number)
+seen_at history number = slice_get history number
 
 -- a node that has only one output: it goes by 0
 abbrev pub only_name : (name : List ℕ) → (number : ℕ) → Option (List ℕ)

@@ -6,15 +6,15 @@ ghost use Rattle.bench_instance.specs.StampedTexts.{stamped_state};
 ghost use Rattle.bench_instance.specs.Outputs.{seen_at, only_name, name_by, output_name};
 
 use crate::stamped_texts::StampedTexts;
-use bench_items::SeenName;
 use memo_core::keys::{Kind, Node};
+use text_values::Name;
 
 // The name of that number of a history.
-fn seen_at(history: &[SeenName], number: u64) -> Option<&[u8]>
+fn seen_at(history: &[Name], number: u64) -> Option<&[u8]>
     ensures { option_map (λ b. b.now) result ≡ seen_at history.now number }
 {
     match history.get(number as usize) {
-        Some(seen) => Some(seen.name.as_bytes()),
+        Some(name) => Some(name.as_bytes()),
         None => None,
     }
 }
@@ -27,7 +27,7 @@ fn only_name(name: &'static [u8], number: u64) -> Option<&'static [u8]>
 }
 
 // The name of an output of a node of that kind, whose item has that history, if it has an item.
-fn name_by(kind: Kind, history: &[SeenName], number: u64) -> Option<&[u8]>
+fn name_by(kind: Kind, history: &[Name], number: u64) -> Option<&[u8]>
     ensures { option_map (λ b. b.now) result ≡ name_by kind history.now number }
 {
     match kind {
@@ -40,7 +40,7 @@ fn name_by(kind: Kind, history: &[SeenName], number: u64) -> Option<&[u8]>
 
 impl StampedTexts {
     // The names that the item of that number has had, none where there is no such item.
-    fn history(&self, item: u64) -> &[SeenName]
+    fn history(&self, item: u64) -> &[Name]
         ensures { result.now ≡ histories (stamped_state self.now) item }
     {
         let index = self.parts.item_index(item);

@@ -7,7 +7,7 @@ ghost use Rattle.bench_texts.specs.Held.{texts_of};
 ghost use Rattle.bench_instance.specs.StampedTexts.{AreSoundTexts, stamped_net, verdict_by};
 ghost use Rattle.bench_instance.specs.Edited.{most_used, AreSameTexts, IsPrepared, HasRoomForEdit};
 
-use bench_edits::{EditedParts, commit_parts, prepare_parts};
+use bench_edits::{EditedParts, commit_parts, prepare_parts, touched_nodes};
 use bench_parts::{Parts, is_same, run};
 use bench_texts::{Edit, EditFault, Prepared, Texts as BenchTexts};
 use bench_values::{Given, NodeValue};
@@ -15,23 +15,29 @@ use memo_core::keys::{Key, Kind, Node, Output};
 use memo_core::texts::Texts;
 use std::alloc::{AllocError, Global};
 
-/// Tests and models, with the stamps of their parts.
+/// Tests and models, with the stamps of their parts, and the nodes that the last edit touched.
 pub struct StampedTexts {
     pub(crate) texts: BenchTexts,
     pub(crate) parts: Parts,
+    pub(crate) touched: Vec<Node>,
 }
 
 impl Drop for StampedTexts {
     fn drop(self) {
-        let StampedTexts { texts: _, parts: _ } = self;
+        let StampedTexts {
+            texts: _,
+            parts: _,
+            touched: _,
+        } = self;
     }
 }
 
-/// An edit that was prepared: the text that it puts, and the parts. No more than `used` nodes are
-/// used after it.
+/// An edit that was prepared: the text that it puts, the parts, and the nodes that it touches. No
+/// more than `used` nodes are used after it.
 pub struct PreparedEdit {
     texts: Prepared,
     parts: EditedParts,
+    touched: Vec<Node>,
     used: usize,
 }
 
@@ -40,6 +46,7 @@ impl Drop for PreparedEdit {
         let PreparedEdit {
             texts: _,
             parts: _,
+            touched: _,
             used: _,
         } = self;
     }
@@ -53,17 +60,19 @@ impl PreparedEdit {
         &self.texts
     }
 
-    // The text that it puts, and the parts.
-    fn into_parts(self) -> (Prepared, EditedParts)
+    // The text that it puts, the parts, and the nodes that it touches.
+    fn into_parts(self) -> (Prepared, EditedParts, Vec<Node>)
         ensures text { result.0 ≡ self.texts }
         ensures parts { result.1 ≡ self.parts }
+        ensures touched { result.2 ≡ self.touched }
     {
         let PreparedEdit {
             texts,
             parts,
+            touched,
             used: _,
         } = self;
-        (texts, parts)
+        (texts, parts, touched)
     }
 }
 
@@ -78,6 +87,7 @@ impl StampedTexts {
         StampedTexts {
             texts: BenchTexts::new(alloc),
             parts: Parts::new(alloc),
+            touched: Vec::new(alloc),
         }
     }
 
@@ -118,7 +128,7 @@ impl StampedTexts {
 
     // What an edit needs, made beside the texts and their parts, which stay the same. Errors: the
     // first reason to refuse the edit, or want of memory.
-    #[tactic(auto, using(crate::proofs::Preparing::same_state, crate::proofs::Preparing::is_unspent, crate::proofs::Preparing::applies_unspent, crate::proofs::Preparing::is_all_there, crate::proofs::Preparing::is_wanted))]
+    #[tactic(auto, using(crate::proofs::Preparing::same_state, crate::proofs::Preparing::is_unspent, crate::proofs::Preparing::applies_unspent, crate::proofs::Preparing::is_all_there, crate::proofs::Preparing::is_wanted, bench_edits::proofs::Touching::same_touched))]
     fn prepare_edit(
         &mut self,
         alloc: Global,
@@ -142,7 +152,15 @@ impl StampedTexts {
         ) {
             Ok(parts) => {
                 let used = most_used(&self.parts, &parts);
-                Ok(PreparedEdit { texts, parts, used })
+                match touched_nodes(alloc, &self.parts, &parts) {
+                    Ok(touched) => Ok(PreparedEdit {
+                        texts,
+                        parts,
+                        touched,
+                        used,
+                    }),
+                    Err(error) => Err(EditFault::OutOfMemory(error)),
+                }
             }
             Err(error) => Err(EditFault::OutOfMemory(error)),
         }
@@ -182,6 +200,7 @@ impl Texts for StampedTexts {
     ghost use Rattle.bench_instance.specs.StampedTexts.{AreSoundTexts, AreTextsSince, IsNodeThere, stamped_net};
     ghost use Rattle.bench_instance.specs.Edited.{IsEdited, IsPrepared, HasRoomForEdit, IsCommitted};
     ghost use Rattle.bench_instance.specs.Lemmas.Commits.{commits_edit};
+    ghost use Rattle.bench_instance.specs.Lemmas.Touched.{used_kept, users_read, edits_touch};
     ghost use Rattle.bench_instance.specs.Lemmas.StampedLaws.{texts_are_sound, since_itself, since_edited, given_stays, valid_edited, used_there, used_closed, users_listed, ranks_fall, goes_on};
 
     ghost is_valid = { AreSoundTexts };
@@ -199,6 +218,8 @@ impl Texts for StampedTexts {
     ghost is_there = { IsNodeThere };
 
     ghost users = { λ t n. users t.parts.table n };
+
+    ghost touched = { λ t. t.touched.items };
 
     ghost rank = { λ t n. rank t.parts.table n };
 
@@ -246,6 +267,14 @@ impl Texts for StampedTexts {
 
     fn user_at(&self, node: Node, i: usize) -> Node {
         self.parts.table.user_at(node, i)
+    }
+
+    fn touched_count(&self) -> usize {
+        self.touched.len()
+    }
+
+    fn touched_at(&self, i: usize) -> Node {
+        self.touched[i]
     }
 
     fn give(&self, alloc: Global, node: Node) -> Result<Given, AllocError> {
@@ -296,9 +325,10 @@ impl Texts for StampedTexts {
     }
 
     fn commit(&mut self, prepared: PreparedEdit, number: u64) {
-        let (texts, parts) = prepared.into_parts();
+        let (texts, parts, touched) = prepared.into_parts();
         self.texts.commit(texts);
         commit_parts(&mut self.parts, parts, number);
+        self.touched = touched;
     }
 
     ghost same_exact = { value_exact };
@@ -319,9 +349,15 @@ impl Texts for StampedTexts {
 
     ghost used_closed = { used_closed };
 
+    ghost used_kept = { used_kept };
+
     ghost users_are = { λ t _. users_listed t };
 
+    ghost users_read = { users_read };
+
     ghost falls = { ranks_fall };
+
+    ghost touches_only = { edits_touch };
 
     ghost goes_on = { goes_on };
 }

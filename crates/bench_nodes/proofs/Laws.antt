@@ -10,8 +10,9 @@ use Rattle.memo_core.specs.declared.keys.Key.TheVariants.{Part}
 use Rattle.memo_core.specs.declared.keys.Node.{Node}
 use Rattle.memo_core.specs.Graph.{input_nodes}
 use Rattle.memo_core.specs.Names.{kind_number, same_node}
+use Rattle.memo_core.specs.Lemmas.Equality.{same_node_exact, and_true}
 use Rattle.memo_core.specs.Tests.{has_node}
-use Rattle.memo_core.specs.Laws.{IsUsedClosed, AreUsers, Falls}
+use Rattle.memo_core.specs.Laws.{IsUsedClosed, AreUsers, AreReaders, Falls}
 use Rattle.memo_core.specs.Step.{Has}
 use Rattle.memo_core.proofs.JudgeLemmas.{has_yes, has_is}
 use Rattle.bench_nodes.specs.declared.table.NodeTable.{NodeTable}
@@ -20,8 +21,9 @@ use Rattle.bench_nodes.specs.declared.table.SlotKey.{SlotKey}
 use Rattle.bench_nodes.specs.declared.table.SlotKey.TheVariants as slots
 use Rattle.bench_nodes.specs.declared.table.TestRow.{TestRow}
 use Rattle.bench_nodes.specs.Nodes.{node_of, is_output_of, uses, users_at, used, keys_at, is_slot, slot_keys, thread_parts, space_keys, row_of, row_parts, node_inputs, users, has_test_row, has_slot, slot_index, rank_of, rank, net_of}
-use Rattle.bench_nodes.specs.Order.{IsOfEarlierSlot, AreOrderedAfter, IsTableOrdered}
+use Rattle.bench_nodes.specs.Order.{IsOfEarlierSlot, AreOrderedAfter, IsTableOrdered, HasOwnKeys, AreSlotsAlike}
 use Rattle.bench_nodes.proofs.Lists.{has_used}
+use Rattle.bench_nodes.proofs.Lookups.{all_of}
 use Rattle.std.proofs.lemmas.Bool.{cases_Bool, and_from}
 
 -- ---- both or one of two
@@ -252,10 +254,6 @@ uses_among test (slots.Value kind of name ∷ ks) n h = elim h [
     or_true true = refl
     or_true false = refl
 
-all_of : (a b c : Bool) → a && c ≡ true → b ≡ true → a && b && c ≡ true
-all_of true b c h i = rw i h
-all_of false b c h i = h
-
 -- the slot of a kind and number is among the users of what it uses
 user_among : (ss : List Slot) (kind : Kind) (of : ℕ) (used_kind : Kind) (used_of test : ℕ)
     → has_slot ss kind of ≡ true → uses used_kind used_of (slot_keys ss kind of) ≡ true
@@ -341,6 +339,59 @@ user_used t n u h l =
     let p = user_is t.slots.items n.kind n.of n.test u l in
     used_by t u (subst (λ (x : ℕ). has_test_row t.tests.items x ≡ true) (sym p.0) (used_test t n h)) p.1
 
+-- what uses an output of a node of the same test has it among its inputs
+uses_has : (test : ℕ) (ks : List SlotKey) (n : Node) → uses n.kind n.of ks ≡ true → n.test ≡ test
+    → Has (input_nodes (keys_at test ks)) n
+uses_has test [] n h e = cc
+uses_has test (slots.Test part ∷ ks) n h e = uses_has test ks n h e
+uses_has test (slots.Item number ∷ ks) n h e = uses_has test ks n h e
+uses_has test (slots.Fault id ∷ ks) n h e = uses_has test ks n h e
+uses_has test (slots.Value kind of name ∷ ks) n h e =
+    elim (cases_Bool (is_output_of n.kind n.of (slots.Value kind of name))) [
+      | inl t ↦ inl (sym (same_node_exact n (record { kind = kind; test = test; of = of })
+          (all_of (kind_number n.kind == kind_number kind) (n.test == test) (n.of == of) t
+          (eq-eqb n.test test e))))
+      | inr f ↦ inr (uses_has test ks n (rw f at h) e)
+    ]
+
+-- a user of a node is of its test, has an output of it among its inputs, and is no space
+record IsUserOf (ss : List Slot) (kind : Kind) (of test : ℕ) (u : Node) : Type 0 where
+  same : test ≡ u.test
+  used : uses kind of (slot_keys ss u.kind u.of) ≡ true
+  no_space : u.kind ≡ Space → ⊥
+
+user_of : (all ss : List Slot) (kind : Kind) (of test : ℕ) (u : Node) → Each (HasOwnKeys all) ss
+    → Has (users_at ss kind of test) u → IsUserOf all kind of test u
+user_of all [] kind of test u alike h = absurd h
+user_of all (s ∷ ss) kind of test u alike h = elim (cases_Bool (uses kind of s.inputs.items)) [
+  | inl e ↦ (let g : Has (node_of test s ∷ users_at ss kind of test) u = rw e at h in elim g [
+    | inl is ↦ subst (IsUserOf all kind of test) is (record {
+      same = refl;
+      used = rw alike.0.keys e;
+      no_space = λ space. none (alike.0.space space) e;
+    })
+    | inr l ↦ user_of all ss kind of test u alike.1 l
+  ])
+  | inr f ↦ user_of all ss kind of test u alike.1 (rw f at h)
+]
+  where
+    none : s.inputs.items ≡ [] → uses kind of s.inputs.items ≡ true → ⊥
+    none is e = let f : false ≡ true = rw is at e in cc
+
+reads_by : (t : NodeTable) (n : Node) (kind : Kind) (test of : ℕ) → n.test ≡ test
+    → uses n.kind n.of (slot_keys t.slots.items kind of) ≡ true → (kind ≡ Space → ⊥)
+    → Has (input_nodes (node_inputs t kind test of)) n
+reads_by t n Space test of e h none = absurd (none refl)
+reads_by t n Group test of e h none = uses_has test (slot_keys t.slots.items Group of) n h e
+reads_by t n Check test of e h none = uses_has test (slot_keys t.slots.items Check of) n h e
+reads_by t n Verdict test of e h none = uses_has test (slot_keys t.slots.items Verdict of) n h e
+
+user_reads : (t : NodeTable) (n u : Node) → AreSlotsAlike t.slots.items → Has (users t n) u
+    → Has (input_nodes (node_inputs t u.kind u.test u.of)) n
+user_reads t n u alike h =
+    let is = user_of t.slots.items t.slots.items n.kind n.of n.test u alike h in
+    reads_by t n u.kind u.test u.of is.same is.used is.no_space
+
 -- the users of a node hold each used node that stands on it, and those of a used node are used
 pub users_are_among : {G : Type 0} (t : NodeTable) (gives : Node → G → Bool)
     → AreUsers (net_of t gives) (users t)
@@ -348,3 +399,8 @@ users_are_among t gives = record {
   listed = λ n u h i. user_there t n u.kind u.test u.of (used_slot t u h) i;
   are_used = λ n u h l. user_used t n u h l;
 }
+
+-- where slots of one kind and number have the same inputs, the users of a node stand on it
+pub users_are_readers : {G : Type 0} (t : NodeTable) (gives : Node → G → Bool)
+    → AreSlotsAlike t.slots.items → AreReaders (net_of t gives) (users t)
+users_are_readers t gives alike n u used h = user_reads t n u alike h

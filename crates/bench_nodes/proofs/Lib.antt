@@ -1,4 +1,5 @@
 pub mod Laws
 pub mod Lists
 pub mod Lookups
+pub mod Touching
 pub mod UserLists

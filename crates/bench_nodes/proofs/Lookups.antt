@@ -123,7 +123,7 @@ has_placed (s ∷ ss) kind of zero h =
 has_placed (s ∷ ss) kind of (suc at) h =
     let later = has_placed ss kind of at h in rw (sym later) (sym (or_true (is_slot kind of s)))
 
-all_of : (a b c : Bool) → a && c ≡ true → b ≡ true → a && b && c ≡ true
+pub all_of : (a b c : Bool) → a && c ≡ true → b ≡ true → a && b && c ≡ true
 all_of true b c h i = rw i h
 all_of false b c h i = h
 

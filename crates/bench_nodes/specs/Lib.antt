@@ -2,3 +2,4 @@ pub mod Nodes
 pub mod Order
 pub mod Places
 pub mod Slots
+pub mod Touched

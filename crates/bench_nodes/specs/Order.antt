@@ -1,11 +1,13 @@
--- What a table owes: each slot stands behind those that it uses.
+-- What a table owes: each slot stands behind those that it uses, and slots of one kind and number
+-- have the same inputs.
 use Rattle.std.specs.Prelude.{◌≡◌, ⊤, true, List, [], ◌∷◌}
 use Rattle.std.specs.List.{AllByRecursion as Each}
+use Rattle.memo_core.specs.declared.keys.Kind.TheVariants.{Space}
 use Rattle.bench_nodes.specs.declared.table.NodeTable.{NodeTable}
 use Rattle.bench_nodes.specs.declared.table.Slot.{Slot}
 use Rattle.bench_nodes.specs.declared.table.SlotKey.{SlotKey}
 use Rattle.bench_nodes.specs.declared.table.SlotKey.TheVariants as slots
-use Rattle.bench_nodes.specs.Nodes.{has_slot}
+use Rattle.bench_nodes.specs.Nodes.{has_slot, slot_keys}
 
 -- an input that is an output is one of these slots
 abbrev pub IsOfEarlierSlot : List Slot → SlotKey → Type 0
@@ -22,3 +24,12 @@ AreOrderedAfter before (s ∷ ss) =
 
 abbrev pub IsTableOrdered : NodeTable → Type 0
 IsTableOrdered t = AreOrderedAfter [] t.slots.items
+
+-- the slot has the inputs of the first of its kind and number, and a space has none here
+pub record HasOwnKeys (ss : List Slot) (s : Slot) : Type 0 where
+  pub keys : slot_keys ss s.kind s.of ≡ s.inputs.items
+  pub space : s.kind ≡ Space → s.inputs.items ≡ []
+
+-- slots of one kind and number have the same inputs
+abbrev pub AreSlotsAlike : List Slot → Type 0
+AreSlotsAlike ss = Each (HasOwnKeys ss) ss

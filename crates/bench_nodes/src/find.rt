@@ -45,7 +45,7 @@ fn thread_stamp(threads: &[u64], index: u64) -> u64
 }
 
 // The stamp of a part of the test.
-fn stamp_in(test: &TestRow, part: u64) -> u64
+pub(crate) fn stamp_in(test: &TestRow, part: u64) -> u64
     ensures { result ≡ stamp_in test.now part }
 {
     if part == CONDITION {

@@ -7,6 +7,7 @@ mod find;
 mod nodes;
 mod places;
 mod table;
+mod touched;
 mod users;
 
 pub use find::are_rising;
@@ -15,3 +16,4 @@ pub use table::{
     CONDITION, FAULT, INIT, ITEM, ItemRow, LOCATIONS, ModelRow, NodeTable, OBSERVED, Slot, SlotKey,
     THREAD, TestRow,
 };
+pub use touched::{NewSlots, all_names, nodes_named, nodes_of_tests, test_slots, touched_slots};

@@ -1,4 +1,4 @@
-use Rattle.std.proofs.Common.{◌≡◌, inl, inr, Bool, true, false, List, [], ◌∷◌, filter, Option, Some, None, option_map, option_copied, Bor, if◌then◌else◌, refl, ap, sym, subst, ◌∙◌}
+use Rattle.std.proofs.Common.{◌≡◌, inl, inr, Bool, true, false, ◌&&◌, List, [], ◌∷◌, filter, Option, Some, None, option_map, option_copied, Bor, if◌then◌else◌, refl, ap, sym, subst, ◌∙◌}
 use Rattle.std.specs.Map.{lookup, set_value}
 use Rattle.std.specs.Map.Calls.{RetainsPairs}
 use Rattle.std.proofs.lemmas.Option.{same_Some}
@@ -11,7 +11,7 @@ use Rattle.memo_core.specs.Names.{same_node}
 use Rattle.memo_core.specs.Lemmas.Equality.{same_node_exact, same_node_refl}
 use Rattle.memo_core.specs.Graph.{Memo, memo_of, put_memo}
 use Rattle.memo_core.specs.Views.{MemoEntry, as_memo, as_memos, output_tokens}
-use Rattle.memo_core.specs.Marks.{mark_in, mark_of, with_mark_at, without_mark}
+use Rattle.memo_core.specs.Marks.{mark_in, mark_of, with_mark_at}
 
 -- what is found at a node is its memo
 pub memo_found_at : {V : Type 0} (n : Node) (ks : List (MemoEntry V))
@@ -132,43 +132,59 @@ mark_inserted {V} n k (x ∷ ks) m = elim (cases_Bool (same_node n x.0)) [
         clash : same_node x.0 x.0 ≡ false → ⊥
         clash h = let c : true ≡ false = sym (same_node_refl x.0) ∙ h in cc
 
--- what is retained, with every mark taken away
+-- what is retained stays as it is
 module _ {V F : Type 0} (S : F → Node → Kept (TokenShown V) → Bool → Kept (TokenShown V) → F → Type 0)
     (keep : Node → Bool) (f : F)
     (says : (n : Node) (k : Kept (TokenShown V)) (b : Bool) (w : Kept (TokenShown V)) (g : F) → S f n k b w g
-    → (b ≡ keep n) × (w ≡ without_mark k) × (g ≡ f)) where
-  abbrev cleared : List (MemoEntry V) → List (MemoEntry V)
-  cleared [] = []
-  cleared (k ∷ ks) = if keep k.0 then (k.0, without_mark k.1) ∷ cleared ks else cleared ks
+    → (b ≡ keep n) × (w ≡ k) × (g ≡ f)) where
+  abbrev left : List (MemoEntry V) → List (MemoEntry V)
+  left [] = []
+  left (k ∷ ks) = if keep k.0 then (k.0, k.1) ∷ left ks else left ks
 
-  retained_cleared : (ks kept : List (MemoEntry V)) → RetainsPairs S f ks kept → kept ≡ cleared ks
-  retained_cleared [] kept h = h
-  retained_cleared (k ∷ ks) kept h =
+  retained_left : (ks kept : List (MemoEntry V)) → RetainsPairs S f ks kept → kept ≡ left ks
+  retained_left [] kept h = h
+  retained_left (k ∷ ks) kept h =
       let s = says k.0 k.1 h.0 h.1 h.2 h.4 in
-      let rest = retained_cleared ks h.3 (subst (λ g. RetainsPairs S g ks h.3) s.2 h.5) in
+      let rest = retained_left ks h.3 (subst (λ g. RetainsPairs S g ks h.3) s.2 h.5) in
       h.6 ∙ rw (s.0, s.1, rest) refl
 
-  cleared_memos : (ks : List (MemoEntry V))
-      → as_memos (cleared ks) ≡ filter (λ m. keep m.node) (as_memos ks)
-  cleared_memos [] = refl
-  cleared_memos (k ∷ ks) = elim (cases_Bool (keep k.0)) [
-    | inl t ↦ rw t (ap (λ (r : List (Memo V)). as_memo k ∷ r) (cleared_memos ks))
-    | inr g ↦ rw g (cleared_memos ks)
+  left_memos : (ks : List (MemoEntry V)) → as_memos (left ks) ≡ filter (λ m. keep m.node) (as_memos ks)
+  left_memos [] = refl
+  left_memos (k ∷ ks) = elim (cases_Bool (keep k.0)) [
+    | inl t ↦ rw t (ap (λ (r : List (Memo V)). as_memo k ∷ r) (left_memos ks))
+    | inr g ↦ rw g (left_memos ks)
   ]
 
-  cleared_marks : (ks : List (MemoEntry V)) (n : Node) → mark_of (cleared ks) n ≡ false
-  cleared_marks [] n = refl
-  cleared_marks (k ∷ ks) n = elim (cases_Bool (keep k.0)) [
-    | inl t ↦ rw t (elim (cases_Bool (same_node n k.0))
-        [ inl s ↦ rw s refl | inr g ↦ rw g (cleared_marks ks n) ])
-    | inr g ↦ rw g (cleared_marks ks n)
+  -- a mark stays where its memo does
+  left_marks : (ks : List (MemoEntry V)) (n : Node) → mark_of (left ks) n ≡ (keep n && mark_of ks n)
+  left_marks [] n = sym (none (keep n))
+    where
+      none : (b : Bool) → (b && false) ≡ false
+      none true = refl
+      none false = refl
+  left_marks (k ∷ ks) n = elim (cases_Bool (same_node n k.0)) [
+    | inl s ↦ rw s (same (same_node_exact n k.0 s) (left_marks ks n))
+    | inr g ↦ elim (cases_Bool (keep k.0)) [
+      | inl t ↦ rw (t, g) (left_marks ks n)
+      | inr h ↦ rw (h, g) (left_marks ks n)
+    ]
   ]
+    where
+      same : n ≡ k.0 → mark_of (left ks) n ≡ (keep n && mark_of ks n)
+          → mark_of (if keep k.0 then (k.0, k.1) ∷ left ks else left ks) n ≡ (keep n && k.1.settled)
+      same e rest = elim (cases_Bool (keep n)) [
+        | inl t ↦ (let u : keep k.0 ≡ true = subst (λ (m : Node). keep m ≡ true) e t in
+            let s : same_node n k.0 ≡ true = subst (λ (m : Node). same_node n m ≡ true) e (same_node_refl n) in
+            rw (u, t) (rw s refl))
+        | inr h ↦ (let u : keep k.0 ≡ false = subst (λ (m : Node). keep m ≡ false) e h in
+            rw (u, h) (rw h at rest))
+      ]
 
   pub retained_memos : (ks kept : List (MemoEntry V)) → RetainsPairs S f ks kept
       → as_memos kept ≡ filter (λ m. keep m.node) (as_memos ks)
-  retained_memos ks kept h = ap as_memos (retained_cleared ks kept h) ∙ cleared_memos ks
+  retained_memos ks kept h = ap as_memos (retained_left ks kept h) ∙ left_memos ks
 
   pub retained_marks : (ks kept : List (MemoEntry V)) → RetainsPairs S f ks kept → (n : Node)
-      → mark_of kept n ≡ false
+      → mark_of kept n ≡ (keep n && mark_of ks n)
   retained_marks ks kept h n =
-      ap (λ (ks : List (MemoEntry V)). mark_of ks n) (retained_cleared ks kept h) ∙ cleared_marks ks n
+      ap (λ (ks : List (MemoEntry V)). mark_of ks n) (retained_left ks kept h) ∙ left_marks ks n

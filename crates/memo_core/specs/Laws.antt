@@ -1,6 +1,6 @@
 -- What texts owe to the core, cited by the trait `Texts`, and what holds of any run, cited by
 -- `laws`.
-use Rattle.std.specs.Prelude.{◌≡◌, ◌<◌, ◌↔◌, ℕ, List, [], Bool, true}
+use Rattle.std.specs.Prelude.{◌≡◌, ◌<◌, ◌↔◌, ◌⊎◌, ℕ, List, [], Bool, true}
 use Rattle.std.specs.List.{AllByRecursion as Each}
 use Rattle.memo_core.specs.declared.keys.Node.{Node}
 use Rattle.memo_core.specs.declared.keys.Key.{Key}
@@ -19,9 +19,26 @@ pub record AreUsers {G : Type 0} (net : Net G) (users : Node → List Node) : Ty
   pub listed : (n u : Node) → Has net.used u → Has (input_nodes (net.inputs u)) n → Has (users n) u
   pub are_used : (n u : Node) → Has net.used n → Has (users n) u → Has net.used u
 
+-- a used node that is listed as a user of another has an output of it among its inputs
+abbrev pub AreReaders : {G : Type 0} → Net G → (Node → List Node) → Type 0
+AreReaders net users =
+    (n u : Node) → Has net.used u → Has (users n) u → Has (input_nodes (net.inputs u)) n
+
 -- the rank falls from a node to its inputs, so no node stands on itself
 abbrev pub Falls : {G : Type 0} → Net G → (Node → ℕ) → Type 0
 Falls net rank = (n : Node) → Each (λ m. rank m < rank n) (input_nodes (net.inputs n))
+
+-- the node is used in both, with the same inputs, and the parts among these have the same stamps
+pub record IsUsedAlike {G : Type 0} (old new : Net G) (n : Node) : Type 0 where
+  pub before : Has old.used n
+  pub after : Has new.used n
+  pub inputs : new.inputs n ≡ old.inputs n
+  pub parts : Each (IsSamePart old new) (old.inputs n)
+
+-- each node that is used in one of both is among these, or it is used alike in both
+abbrev pub TouchesOnly : {G : Type 0} → Net G → Net G → List Node → Type 0
+TouchesOnly old new touched =
+    (n : Node) → Has old.used n ⊎ Has new.used n → Has touched n ⊎ IsUsedAlike old new n
 
 -- a node whose inputs and parts are what they were in earlier texts is given what it was
 abbrev pub GivenStays : {T G : Type 0} → (T → Type 0) → (T → T → Type 0) → (T → Net G) → Type 0

@@ -5,3 +5,4 @@ pub mod AcceptLemmas
 pub mod WorkLemmas
 pub mod TokenLemmas
 pub mod MarkLemmas
+pub mod UnmarkLemmas

@@ -58,11 +58,11 @@ unmarked_count-less {V} n (k ∷ ks) is h not_yet = elim (cases_Bool (same_node 
       rw f (omega arith))
 ]
 
-has_left : {X : Type 0} (xs ys : List X) (x : X) → Has xs x → Has (xs ++ ys) x
+pub has_left : {X : Type 0} (xs ys : List X) (x : X) → Has xs x → Has (xs ++ ys) x
 has_left [] ys x h = absurd h
 has_left (z ∷ xs) ys x h = elim h [ inl e ↦ inl e | inr r ↦ inr (has_left xs ys x r) ]
 
-has_right : {X : Type 0} (xs ys : List X) (x : X) → Has ys x → Has (xs ++ ys) x
+pub has_right : {X : Type 0} (xs ys : List X) (x : X) → Has ys x → Has (xs ++ ys) x
 has_right [] ys x h = h
 has_right (z ∷ xs) ys x h = inr (has_right xs ys x h)
 
@@ -97,6 +97,7 @@ module _ {V G : Type 0} (net : Net G) (ks : List (MemoEntry V)) (n : Node) where
   pub passed : is_ready net ks n ≡ false → (rest : List Node) → IsMarkedTo net ks (n ∷ rest)
       → IsMarkedTo net ks rest
   passed not_now rest p = record {
+    used = p.used;
     sound = p.sound;
     left = λ u has f m e. elim (p.left u has f m e) [
       | inl q ↦ absurd (true_false _
@@ -110,7 +111,7 @@ module _ {V G : Type 0} (net : Net G) (ks : List (MemoEntry V)) (n : Node) where
 
   module _ (users : Node → List Node)
       (covers : (u : Node) → Has net.used u → Has (input_nodes (net.inputs u)) n → Has (users n) u)
-      (now : is_ready net ks n ≡ true) (rest : List Node) (p : IsMarkedTo net ks (n ∷ rest)) where
+      (there : Has net.used n) (now : is_ready net ks n ≡ true) (rest : List Node) (p : IsMarkedTo net ks (n ∷ rest)) where
     each_sound : (ns : List Node) → Each (λ m. mark_of ks m ≡ true) ns
         → Each (IsSettled net (as_memos ks)) ns
     each_sound [] e = tt
@@ -141,6 +142,10 @@ module _ {V G : Type 0} (net : Net G) (ks : List (MemoEntry V)) (n : Node) where
     -- once a node is marked, what stands on it is pending
     pub marked_on : IsMarkedTo net (with_mark_at n ks) (users n ++ rest)
     marked_on = record {
+      used = λ m h. elim (cases_Bool (same_node m n)) [
+        | inl t ↦ subst (Has net.used) (sym (same_node_exact m n t)) there
+        | inr f ↦ p.used m (sym (mark_of-other n m ks f) ∙ h)
+      ];
       sound = λ m h. rw (as_memos-with_mark_at n ks) (elim (cases_Bool (same_node m n)) [
         | inl t ↦ subst (IsSettled net (as_memos ks)) (sym (same_node_exact m n t)) now_settled
         | inr f ↦ p.sound m (sym (mark_of-other n m ks f) ∙ h)
@@ -181,17 +186,13 @@ module _ {V G : Type 0} (net : Net G) (ks : List (MemoEntry V))
       all go [] h t = tt
       all go (m ∷ ns) h t = (go m h.0 t.0, all go ns h.1 t.1)
 
-pub cleared_marked : {V G : Type 0} (net : Net G) (ks : List (MemoEntry V))
-    → ((n : Node) → mark_of ks n ≡ false) → IsMarkedTo net ks net.used
-cleared_marked net ks none =
-    record { sound = λ n h. absurd (true_false _ h (none n)); left = λ n has f m e. has }
-
 -- an accepted return leaves its node pending, and nothing else
 pub put_pending : {V G : Type 0} (net : Net G) (ks next : List (MemoEntry V)) (m : Memo V)
     → IsMarkedTo net ks [] → as_memos next ≡ put_memo m (as_memos ks)
     → ((n : Node) → mark_of next n ≡ (if same_node n m.node then false else mark_of ks n))
     → (IsSettled net (as_memos ks) m.node → ⊥) → IsMarkedTo net next (m.node ∷ [])
 put_pending {V} net ks next m p is flags unsettled = record {
+  used = λ n h. p.used n (sym (other n (not_it n h)) ∙ h);
   sound = λ n h. elim (cases_Bool (same_node n m.node)) [
     | inl t ↦ absurd (true_false _ h (flags n ∙ rw t refl))
     | inr f ↦ (let s = p.sound n (sym (other n f) ∙ h) in

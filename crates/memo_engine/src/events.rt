@@ -3,6 +3,7 @@
 ghost use Rattle.std.specs.Prelude.{[], filter, ◌≡◌, ◌+◌, ◌<◌, ◌≤◌, leb, ℕ, IsTrue, IsFalse, IfOk, OnOk, OnErr, IfErr, IfSome, IfNone, Err, Some};
 ghost use Rattle.indexmap.specs.IndexMap.{spare};
 ghost use Rattle.memo_core.specs.declared.keys.Node.{Node};
+ghost use Rattle.memo_core.specs.Laws.{TouchesOnly};
 ghost use Rattle.memo_core.specs.Marks.{IsMarkedTo};
 ghost use Rattle.memo_core.specs.Views.{as_memos, output_tokens};
 ghost use Rattle.memo_core.specs.Step.{Has, Loses, Renews, Edits, IsWork};
@@ -11,7 +12,7 @@ ghost use Rattle.memo_engine.specs.Told.{IsEditTold, OnNone};
 
 use crate::graph::{Graph, LAST};
 use crate::job::{Job, job_of};
-use crate::marks::{are_used_marked, is_marked, note_lost, settle_all};
+use crate::marks::{are_used_marked, is_marked, note_lost, settle_touched};
 use crate::stores::{drop_gone, open_claim};
 use crate::witness::{Nobody, Witness};
 use crate::work::{current_inputs, find_node};
@@ -40,13 +41,18 @@ fn put_in_place<K: StoreName, T: Texts>(
     ensures last { T.last texts.new ≤ number }
     ensures memos { as_memos memos.new.entries
         ≡ filter (λ m. T.keeps texts.new m.node) (as_memos memos.old.entries) }
-    ensures marks { T.is_valid texts.new → IsMarkedTo (T.net texts.new) memos.new.entries [] }
+    ensures marks { T.is_valid texts.old → T.is_valid texts.new
+        → TouchesOnly (T.net texts.old) (T.net texts.new) (T.touched texts.new)
+        → IsMarkedTo (T.net texts.old) memos.old.entries []
+        → IsMarkedTo (T.net texts.new) memos.new.entries [] }
     ensures room { spare memos.old ≤ spare memos.new }
 {
     texts.commit(prepared, number);
     drop_gone(texts, memos);
-    waiting.clear();
-    settle_all(texts, memos, waiting);
+    if waiting.len() > texts.used_count() {
+        waiting.clear();
+    }
+    settle_touched(texts, memos, waiting);
 }
 
 impl<K: StoreName, T: Texts> Graph<K, T> {

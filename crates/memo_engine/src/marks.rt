@@ -6,6 +6,8 @@ ghost use Rattle.memo_core.specs.declared.keys.Node.{Node as NodeRecord};
 ghost use Rattle.memo_core.specs.Views.{as_memos};
 ghost use Rattle.memo_core.specs.Tests.{all_nodes};
 ghost use Rattle.memo_core.specs.Marks.{mark_of, with_mark_at, unmarked_count, is_ready, IsMarkedTo, AreMarked, HasUnmarked};
+ghost use Rattle.memo_core.specs.Step.{Has};
+ghost use Rattle.memo_engine.specs.Unmarked.{without_mark_at, marked_count, IsClosedTo, IsMarkedBut, HasNoNewMark, LosesMarks};
 
 use memo_core::claims::Claim;
 use memo_core::keys::{Key, Node};
@@ -104,7 +106,8 @@ pub fn settle<K: StoreName, T: Texts>(
 )
     ensures memos { as_memos memos.new.entries ≡ as_memos memos.old.entries }
     ensures fewer { unmarked_count memos.new.entries ≤ unmarked_count memos.old.entries }
-    ensures marks { T.is_valid texts.now → (rest : List NodeRecord)
+    ensures marks { T.is_valid texts.now → Has (T.net texts.now).used node
+        → (rest : List NodeRecord)
         → IsMarkedTo (T.net texts.now) memos.old.entries (node ∷ rest)
         → IsMarkedTo (T.net texts.now) memos.new.entries rest }
     ensures room { spare memos.new ≡ spare memos.old }
@@ -119,22 +122,101 @@ pub fn settle<K: StoreName, T: Texts>(
     }
 }
 
-/// Marks what is settled, where nothing is marked yet, and notes what has to be computed next. It
+/// Takes the mark of a node's memo away. Answers whether it had one.
+fn unmark<K: StoreName, V: Drop>(memos: &mut Memos<Token<K, V>>, node: Node) -> bool
+    ensures had { result ≡ mark_of memos.old.entries node }
+    ensures marks { memos.new.entries ≡ without_mark_at node memos.old.entries }
+    ensures room { spare memos.new ≡ spare memos.old }
+{
+    match memos.get_mut(&node) {
+        Some(kept) => {
+            let had = kept.settled;
+            kept.settled = false;
+            had
+        }
+        None => false,
+    }
+}
+
+/// Takes the mark of a node away, and of all that stands on it. It ends where there is no mark, and
 /// takes no memory.
-pub fn settle_all<K: StoreName, T: Texts>(
+pub fn unsettle<K: StoreName, T: Texts>(
+    texts: &T,
+    memos: &mut Memos<Token<K, T::Value>>,
+    node: Node,
+)
+    ensures memos { as_memos memos.new.entries ≡ as_memos memos.old.entries }
+    ensures fewer { marked_count memos.new.entries ≤ marked_count memos.old.entries }
+    ensures unmarked { mark_of memos.new.entries node ≡ false }
+    ensures old { HasNoNewMark memos.old.entries memos.new.entries }
+    ensures closed { T.is_valid texts.now → (rest : List NodeRecord)
+        → IsClosedTo (T.net texts.now) memos.old.entries (node ∷ rest)
+        → IsClosedTo (T.net texts.now) memos.new.entries rest }
+    ensures lost { T.is_valid texts.now
+        → LosesMarks (T.net texts.now) memos.old.entries memos.new.entries (node ∷ []) }
+    ensures room { spare memos.new ≡ spare memos.old }
+{
+    if !unmark(memos, node) {
+        return;
+    }
+    let count = texts.user_count(node);
+    for i in 0..count {
+        unsettle(texts, memos, texts.user_at(node, i));
+    }
+}
+
+/// Takes the marks of what the last edit touched away, and of all that stands on it. It takes no
+/// memory.
+fn unsettle_touched<K: StoreName, T: Texts>(texts: &T, memos: &mut Memos<Token<K, T::Value>>)
+    ensures memos { as_memos memos.new.entries ≡ as_memos memos.old.entries }
+    ensures marks { T.is_valid texts.now
+        → IsMarkedBut (T.net texts.now) memos.old.entries (T.touched texts.now)
+        → IsMarkedTo (T.net texts.now) memos.new.entries (T.touched texts.now) }
+    ensures room { spare memos.new ≡ spare memos.old }
+{
+    let count = texts.touched_count();
+    for i in 0..count {
+        unsettle(texts, memos, texts.touched_at(i));
+    }
+}
+
+/// Marks what is settled of the nodes that the last edit touched, and then what stands on them;
+/// notes what has to be computed next. It takes no memory.
+fn mark_touched<K: StoreName, T: Texts>(
     texts: &T,
     memos: &mut Memos<Token<K, T::Value>>,
     waiting: &mut Vec<Node>,
 )
-    requires { (n : NodeRecord) → mark_of memos.old.entries n ≡ false }
     ensures memos { as_memos memos.new.entries ≡ as_memos memos.old.entries }
-    ensures marks { T.is_valid texts.now → IsMarkedTo (T.net texts.now) memos.new.entries [] }
+    ensures marks { T.is_valid texts.now
+        → IsMarkedTo (T.net texts.now) memos.old.entries (T.touched texts.now)
+        → IsMarkedTo (T.net texts.now) memos.new.entries [] }
     ensures room { spare memos.new ≡ spare memos.old }
 {
-    let count = texts.used_count();
+    let count = texts.touched_count();
     for i in 0..count {
-        settle(texts, memos, waiting, texts.used_at(i));
+        let node = texts.touched_at(i);
+        if texts.is_used(node) {
+            settle(texts, memos, waiting, node);
+        }
     }
+}
+
+/// After an edit: takes away the marks that it made wrong, marks what is settled, and notes what
+/// has to be computed next. It takes no memory.
+pub fn settle_touched<K: StoreName, T: Texts>(
+    texts: &T,
+    memos: &mut Memos<Token<K, T::Value>>,
+    waiting: &mut Vec<Node>,
+)
+    ensures memos { as_memos memos.new.entries ≡ as_memos memos.old.entries }
+    ensures marks { T.is_valid texts.now
+        → IsMarkedBut (T.net texts.now) memos.old.entries (T.touched texts.now)
+        → IsMarkedTo (T.net texts.now) memos.new.entries [] }
+    ensures room { spare memos.new ≡ spare memos.old }
+{
+    unsettle_touched(texts, memos);
+    mark_touched(texts, memos, waiting);
 }
 
 /// Whether every used node is marked.

@@ -1,12 +1,12 @@
 //! Memos are stored and dropped, and outputs get their stamps.
 
-ghost use Rattle.std.specs.Prelude.{◌≡◌, ◌+◌, ◌<◌, ◌≤◌, ◌^◌, OnOk, OnErr, IfErr, ◌++◌, false, filter, if◌then◌else◌, length, vec_len, vec_capacity};
+ghost use Rattle.std.specs.Prelude.{◌≡◌, ◌+◌, ◌<◌, ◌≤◌, ◌^◌, OnOk, OnErr, IfErr, ◌++◌, ◌&&◌, filter, if◌then◌else◌, length, vec_len, vec_capacity};
 ghost use Rattle.indexmap.specs.IndexMap.{spare};
 ghost use Rattle.std.specs.BTreeMap.{insert_entry};
 ghost use Rattle.std.specs.Ordering.{nat_cmp};
 ghost use Rattle.memo_core.specs.declared.keys.Node.{Node as NodeRecord};
 ghost use Rattle.memo_core.specs.Names.{same_node};
-ghost use Rattle.memo_core.specs.Marks.{mark_of, without_mark};
+ghost use Rattle.memo_core.specs.Marks.{mark_of};
 ghost use Rattle.memo_core.specs.Graph.{put_memo, memo_of, output_at};
 ghost use Rattle.memo_core.specs.Views.{as_memo, as_memos, shown_outputs, shown_output};
 ghost use Rattle.memo_core.specs.Tests.{holds_value, stamped_output, name_if_changed, stamped_outputs, changed_names, outputs_of};
@@ -151,21 +151,19 @@ pub fn open_claim<K: StoreName, V: Drop>(
     Ok(())
 }
 
-/// Drops the memos of nodes that the texts don't keep, and takes every mark away.
+/// Drops the memos of nodes that the texts don't keep, and their marks.
 pub fn drop_gone<K: StoreName, T: Texts>(texts: &T, memos: &mut Memos<Token<K, T::Value>>)
     ensures memos { as_memos memos.new.entries
         ≡ filter (λ m. T.keeps texts.now m.node) (as_memos memos.old.entries) }
-    ensures none { (n : NodeRecord) → mark_of memos.new.entries n ≡ false }
+    ensures marks { (n : NodeRecord)
+        → mark_of memos.new.entries n ≡ (T.keeps texts.now n && mark_of memos.old.entries n) }
     ensures room { spare memos.old ≤ spare memos.new }
 {
     memos.retain(
         |node: &Node, kept: &mut Kept<Token<K, T::Value>>| -> bool
             ensures keeps { result ≡ T.keeps texts.entry.now node.now }
-            ensures mark { kept.new ≡ without_mark kept.old }
+            ensures kept { kept.new ≡ kept.old }
             ensures same { texts.exit ≡ texts.entry }
-        {
-            kept.settled = false;
-            texts.keeps(*node)
-        },
+        { texts.keeps(*node) },
     );
 }

@@ -5,6 +5,7 @@ use Rattle.memo_core.specs.declared.keys.Kind.TheVariants.{Space, Group, Check, 
 use Rattle.memo_core.specs.declared.keys.Node.{Node}
 use Rattle.memo_core.specs.declared.keys.Key.{Key}
 use Rattle.memo_core.specs.declared.keys.Key.TheVariants.{Part, Output}
+use Rattle.memo_core.specs.Names.{same_node}
 use Rattle.memo_core.specs.Graph.{Net, stamp_or_zero}
 use Rattle.tests_layers.specs.declared.benches.rows.Row.{Row}
 use Rattle.tests_layers.specs.declared.benches.sheet.Sheet.{Sheet}
@@ -77,11 +78,9 @@ is_there Group t rows = ⊥
 is_there Check t rows = ⊥
 is_there Verdict t rows = IsHere (row_of t rows)
 
-abbrev pub users_of : Kind → List Row → List Node
-users_of Space rows = cells_of rows
-users_of Group rows = []
-users_of Check rows = []
-users_of Verdict rows = []
+-- on the node of the tens every cell stands, and nothing else stands on a node
+abbrev pub users_of : Node → List Row → List Node
+users_of n rows = if same_node n tens then cells_of rows else []
 
 abbrev pub rank_of : Kind → ℕ
 rank_of Space = 0
@@ -110,6 +109,16 @@ stamp_after (Put name value) number base stamp = stamp
 stamp_after (Remove name) number base stamp = stamp
 stamp_after (SetBase value) number base stamp = if value == base then stamp else number
 
+-- the node whose inputs or use a change touches, if it changes anything
+abbrev pub touched_after : Change → ℕ → Option Node
+touched_after (Put name value) base = Some (cell_of name)
+touched_after (Remove name) base = Some (cell_of name)
+touched_after (SetBase value) base = if value == base then None else Some tens
+
+abbrev pub nodes_touched : Option Node → List Node
+nodes_touched None = []
+nodes_touched (Some n) = n ∷ []
+
 -- each row's stamp is that of an edit, and no stamp is above the last edit's number
 pub record IsSheetValid (s : Sheet) : Type 0 where
   pub rows : (x stamp v : ℕ) → row_of x s.rows.items ≡ Some (stamp, v)
@@ -132,6 +141,7 @@ pub record IsChanged (old : Sheet) (change : Change) (number : ℕ) (new : Sheet
   pub rows : new.rows.items ≡ rows_after change number old.rows.items
   pub base : new.base ≡ base_after change old.base
   pub stamp : new.base_stamp ≡ stamp_after change number old.base old.base_stamp
+  pub touched : new.touched ≡ touched_after change old.base
 
 -- a change that removes a row that is not there
 abbrev pub IsMissing : Sheet → Change → Type 0

@@ -316,3 +316,10 @@ module _ (keep : EditsKeepParts) (stamp : EditsAreStamped) (t u w : StampedTexts
 pub commits_edit : (t u w : StampedTexts) (e : Edit) (p : PreparedEdit) (number : ℕ)
     → IsPrepared t e p u → IsCommitted u p number w → IsEdited t e number w
 commits_edit = edit_is_made edits_keep edits_stamped
+
+-- the parts of the texts after a prepared edit are those that were made for it
+pub parts_edited : (t u w : StampedTexts) (e : Edit) (p : PreparedEdit) (number : ℕ)
+    → IsPrepared t e p u → IsCommitted u p number w → AreSoundTexts t
+    → IsEdit t.parts t.texts.tests.items t.texts.models.items p.texts.replacement number p.parts
+    w.parts
+parts_edited = is_edit edits_keep edits_stamped

@@ -39,7 +39,7 @@ refused_alike s e f spent fault is h = subst (λ (x : Change). IsSheetRefused s 
 -- ---- the cells and the rows
 
 -- a row that is there has its cell
-has_cell : (rs : List Row) (t : ℕ) (r : ℕ × ℕ) → row_of t rs ≡ Some r
+pub has_cell : (rs : List Row) (t : ℕ) (r : ℕ × ℕ) → row_of t rs ≡ Some r
     → Has (cells_of rs) (cell_of t)
 has_cell [] t r h = cc
 has_cell (x ∷ rs) t r h =
@@ -55,7 +55,7 @@ pub record RowOf (rs : List Row) (n : Node) : Type 0 where
   pub found : row_of name rs ≡ Some row
   pub is : cell_of name ≡ n
 
-cell_row : (rs : List Row) (n : Node) → Has (cells_of rs) n → RowOf rs n
+pub cell_row : (rs : List Row) (n : Node) → Has (cells_of rs) n → RowOf rs n
 cell_row [] n h = absurd h
 cell_row (x ∷ rs) n h = elim h [
   | inl e ↦ (record {
@@ -210,7 +210,7 @@ not_true true h = absurd (h refl)
 not_true false h = refl
 
 -- another row is as it was
-put_other : (t x v number : ℕ) (rs : List Row) → (t == x) ≡ false
+pub put_other : (t x v number : ℕ) (rs : List Row) → (t == x) ≡ false
     → row_of t (put_row x v number rs) ≡ row_of t rs
 put_other t x v number [] f = rw f refl
 put_other t x v number (r ∷ rs) f = elim (cases_Bool (x == r.name)) [
@@ -222,7 +222,7 @@ put_other t x v number (r ∷ rs) f = elim (cases_Bool (x == r.name)) [
   ])
 ]
 
-drop_other : (t x : ℕ) (rs : List Row) → (t == x) ≡ false
+pub drop_other : (t x : ℕ) (rs : List Row) → (t == x) ≡ false
     → row_of t (without_row x rs) ≡ row_of t rs
 drop_other t x [] f = refl
 drop_other t x (r ∷ rs) f = elim (cases_Bool (x == r.name)) [

@@ -4,9 +4,11 @@ use Rattle.std.specs.List.{AllByRecursion as Each}
 use Rattle.memo_core.specs.declared.keys.Kind.{Kind}
 use Rattle.memo_core.specs.declared.keys.Kind.TheVariants.{Space, Group, Check, Verdict}
 use Rattle.memo_core.specs.declared.keys.Node.{Node}
+use Rattle.memo_core.specs.Names.{same_node}
+use Rattle.memo_core.specs.Lemmas.Equality.{same_node_exact}
 use Rattle.memo_core.specs.Graph.{input_nodes, stamp_or_zero, lookup}
 use Rattle.memo_core.specs.Right.{HasOutputValue, IsSoundNet, PartsGoOn, IsSamePart}
-use Rattle.memo_core.specs.Laws.{AreUsers}
+use Rattle.memo_core.specs.Laws.{AreUsers, AreReaders}
 use Rattle.memo_core.specs.Step.{Has}
 use Rattle.tests_layers.specs.declared.benches.rows.Row.{Row}
 use Rattle.tests_layers.specs.declared.benches.sheet.Sheet.{Sheet}
@@ -27,6 +29,7 @@ prepared_changes s u w e p number h c = record {
   rows = rw (h.change_is, h.rows) at c.rows;
   base = rw (h.change_is, h.base) at c.base;
   stamp = rw (h.change_is, h.base, h.stamp) at c.stamp;
+  touched = rw (h.change_is, h.base) at c.touched;
 }
 
 made_value : (r : ℕ) (os : List (ℕ × ℕ)) → os ≡ (0, r) ∷ [] → (v : ℕ) × (lookup 0 os ≡ Some v)
@@ -105,23 +108,37 @@ among_cells rs u n h i = elim h [
 ]
 
 users_known : (rs : List Row) (n u : Node) → Has (tens ∷ cells_of rs) u
-    → Has (input_nodes (sheet_inputs u.kind u.test)) n → Has (users_of n.kind rs) u
+    → Has (input_nodes (sheet_inputs u.kind u.test)) n → Has (users_of n rs) u
 users_known rs n u h i =
-    subst (λ (m : Node). Has (users_of m.kind rs) u) (from_tens u.kind u.test n i)
+    subst (λ (m : Node). Has (users_of m rs) u) (from_tens u.kind u.test n i)
     (among_cells rs u n h i)
 
-users_used : (k : Kind) (rs : List Row) (u : Node) → Has (users_of k rs) u
-    → Has (tens ∷ cells_of rs) u
-users_used Space rs u h = inr h
-users_used Group rs u h = absurd h
-users_used Check rs u h = absurd h
-users_used Verdict rs u h = absurd h
+-- a cell stands on the node of the tens
+cells_stand : (rs : List Row) (u : Node) → Has (cells_of rs) u
+    → Has (input_nodes (sheet_inputs u.kind u.test)) tens
+cells_stand [] u h = absurd h
+cells_stand (r ∷ rs) u h = elim h [
+  | inl e ↦ subst (λ (m : Node). Has (input_nodes (sheet_inputs m.kind m.test)) tens) e (inl refl)
+  | inr l ↦ cells_stand rs u l
+]
 
-pub users_listed : (s : Sheet) → AreUsers (sheet_net s) (λ n. users_of n.kind s.rows.items)
+-- only the node of the tens has users, and these are the cells
+users_there : (rs : List Row) (n u : Node) → Has (users_of n rs) u → (tens ≡ n) × Has (cells_of rs) u
+users_there rs n u h = elim (either (same_node n tens)) [
+  | inl t ↦ (sym (same_node_exact n tens t), rw t at h)
+  | inr f ↦ (let none : Has [] u = rw f at h in absurd none)
+]
+
+pub users_listed : (s : Sheet) → AreUsers (sheet_net s) (λ n. users_of n s.rows.items)
 users_listed s = record {
   listed = λ n u h i. users_known s.rows.items n u h i;
-  are_used = λ n u h l. users_used n.kind s.rows.items u l;
+  are_used = λ n u h l. inr (users_there s.rows.items n u l).1;
 }
+
+pub users_read : (s : Sheet) → AreReaders (sheet_net s) (λ n. users_of n s.rows.items)
+users_read s n u h l =
+    let p = users_there s.rows.items n u l in
+    subst (Has (input_nodes (sheet_inputs u.kind u.test))) p.0 (cells_stand s.rows.items u p.1)
 
 falls_by : (k : Kind) (t : ℕ) → Each (λ m. rank_of m.kind < rank_of k) (input_nodes (sheet_inputs k t))
 falls_by Space t = tt

@@ -8,13 +8,15 @@ use memo_core::texts::Texts;
 use std::alloc::{AllocError, Global};
 use thiserror::Error;
 
-/// The rows, the base with the number of the edit that last changed it, and the last edit's number.
+/// The rows, the base with the number of the edit that last changed it, the last edit's number, and
+/// the node that it touched.
 #[derive(Drop)]
 pub struct Sheet {
     pub rows: Vec<Row>,
     pub base: u64,
     pub base_stamp: u64,
     pub last: u64,
+    pub touched: Option<Node>,
 }
 
 /// An edit of a sheet.
@@ -56,8 +58,9 @@ impl Texts for Sheet {
     type Fault = SheetFault;
 
     ghost use Rattle.std.specs.Prelude.{◌≡◌, ◌==◌, ◌<◌, ◌+◌, length, vec_len, vec_capacity};
-    ghost use Rattle.tests_layers.specs.Sheet.{sheet_net, sheet_makes, is_there, users_of, rank_of, keeps_memo, IsSheetValid, IsSheetSince, IsChanged, IsSheetRefused, IsSheetPrepared};
-    ghost use Rattle.tests_layers.specs.Lemmas.Laws.{numbers_exact, sheet_sound, since_same, since_changed, given_again, changes_valid, prepared_changes, all_there, inputs_used, users_listed, ranks_fall, changes_go_on};
+    ghost use Rattle.tests_layers.specs.Sheet.{sheet_net, sheet_makes, is_there, users_of, nodes_touched, rank_of, keeps_memo, IsSheetValid, IsSheetSince, IsChanged, IsSheetRefused, IsSheetPrepared};
+    ghost use Rattle.tests_layers.specs.Lemmas.Laws.{numbers_exact, sheet_sound, since_same, since_changed, given_again, changes_valid, prepared_changes, all_there, inputs_used, users_listed, users_read, ranks_fall, changes_go_on};
+    ghost use Rattle.tests_layers.specs.Lemmas.Touched.{cells_kept, changes_touch};
 
     ghost is_valid = { IsSheetValid };
 
@@ -73,7 +76,9 @@ impl Texts for Sheet {
 
     ghost is_there = { λ s n. is_there n.kind n.test s.rows.items };
 
-    ghost users = { λ s n. users_of n.kind s.rows.items };
+    ghost users = { λ s n. users_of n s.rows.items };
+
+    ghost touched = { λ s. nodes_touched s.touched };
 
     ghost rank = { λ _ n. rank_of n.kind };
 
@@ -146,20 +151,32 @@ impl Texts for Sheet {
     }
 
     fn user_count(&self, node: Node) -> usize {
-        match node.kind {
-            Kind::Space => self.rows.len(),
-            Kind::Group => 0,
-            Kind::Check => 0,
-            Kind::Verdict => 0,
+        if is_same_node(node, TENS) {
+            self.rows.len()
+        } else {
+            0
         }
     }
 
     fn user_at(&self, node: Node, i: usize) -> Node {
-        match node.kind {
-            Kind::Space => cell(self.rows[i].name),
-            Kind::Group => unreachable!(),
-            Kind::Check => unreachable!(),
-            Kind::Verdict => unreachable!(),
+        if is_same_node(node, TENS) {
+            cell(self.rows[i].name)
+        } else {
+            unreachable!()
+        }
+    }
+
+    fn touched_count(&self) -> usize {
+        match self.touched {
+            Some(_) => 1,
+            None => 0,
+        }
+    }
+
+    fn touched_at(&self, _i: usize) -> Node {
+        match self.touched {
+            Some(node) => node,
+            None => unreachable!(),
         }
     }
 
@@ -254,10 +271,18 @@ impl Texts for Sheet {
     fn commit(&mut self, prepared: Prepared, number: u64) {
         self.last = number;
         match prepared.change {
-            Change::Put(name, value) => put(&mut self.rows, name, value, number),
-            Change::Remove(name) => remove(&mut self.rows, name),
+            Change::Put(name, value) => {
+                self.touched = Some(cell(name));
+                put(&mut self.rows, name, value, number)
+            }
+            Change::Remove(name) => {
+                self.touched = Some(cell(name));
+                remove(&mut self.rows, name)
+            }
             Change::SetBase(value) => {
+                self.touched = None;
                 if value != self.base {
+                    self.touched = Some(TENS);
                     self.base = value;
                     self.base_stamp = number;
                 }
@@ -283,9 +308,15 @@ impl Texts for Sheet {
 
     ghost used_closed = { λ s _ n. inputs_used s.rows.items n };
 
+    ghost used_kept = { λ s _ n. cells_kept s.rows.items n };
+
     ghost users_are = { λ s _. users_listed s };
 
+    ghost users_read = { λ s _. users_read s };
+
     ghost falls = { λ s _. ranks_fall s };
+
+    ghost touches_only = { changes_touch };
 
     ghost goes_on = { λ s t e number _. changes_go_on s t e number };
 }

@@ -34,6 +34,7 @@ impl CellTexts for Sheet {
             base: 0,
             base_stamp: 0,
             last: 0,
+            touched: None,
         }
     }
 

@@ -2,12 +2,12 @@ use Rattle.std.proofs.Common.{◌∙◌, sym, arith}
 use Rattle.std.proofs.lemmas.List.{drop_all}
 use Rattle.memo_core.specs.Graph.{present_inputs}
 use Rattle.memo_core.specs.Views.{as_memos}
-use Rattle.memo_engine.proofs.MarkLemmas.{as_memos-with_mark_at, unmarked_count-less, ready_there, passed, marked_on}
+use Rattle.memo_engine.proofs.MarkLemmas.{as_memos-with_mark_at, unmarked_count-less, ready_there, passed, marked_on, has_at}
 use Rattle.memo_engine.proofs.marks.+settle.Goals as goal
 
 pub returns-then-not-can_mark-clause-marks : goal.returns-then-not-can_mark-clause-marks
 returns-then-not-can_mark-clause-marks g t c =
-    λ valid rest p. passed (g.T.Texts.net c.args.texts.now) c.args.memos.now.entries c.args.node
+    λ valid there rest p. passed (g.T.Texts.net c.args.texts.now) c.args.memos.now.entries c.args.node
     (sym c.can_mark.ensures ∙ c.if-not-can_mark.true) rest p
 
 pub loop-i-init : goal.loop-i-init
@@ -22,11 +22,11 @@ loop-i-init g t c =
           rw c.mark.ensures.marks (unmarked_count-less c.args.node ks
           (present_inputs net (as_memos ks) (net.inputs c.args.node)) r.1 r.0);
       marks =
-          λ valid rest p. rw c.mark.ensures.marks (marked_on net ks c.args.node
+          λ valid there rest p. rw c.mark.ensures.marks (marked_on net ks c.args.node
           (g.T.Texts.users c.args.texts.now)
           (λ u has on.
-          (g.met.T.Texts.users_are c.args.texts.now valid).listed c.args.node u has on) now
-          rest p);
+          (g.met.T.Texts.users_are c.args.texts.now valid).listed c.args.node u has on)
+          there now rest p);
       room = c.mark.ensures.room;
     }
 
@@ -35,13 +35,16 @@ loop-i-preserved g t c = record {
   same = c.settle.ensures.memos ∙ c.loop-i.invariant.same;
   fewer = omega (arith, c.settle.ensures.fewer, c.loop-i.invariant.fewer);
   marks =
-      λ valid rest p. c.settle.ensures.marks valid _ (rw c.user_at.ensures.rest at
-      (c.loop-i.invariant.marks valid rest p));
+      λ valid there rest p. c.settle.ensures.marks valid
+      ((g.met.T.Texts.users_are c.args.texts.now valid).are_used c.args.node c.user_at.result there
+      (has_at (g.T.Texts.users c.args.texts.now c.args.node) c.loop-i.i c.user_at.result
+      c.user_at.ensures.at)) _ (rw c.user_at.ensures.rest at
+      (c.loop-i.invariant.marks valid there rest p));
   room = c.settle.ensures.room ∙ c.loop-i.invariant.room;
 }
 
 pub returns-clause-marks : goal.returns-clause-marks
 returns-clause-marks g t c =
     let users = g.T.Texts.users c.args.texts.now c.args.node in
-    λ valid rest p.
-    rw (drop_all c.loop-i.i users (omega arith)) at (c.loop-i.invariant.marks valid rest p)
+    λ valid there rest p.
+    rw (drop_all c.loop-i.i users (omega arith)) at (c.loop-i.invariant.marks valid there rest p)

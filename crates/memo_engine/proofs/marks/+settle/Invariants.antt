@@ -2,6 +2,7 @@ use Rattle.std.proofs.Common.{◌≡◌, ◌<◌, ◌++◌, ◌∷◌, List, dro
 use Rattle.indexmap.specs.IndexMap.{spare}
 use Rattle.memo_core.specs.declared.keys.Node.{Node}
 use Rattle.memo_core.specs.Views.{as_memos}
+use Rattle.memo_core.specs.Step.{Has}
 use Rattle.memo_core.specs.Marks.{unmarked_count, IsMarkedTo}
 use Rattle.memo_engine.proofs.marks.+settle.Given as goal
 
@@ -14,7 +15,7 @@ invariant-loop-i g l =
     record {
       same : as_memos l.memos.entries ≡ as_memos l.fn.memos.entries;
       fewer : unmarked_count l.memos.entries < unmarked_count l.fn.memos.entries;
-      marks : g.T.Texts.is_valid l.texts → (rest : List Node)
+      marks : g.T.Texts.is_valid l.texts → Has net.used l.node → (rest : List Node)
           → IsMarkedTo net l.fn.memos.entries (l.node ∷ rest)
           → IsMarkedTo net l.memos.entries (drop l.i (g.T.Texts.users l.texts l.node) ++ rest);
       room : spare l.memos ≡ spare l.fn.memos;

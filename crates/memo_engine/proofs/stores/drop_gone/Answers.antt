@@ -7,7 +7,7 @@ returns-clause-memos g c =
     retained_memos _ (g.T.Texts.keeps c.args.texts.now) _ (λ n k b w h call. search rules) _ _
     c.retain.ensures.filtered
 
-pub returns-clause-none : goal.returns-clause-none
-returns-clause-none g c =
+pub returns-clause-marks : goal.returns-clause-marks
+returns-clause-marks g c =
     λ n. retained_marks _ (g.T.Texts.keeps c.args.texts.now) _ (λ n k b w h call. search rules) _ _
     c.retain.ensures.filtered n

@@ -2,7 +2,7 @@ use Rattle.memo_core.specs.declared.keys.Key.{Key}
 use Rattle.std.proofs.Common.{◌∙◌, ◌+◌, List, [], subst, sym, ap, ◌≡◌, Some, None, option_map}
 use Rattle.memo_core.specs.Graph.{Memo, named_values}
 use Rattle.memo_core.specs.Views.{as_memos, shown_outputs, shown_values}
-use Rattle.memo_core.specs.Step.{open_claim, open_claims, return_of, state}
+use Rattle.memo_core.specs.Step.{Has, open_claim, open_claims, return_of, state}
 use Rattle.memo_core.proofs.ClaimLemmas.{closed, found, numbered_later, numbered_closed}
 use Rattle.memo_core.proofs.Progress.{accepts_fresh, accept_unsettled}
 use Rattle.memo_engine.proofs.MarkLemmas.{put_pending}
@@ -31,6 +31,7 @@ returns-clause-taken g c =
     let outputs = shown_outputs d.outputs.items in
     let r = return_of d.claim d.node d.given d.keys.items values outputs in
     let present = c.requires.due.3 in
+    let used : Has net.used d.node = subst (Has net.used) c.requires.due.1.same c.requires.due.2.used in
     let a = accepted t.same g.met.T.Texts.same_exact (CountsAsComputed t.since t.net t.makes s.texts) net (as_memos s.memos.entries) s.claims.entries s.taken d.claim d.node d.given d.keys.items values outputs
     c.in-Some.claim (sym c.in-Some.is ∙ c.remove.ensures.value) c.requires.due c.requires.right.1 (λ
     is a. counted_now t.is_valid t.since t.net t.makes s.texts
@@ -60,7 +61,7 @@ returns-clause-taken g c =
             c.requires.fresh.1)),
       );
       marks =
-          c.settle.ensures.marks c.requires.right.0 [] (put_pending net s.memos.entries
+          c.settle.ensures.marks c.requires.right.0 used [] (put_pending net s.memos.entries
           c.store_memo.new.memos.entries m c.requires.marks c.store_memo.ensures.memos
           (λ n. c.store_memo.ensures.flags n)
           (accept_unsettled old new r c.requires.fresh.0 a.1));

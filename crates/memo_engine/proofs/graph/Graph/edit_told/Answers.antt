@@ -40,8 +40,12 @@ returns-clause-marks g c =
     let s = c.args.self.now in
     let laws = g.met.T.Texts in
     let edited = laws.commits_edit s.texts c.prepare.new.self c.put_in_place.new.texts c.args.edit c.in-Ok.prepared _ c.in-Ok.ensures.prepares c.put_in_place.ensures.commits in
-    c.put_in_place.ensures.marks (laws.valid_edited s.texts c.put_in_place.new.texts c.args.edit _
-    c.requires.right.0 edited)
+    c.put_in_place.ensures.marks (c.prepare.ensures.valid c.requires.right.0)
+    (laws.valid_edited s.texts c.put_in_place.new.texts c.args.edit _ c.requires.right.0 edited)
+    (rw c.prepare.ensures.net (laws.touches_only s.texts c.prepare.new.self
+    c.put_in_place.new.texts c.args.edit c.in-Ok.prepared _ c.requires.right.0
+    c.in-Ok.ensures.prepares c.put_in_place.ensures.commits))
+    (rw c.prepare.ensures.net c.requires.marks)
 
 pub returns-in-Err-clause-right : goal.returns-in-Err-clause-right
 returns-in-Err-clause-right g c =
