@@ -1,5 +1,3 @@
-pub mod Inside
-pub mod Alike
 pub mod Latest
 pub mod Applying
 pub mod Joining

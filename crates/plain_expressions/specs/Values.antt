@@ -3,20 +3,10 @@ use Rattle.std.specs.Prelude.{ℕ, List, [], ◌∷◌}
 use Rattle.text_values.specs.ModelValue.{Term}
 use Rattle.meaning.specs.Sets as sets
 use Rattle.meaning.specs.Cat.{Meaning, ASet, ARelation, Nothing, Names, meaning_of}
+use Rattle.meaning_rising.specs.Inside.{IsAlike}
 use Rattle.meaning_plain.specs.Lists.{SetOf, RelationOf}
 use Rattle.plain_expressions.specs.declared.value.Value.{Value}
 use Rattle.plain_expressions.specs.declared.value.Value.TheVariants as values
-
--- Both are sets, relations or nothing, and the first has nothing that the second lacks.
-abbrev pub IsInside : Meaning ℕ → Meaning ℕ → Type 0
-IsInside (ASet S) (ASet T) = (a : ℕ) → S a → T a
-IsInside (ARelation R) (ARelation Q) = (a b : ℕ) → R a b → Q a b
-IsInside Nothing Nothing = Unit {0}
-IsInside _ _ = ⊥
-
--- Both are the same set or the same relation, or nothing.
-abbrev pub IsAlike : Meaning ℕ → Meaning ℕ → Type 0
-IsAlike m k = IsInside m k × IsInside k m
 
 -- what a value means
 abbrev pub meaning_as : Value → Meaning ℕ

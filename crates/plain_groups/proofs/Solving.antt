@@ -13,11 +13,13 @@ use Rattle.meaning_plain.specs.Lists.{RelationOf}
 use Rattle.meaning_plain.proofs.Growing.{pair_decides, nothing_there}
 use Rattle.plain_expressions.specs.declared.value.Value.{Value}
 use Rattle.plain_expressions.specs.declared.value.Value.TheVariants as values
-use Rattle.plain_expressions.specs.Values.{IsAlike, meaning_as, HaveValues}
+use Rattle.meaning_rising.specs.Inside.{IsAlike}
+use Rattle.plain_expressions.specs.Values.{meaning_as, HaveValues}
 use Rattle.plain_expressions.specs.Scopes.{meanings_as}
-use Rattle.plain_expressions.proofs.Inside.{pair_inside}
-use Rattle.plain_expressions.proofs.Alike.{AlikeNames, meanings, more, alike_meaning}
-use Rattle.plain_groups.specs.Groups.{AreRelations, AreApart, IsChoiceInside, DoesGrow, pairs_of, IsOfPairs, Extends, DoExtend, HasGrown}
+use Rattle.meaning_rising.proofs.Inside.{pair_inside}
+use Rattle.meaning_rising.proofs.Alike.{AlikeNames, meanings, more, alike_meaning}
+use Rattle.meaning_rising.specs.Laws.{IsChoiceInside}
+use Rattle.plain_groups.specs.Groups.{AreRelations, AreApart, DoesGrow, pairs_of, IsOfPairs, Extends, DoExtend, HasGrown}
 
 -- ---- pairs
 

@@ -7,6 +7,7 @@ use Rattle.meaning.specs.Sets as sets
 use Rattle.meaning.specs.Sets.{Relation}
 use Rattle.meaning.specs.Names.{Name}
 use Rattle.meaning.specs.Cat.{Names, ARelation, meaning_of, HasPair, with_group, Choice, IsChosen}
+use Rattle.meaning_rising.specs.Laws.{IsChoiceInside}
 use Rattle.plain_expressions.specs.declared.value.Value.{Value}
 use Rattle.plain_expressions.specs.declared.value.Value.TheVariants as values
 use Rattle.plain_expressions.specs.Values.{IsEvaluatedTo, HaveValues}
@@ -27,10 +28,6 @@ AreRelations R ns vs = ⊥
 abbrev pub AreApart : List Name → Type 0
 AreApart [] = Unit {0}
 AreApart (n ∷ ns) = (Contains ns n → ⊥) × AreApart ns
-
--- The second choice has each pair that the first has.
-abbrev pub IsChoiceInside : Choice ℕ → Choice ℕ → Type 0
-IsChoiceInside c d = (n : Name) (x y : ℕ) → IsChosen c n x y → IsChosen d n x y
 
 -- Where the names of a group stand for more, its bodies give no less.
 abbrev pub DoesGrow : sets.Set ℕ → Names ℕ → List (Name × Term) → Type 0

@@ -1,5 +1,5 @@
 -- What the names of the code are known as, by the definitions of faults.
-use Rattle.std.proofs.Common.{◌≡◌, ℕ, zero, suc, List, [], ◌∷◌, ◌++◌, length, map, bytes_eq, Bool, true, false, ◌||◌, Option, Some, None, Contains, refl, sym, ap, subst, ◌∙◌, arith}
+use Rattle.std.proofs.Common.{◌≡◌, ℕ, zero, suc, List, [], ◌∷◌, ◌++◌, length, map, bytes_eq, Bool, true, false, ◌||◌, Option, Some, None, Contains, refl, sym, subst, ◌∙◌, arith}
 use Rattle.std.specs.Prelude.{slice_get, not, if◌then◌else◌}
 use Rattle.std.specs.List.{list_any}
 use Rattle.std.proofs.lemmas.Slice.Eq.{bytes_eq-Decides}
@@ -14,23 +14,24 @@ use Rattle.text_values.specs.ModelValues.{term_of, binding_of, clause_of}
 use Rattle.meaning.specs.Sets.{Set}
 use Rattle.meaning.specs.Names.{Name}
 use Rattle.meaning.specs.Predefined.{predefined_names}
-use Rattle.meaning.specs.Cat.{Meaning, ARelation, ToMeaning, Names, meaning_of, HasPair, Choice, IsChosen}
+use Rattle.meaning.specs.Cat.{Meaning, ToMeaning, Names, meaning_of, IsChosen}
 use Rattle.meaning.specs.Cat as cat
-use Rattle.meaning.specs.Faults.{ModelFault, Duplicate, SetInRec, OfSet, OfRelation, KnownName, Known, AsValue, AsFunction, Scope, is_relation, fault_if, value_with, in_term, in_body, is_among, with_group, scope_with_bodies, faults_of_group, faults_of_item, is_monotone_fault, predefined_known, outermost_scope}
+use Rattle.meaning.specs.Faults.{ModelFault, Duplicate, SetInRec, OfSet, OfRelation, KnownName, Known, AsValue, AsFunction, Scope, is_relation, fault_if, value_with, in_term, in_body, is_among, with_group, scope_with_bodies, faults_of_group, faults_of_item, predefined_known, outermost_scope}
 use Rattle.plain_expressions.specs.declared.value.Value.{Value}
 use Rattle.plain_expressions.specs.declared.scope.Bound.{Bound}
 use Rattle.plain_expressions.specs.declared.scope.Bound.TheVariants as bounds
 use Rattle.plain_expressions.specs.declared.scope.Named.{Named}
 use Rattle.plain_expressions.specs.Values.{meaning_as}
 use Rattle.plain_expressions.specs.Scopes.{function_of, bound_as, with_named}
-use Rattle.plain_expressions.proofs.Inside.{pair_inside}
-use Rattle.plain_expressions.proofs.Alike.{AlikeNames}
-use Rattle.plain_expressions.proofs.Alike as alikes
+use Rattle.meaning_rising.proofs.Inside.{pair_inside}
+use Rattle.meaning_rising.proofs.Alike.{AlikeNames}
+use Rattle.meaning_rising.proofs.Alike as alikes
 use Rattle.plain_expressions.proofs.Applying.{named_alike}
-use Rattle.plain_groups.specs.Groups.{name_of, AreApart, IsChoiceInside, DoesGrow, IsSolvable}
+use Rattle.plain_groups.specs.Groups.{name_of, AreApart, DoesGrow, IsSolvable}
 use Rattle.plain_items.specs.Items.{IsBoundTo, AreBoundTo}
 use Rattle.plain_models.specs.Answers.{IsOfValue, AreValuesOf, ArePredefined}
-use Rattle.plain_models.proofs.Risen.{RisesBound, value, function, RisesNames, none, more, same_risen, rises, body_rises}
+use Rattle.meaning_rising.proofs.Growing.{no_parts, group_grows}
+use Rattle.meaning_rising.proofs.Risen.{RisesBound, value, function, RisesNames, none, more, same_risen, body_rises}
 
 abbrev pub IsFunctionKnown : Scope → Option Item → Known → Type 0
 IsFunctionKnown S (Some (items.Function name ps body)) k =
@@ -153,10 +154,6 @@ bodies_known is outer (g ∷ gs) (v ∷ vs) (a ∷ others) S h =
 
 -- ---- a group without faults has a solution
 
-pub no_parts : (xs ys : List ModelFault) → xs ++ ys ≡ [] → (xs ≡ []) × (ys ≡ [])
-no_parts [] ys e = (refl, e)
-no_parts (x ∷ xs) ys e = absurd (let wrong : ⊥ = cc in wrong)
-
 no_fault : (b : Bool) (k : ModelFault) → fault_if b k ≡ [] → b ≡ false
 no_fault true k e = absurd (let wrong : ⊥ = cc in wrong)
 no_fault false k e = refl
@@ -212,30 +209,6 @@ names_apart S earlier (b ∷ bs) e =
     first_true true y h = refl
     first_true false y h = absurd (let wrong : ⊥ = cc in wrong)
 
-body_free : (S : Scope) (earlier : List Name) (group : List (Name × Term))
-    → faults_of_group S true earlier group ≡ [] → (b : Name × Term) → Contains group b
-    → (in_term false S false b.1).faults ≡ []
-body_free S earlier [] e b (k, lt, eq) = absurd (omega arith)
-body_free S earlier (d ∷ ds) e b (zero, lt, eq) =
-    subst (λ (one : Name × Term). (in_term false S false one.1).faults ≡ []) eq
-    (faultless S earlier d ds e).body
-body_free S earlier (d ∷ ds) e b (suc k, lt, eq) =
-    body_free S (d.0 ∷ earlier) ds (faultless S earlier d ds e).rest b (k, omega arith, eq)
-
-choices_rise : (c d : Choice ℕ) → IsChoiceInside c d → (group : List (Name × Term)) (S : Scope)
-    (N : Names ℕ) (K : Names ℕ) → RisesNames S N K
-    → RisesNames (with_group true group S) (cat.with_group (IsChosen c) group N)
-    (cat.with_group (IsChosen d) group K)
-choices_rise c d inside [] S N K names = names
-choices_rise c d inside (b ∷ bs) S N K names =
-    let k : KnownName = value_with OfRelation 1 true in
-    choices_rise c d inside bs ((b.0, AsValue k) ∷ S)
-    ((b.0, ToMeaning (ARelation (IsChosen c b.0))) ∷ N)
-    ((b.0, ToMeaning (ARelation (IsChosen d b.0))) ∷ K)
-    (more b.0 (AsValue k) (ToMeaning (ARelation (IsChosen c b.0)))
-    (ToMeaning (ARelation (IsChosen d b.0))) S N K
-    (value k (ARelation (IsChosen c b.0)) (ARelation (IsChosen d b.0)) (λ x y. inside b.0 x y)) names)
-
 group_solvable : (all : Set ℕ) (S : Scope) (N : Names ℕ) → RisesNames S N N
     → (group : List (Name × Term)) → faults_of_group (with_group true group S) true [] group ≡ []
     → AreApart (map (λ b. b.0) group) × DoesGrow all N group
@@ -244,10 +217,7 @@ group_solvable all S N names group e = (
   (λ c d inside b there x y h.
       pair_inside (meaning_of all (cat.with_group (IsChosen c) group N) b.1)
       (meaning_of all (cat.with_group (IsChosen d) group N) b.1)
-      (rises all (with_group true group S) (cat.with_group (IsChosen c) group N)
-      (cat.with_group (IsChosen d) group N) (choices_rise c d inside group S N N names) false false b.1
-      (ap (list_any is_monotone_fault) (body_free (with_group true group S) [] group e b there)))
-      x y h),
+      (group_grows all S N names group e c d inside b there) x y h),
 )
 
 pub item_solvable : (all : Set ℕ) (S : Scope) (N : Names ℕ) → RisesNames S N N → (item : Item)

@@ -1,4 +1,3 @@
-pub mod Risen
 pub mod Knowing
 pub mod Binding
 pub mod Reading

@@ -18,7 +18,8 @@ use Rattle.plain_groups.specs.Groups.{IsSolvable}
 use Rattle.plain_items.specs.Items.{Binds}
 use Rattle.plain_models.specs.Answers.{AreModelAnswers, ArePredefined, IsReading}
 use Rattle.plain_items.proofs.Behind.{turned_names, met_alike, flag_alike}
-use Rattle.plain_models.proofs.Knowing.{outer_rises, predefined_know, no_parts, item_solvable}
+use Rattle.meaning_rising.proofs.Growing.{no_parts}
+use Rattle.plain_models.proofs.Knowing.{outer_rises, predefined_know, item_solvable}
 use Rattle.plain_models.proofs.Binding.{IsBehind, item_behind, IsReadTo, left_is, flag_head, flag_tail}
 
 pub read_begin : (all : Set ℕ) (is : List Item) (bs : List Named) (flags : List ℕ)

@@ -4,50 +4,50 @@ use Rattle.text_values.specs.ModelValue.{Term, Terms, Atom, AllEvents, EmptyRela
 use Rattle.meaning.specs.Sets.{Set}
 use Rattle.meaning.specs.Names.{Name}
 use Rattle.meaning.specs.Cat.{Meaning, Nothing, Bound, ToMeaning, ToFunction, ToNothing, Names, choice_of, bound_of, of_name, of_application, meaning_of, meanings_of, with_arguments}
-use Rattle.plain_expressions.specs.Values.{IsAlike}
-use Rattle.plain_expressions.proofs.Inside.{infix_alike, postfix_inside, identity_inside, complement_inside}
+use Rattle.meaning_rising.specs.Inside.{IsAlike}
+use Rattle.meaning_rising.proofs.Inside.{infix_alike, postfix_inside, identity_inside, complement_inside}
 
 -- one by one
-abbrev pub AllAlike : List (Meaning ℕ) → List (Meaning ℕ) → Type 0
+abbrev pub AllAlike : {E : Type 0} → List (Meaning E) → List (Meaning E) → Type 0
 AllAlike [] [] = Unit {0}
 AllAlike (m ∷ ms) (k ∷ ks) = IsAlike m k × AllAlike ms ks
 AllAlike _ _ = ⊥
 
-pub data AlikeBound : Bound ℕ → Bound ℕ → Type 1 where
-  meanings : (m k : Meaning ℕ) → IsAlike m k → AlikeBound (ToMeaning m) (ToMeaning k)
-  functions : (n : ℕ) (r q : List (Meaning ℕ) → Meaning ℕ)
-      → ((ms ks : List (Meaning ℕ)) → AllAlike ms ks → IsAlike (r ms) (q ks))
+pub data AlikeBound {E : Type 0} : Bound E → Bound E → Type 1 where
+  meanings : (m k : Meaning E) → IsAlike m k → AlikeBound (ToMeaning m) (ToMeaning k)
+  functions : (n : ℕ) (r q : List (Meaning E) → Meaning E)
+      → ((ms ks : List (Meaning E)) → AllAlike ms ks → IsAlike (r ms) (q ks))
       → AlikeBound (ToFunction n r) (ToFunction n q)
   nothing : AlikeBound ToNothing ToNothing
 
-pub data AlikeNames : Names ℕ → Names ℕ → Type 1 where
+pub data AlikeNames {E : Type 0} : Names E → Names E → Type 1 where
   none : AlikeNames [] []
-  more : (n : Name) (b c : Bound ℕ) (N K : Names ℕ) → AlikeBound b c → AlikeNames N K
+  more : (n : Name) (b c : Bound E) (N K : Names E) → AlikeBound b c → AlikeNames N K
       → AlikeNames ((n, b) ∷ N) ((n, c) ∷ K)
 
-choice_alike : (t : Bool) (b c d e : Bound ℕ) → AlikeBound b c → AlikeBound d e
+choice_alike : {E : Type 0} (t : Bool) (b c d e : Bound E) → AlikeBound b c → AlikeBound d e
     → AlikeBound (choice_of t b d) (choice_of t c e)
 choice_alike true b c d e first second = first
 choice_alike false b c d e first second = second
 
-pub alike_bound : (N K : Names ℕ) → AlikeNames N K → (n : Name)
+pub alike_bound : {E : Type 0} (N K : Names E) → AlikeNames N K → (n : Name)
     → AlikeBound (bound_of N n) (bound_of K n)
 alike_bound N K none n = nothing
 alike_bound N K (more q b c M L first rest) n =
     choice_alike (bytes_eq q n) b c (bound_of M n) (bound_of L n) first (alike_bound M L rest n)
 
-name_alike : (b c : Bound ℕ) → AlikeBound b c → IsAlike (of_name b) (of_name c)
+name_alike : {E : Type 0} (b c : Bound E) → AlikeBound b c → IsAlike (of_name b) (of_name c)
 name_alike b c (meanings m k h) = h
 name_alike b c (functions n r q h) = (tt, tt)
 name_alike b c nothing = (tt, tt)
 
-pub alike_length : (ms ks : List (Meaning ℕ)) → AllAlike ms ks → length ms ≡ length ks
+pub alike_length : {E : Type 0} (ms ks : List (Meaning E)) → AllAlike ms ks → length ms ≡ length ks
 alike_length [] [] h = refl
 alike_length [] (k ∷ ks) h = absurd h
 alike_length (m ∷ ms) [] h = absurd h
 alike_length (m ∷ ms) (k ∷ ks) h = ap suc (alike_length ms ks h.1)
 
-chosen_alike : (t u : Bool) (m k : Meaning ℕ) → t ≡ u → IsAlike m k
+chosen_alike : {E : Type 0} (t u : Bool) (m k : Meaning E) → t ≡ u → IsAlike m k
     → IsAlike (choice_of t m Nothing) (choice_of u k Nothing)
 chosen_alike t u m k same h =
     subst (λ (v : Bool). IsAlike (choice_of t m Nothing) (choice_of v k Nothing)) same (one t)
@@ -56,7 +56,7 @@ chosen_alike t u m k same h =
     one true = h
     one false = (tt, tt)
 
-pub application_alike : (b c : Bound ℕ) (ms ks : List (Meaning ℕ)) → AlikeBound b c
+pub application_alike : {E : Type 0} (b c : Bound E) (ms ks : List (Meaning E)) → AlikeBound b c
     → AllAlike ms ks → IsAlike (of_application b ms) (of_application c ks)
 application_alike b c ms ks (meanings m k h) all = (tt, tt)
 application_alike b c ms ks (functions n r q h) all =
@@ -65,7 +65,7 @@ application_alike b c ms ks (functions n r q h) all =
 application_alike b c ms ks nothing all = (tt, tt)
 
 mutual
-  pub alike_meaning : (all : Set ℕ) (N K : Names ℕ) → AlikeNames N K → (t : Term)
+  pub alike_meaning : {E : Type 0} (all : Set E) (N K : Names E) → AlikeNames N K → (t : Term)
       → IsAlike (meaning_of all N t) (meaning_of all K t)
   alike_meaning all N K alike (Atom n) =
       name_alike (bound_of N n) (bound_of K n) (alike_bound N K alike n)
@@ -94,13 +94,13 @@ mutual
       application_alike (bound_of N n) (bound_of K n) (meanings_of all N ts)
       (meanings_of all K ts) (alike_bound N K alike n) (alike_meanings all N K alike ts)
 
-  pub alike_meanings : (all : Set ℕ) (N K : Names ℕ) → AlikeNames N K → (ts : Terms)
+  pub alike_meanings : {E : Type 0} (all : Set E) (N K : Names E) → AlikeNames N K → (ts : Terms)
       → AllAlike (meanings_of all N ts) (meanings_of all K ts)
   alike_meanings all N K alike NoTerm = tt
   alike_meanings all N K alike (OneMore a ts) =
       (alike_meaning all N K alike a, alike_meanings all N K alike ts)
 
-pub alike_arguments : (ps : List Name) (ms ks : List (Meaning ℕ)) (N K : Names ℕ) → AllAlike ms ks
+pub alike_arguments : {E : Type 0} (ps : List Name) (ms ks : List (Meaning E)) (N K : Names E) → AllAlike ms ks
     → AlikeNames N K → AlikeNames (with_arguments ps ms N) (with_arguments ps ks K)
 alike_arguments [] ms ks N K all alike = alike
 alike_arguments (p ∷ ps) [] [] N K all alike = alike

@@ -1,0 +1,5 @@
+pub mod Decisions
+pub mod Sublists
+pub mod Finite
+pub mod Paths
+pub mod Cycles

@@ -1,0 +1,4 @@
+pub mod Inside
+pub mod Alike
+pub mod Risen
+pub mod Growing
