@@ -12,6 +12,7 @@ use Rattle.binding_kinds.specs.declared.scope.Input.{Input}
 use Rattle.binding_kinds.specs.declared.scope.Used.{Used}
 use Rattle.binding_kinds.specs.Formula.{Formula, Value, Parameter, Everything, NoPairs, NoEvents, Joined, Marked, Complement, Identity}
 use Rattle.binding_kinds.specs.Functions.{sense_seen}
+use Rattle.binding_kinds.specs.declared.kinds.Kind.{Kind}
 use Rattle.binding_kinds.specs.Kinds.{found}
 use Rattle.binding_kinds.specs.Fits.{IsValue}
 use Rattle.binding_kinds.specs.Meanings.{parameter_of}
@@ -19,7 +20,7 @@ use Rattle.binding_kinds.specs.Senses.{Sense, count_of}
 use Rattle.binding_kinds.specs.Value.{Naming}
 use Rattle.binding_graph.specs.Usages.{Usage, usage_seen, values_of}
 use Rattle.bench_slots.proofs.Lists.{each_to}
-use Rattle.binding_laws.specs.ItemLaws.{Scope, Pairing, IsPairing, IsSameBinder, IsSameName, IsSameUnless, IsSameFormula, IsSameSense, IsSameFunction, AreSameUsed, HasSameNames, HaveSameNames}
+use Rattle.binding_laws.specs.ItemLaws.{Scope, Pairing, IsPairing, IsSameBinder, IsSameKind, IsSameName, IsSameUnless, IsSameFormula, IsSameSense, IsSameFunction, AreSameUsed, HasSameNames, HaveSameNames}
 use Rattle.binding_laws.proofs.Before.{get_kept}
 use Rattle.binding_laws.proofs.Told.{found_here}
 use Rattle.binding_laws.proofs.Lists.{contains_later, contains_one_of, IsSamePair}
@@ -84,7 +85,7 @@ inputs_of [] = []
 inputs_of (c ∷ cs) = with_inputs c.left.binder c.right.binder (inputs_of cs)
 
 abbrev pub pairing_of : List Shared → Pairing
-pairing_of cs = record { slots = slots_of cs; inputs = inputs_of cs }
+pairing_of cs = record { slots = slots_of cs; inputs = inputs_of cs; kinds = true }
 
 -- the functions are the same to those who apply them
 pub record IsSameApplied (p : Pairing) (s o : Scope) (f g : ℕ) : Type 0 where
@@ -127,6 +128,7 @@ pub record AreShared (u v : Reach) (s o : Scope) (cs : List Shared) : Type 0 whe
 pub record IsWithin (p q : Pairing) : Type 0 where
   pub slots : (a b : ℕ) → Contains p.slots (a, b) → Contains q.slots (a, b)
   pub inputs : (i j : Input) → Contains p.inputs (i, j) → Contains q.inputs (i, j)
+  pub kinds : q.kinds ≡ p.kinds
 
 abbrev pub IsFront : {X : Type 0} → List X → List X → Type 0
 IsFront {X} xs ys = (n : ℕ) (x : X) → slice_get xs n ≡ Some x → slice_get ys n ≡ Some x
@@ -146,9 +148,15 @@ module _ (p q : Pairing) (w : IsWithin p q) where
   binder_within (binders.Applicable i) (binders.Bound j) h = absurd h
   binder_within (binders.Applicable i) (binders.Applicable j) h = h
 
+  kind_within : (k l : Kind) → IsSameKind p.kinds k l → IsSameKind q.kinds k l
+  kind_within k l h = subst (λ (b : Bool). IsSameKind b k l) (sym w.kinds) h
+
   formula_within : (f g : Formula) → IsSameFormula p f g → IsSameFormula q f g
-  formula_within (Value f) (Value g) h =
-      (w.slots f.slot g.slot h.0, h.1, binder_within f.binder g.binder h.2)
+  formula_within (Value f) (Value g) h = (
+    w.slots f.slot g.slot h.0,
+    kind_within f.kind g.kind h.1,
+    binder_within f.binder g.binder h.2,
+  )
   formula_within (Parameter i) (Parameter j) h = h
   formula_within Everything Everything h = tt
   formula_within NoPairs NoPairs h = tt
@@ -171,7 +179,7 @@ module _ (p q : Pairing) (w : IsWithin p q) where
   sense_within a b h =
       record {
         arity = h.arity;
-        kind_with = h.kind_with;
+        kind_with = λ counts. h.kind_with (sym w.kinds ∙ counts);
         formula = formula_within a.formula b.formula h.formula;
       }
 
@@ -210,7 +218,7 @@ module _ (p q : Pairing) (w : IsWithin p q) where
         }) cs h
 
 pub within_self : (p : Pairing) → IsWithin p p
-within_self p = record { slots = λ a b h. h; inputs = λ i j h. h }
+within_self p = record { slots = λ a b h. h; inputs = λ i j h. h; kinds = refl }
 
 inputs_later : (a b : Binder) (is : List (Input × Input)) (x : Input × Input) → Contains is x
     → Contains (with_inputs a b is) x
@@ -224,6 +232,7 @@ pub within_one : (c : Shared) (cs : List Shared) → IsWithin (pairing_of cs) (p
 within_one c cs = record {
   slots = λ a b h. contains_later (c.left.slot, c.right.slot) (slots_of cs) (a, b) h;
   inputs = λ i j h. inputs_later c.left.binder c.right.binder (inputs_of cs) (i, j) h;
+  kinds = refl;
 }
 
 -- ---- slots

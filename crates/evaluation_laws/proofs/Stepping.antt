@@ -206,7 +206,7 @@ module _ (u v : Reach) (s o : Scope) (at bt : ℕ) (cs : List Shared) (shared : 
   kinds_same : (bs : List Bound) → Each (λ b. HasSameNames (pairing_of cs) s o [] b.body) bs
       → Each (λ b. kind_in s.senses s.names b.body ≡ kind_in o.senses o.names b.body) bs
   kinds_same [] h = tt
-  kinds_same (b ∷ bs) h = (kind_same (pairing_of cs) s o b.body h.0, kinds_same bs h.1)
+  kinds_same (b ∷ bs) h = (kind_same (pairing_of cs) refl s o b.body h.0, kinds_same bs h.1)
 
   same_relations : (bs : List Bound) → Each (λ b. OfRelation ≡ OfRelation) bs
   same_relations [] = tt

@@ -204,7 +204,7 @@ module _ (w z : Whole) (left_whole : IsWhole w) (right_whole : IsWhole z) where
       step.names (h.left.as_resolved.0, h.left.labelled.0)
       (resolved, label_moved x y q say.1 h.right.labelled.0) in
       record {
-        role = same.0;
+        role = same.0 refl;
         inputs =
             paired_inputs P at bt step.during step.during_from r.inputs.items q.inputs.items
             (left_whole.earlier at r (here_at w.resolved rs r at h.left.items)) same.1;

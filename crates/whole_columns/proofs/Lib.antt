@@ -1,0 +1,5 @@
+pub mod Below
+pub mod Choosing
+pub mod Keeping
+pub mod Rows
+pub mod Wholes

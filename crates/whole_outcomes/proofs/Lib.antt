@@ -1,0 +1,4 @@
+pub mod Columns
+pub mod Leaving
+pub mod Outcomes
+pub mod Saying
