@@ -151,7 +151,7 @@ before_other {X} (x ∷ xs) y ys once there = elim (head_or_tail x xs y there) [
   | inr later ↦ before_other xs y ys (tail_once x (xs ++ y ∷ ys) once) later
 ]
 
-earlier_other : {X : Type 0} (xs : List X) (k : ℕ) (d : X) → k < length xs → IsOnce xs
+pub earlier_other : {X : Type 0} (xs : List X) (k : ℕ) (d : X) → k < length xs → IsOnce xs
     → Contains (take k xs) (get_or xs k d) → ⊥
 earlier_other {X} xs k d lt once there =
     before_other (take k xs) (get_or xs k d) (drop (suc k) xs)

@@ -11,8 +11,8 @@ use Rattle.meaning.specs.Sets.{Set, IsOnce, IsListOf}
 use Rattle.meaning.specs.Names.{Name}
 use Rattle.meaning.specs.Machine.{Value, NoValue, State, is_load, is_fault, is_taken_in, state_after, target}
 use Rattle.meaning.specs.Runs.{Instance, Run, with_instance, end_of_run, label_after, run_of, run_from}
-use Rattle.plain_runs.specs.declared.value.Value as code
-use Rattle.plain_runs.specs.Values.{value_as}
+use Rattle.plain_machine.specs.declared.value.Value as code
+use Rattle.plain_machine.specs.Values.{value_as}
 use Rattle.plain_runs.specs.Runs.{IsRunFrom, IsRunWith, IsRunLoading}
 use Rattle.plain_runs.proofs.Listing.{listed_as, listed_one, listed_map, over_more}
 

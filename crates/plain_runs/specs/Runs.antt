@@ -8,10 +8,10 @@ use Rattle.meaning.specs.Machine as machine
 use Rattle.meaning.specs.Machine.{state_after, target}
 use Rattle.meaning.specs.Runs as runs
 use Rattle.meaning.specs.Runs.{run_of, with_instance}
-use Rattle.plain_runs.specs.declared.value.Value.{Value}
+use Rattle.plain_machine.specs.declared.value.Value.{Value}
 use Rattle.plain_runs.specs.declared.run.Instance.{Instance}
 use Rattle.plain_runs.specs.declared.run.Run.{Run}
-use Rattle.plain_runs.specs.Values.{value_as, state_as}
+use Rattle.plain_machine.specs.Values.{value_as, state_as}
 
 abbrev pub instance_as : Instance → runs.Instance
 instance_as i = record {

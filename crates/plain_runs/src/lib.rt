@@ -1,11 +1,8 @@
-//! A plain evaluator of the definitions of `meaning`: the machine of one thread, and all its runs
-//! over a list of values. Read specs/Values first.
+//! A plain evaluator of the definitions of `meaning`: all runs of a thread over a list of values.
+//! Read specs/Runs first, after specs/Values of `plain_machine`.
 #![tactic(auto)]
 
-pub mod instruction;
 pub mod run;
-pub mod start;
-pub mod state;
 #[cfg(test)]
 mod tests;
-pub mod value;
+pub mod thread;

@@ -4,12 +4,12 @@ ghost use Rattle.std.specs.Prelude.{◌≡◌, [], ◌∷◌, None, option_map, 
 ghost use Rattle.meaning.specs.Sets.{IsOnce, IsListOf};
 ghost use Rattle.meaning.specs.Machine as machine;
 ghost use Rattle.meaning.specs.Runs.{with_instance, label_after};
-ghost use Rattle.plain_runs.specs.Values.{value_as, state_as};
+ghost use Rattle.plain_machine.specs.Values.{value_as, state_as};
 ghost use Rattle.plain_runs.specs.Runs.{instance_as, run_as, ValuesOf, IsRunFrom, IsRunWith, IsRunLoading};
 
-use crate::instruction::{is_fault, is_load, is_taken_in, state_after, target};
-use crate::state::State;
-use crate::value::Value;
+use plain_machine::instruction::{is_fault, is_load, is_taken_in, state_after, target};
+use plain_machine::state::State;
+use plain_machine::value::Value;
 use std::alloc::{AllocError, Global};
 use text_values::{Instruction, Name, Step};
 

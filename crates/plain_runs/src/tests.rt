@@ -1,9 +1,9 @@
 ghost use Rattle.std.specs.Prelude.{◌<◌};
 
-use crate::instruction::stored;
 use crate::run::Run;
-use crate::start::thread_runs;
-use crate::value::{Value, is_same_value};
+use crate::thread::thread_runs;
+use plain_machine::instruction::stored;
+use plain_machine::value::{Value, is_same_value};
 use std::alloc::{AllocError, Global};
 use std::test::Fail;
 use text_values::{

@@ -5,7 +5,7 @@ use Rattle.std.proofs.lemmas.List.{length-map, map-append}
 use Rattle.meaning.specs.Machine.{is_taken_in, target}
 use Rattle.meaning.specs.Runs.{with_instance}
 use Rattle.plain_runs.specs.declared.run.Run as code
-use Rattle.plain_runs.specs.Values.{value_as, state_as}
+use Rattle.plain_machine.specs.Values.{value_as, state_as}
 use Rattle.plain_runs.specs.Runs.{run_as, ValuesOf, IsRunWith}
 use Rattle.plain_runs.proofs.Listing.{over_all}
 use Rattle.plain_runs.proofs.Running.{with_listed, loading_more, at_load, at_other, at_label, at_passed}

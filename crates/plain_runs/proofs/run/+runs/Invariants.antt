@@ -1,7 +1,7 @@
 use Rattle.std.proofs.Common.{◌+◌, ◌*◌, length, map, take, Contains}
 use Rattle.meaning.specs.Sets.{IsListOf}
 use Rattle.meaning.specs.Machine as machine
-use Rattle.plain_runs.specs.Values.{value_as, state_as}
+use Rattle.plain_machine.specs.Values.{value_as, state_as}
 use Rattle.plain_runs.specs.Runs.{run_as, ValuesOf, IsRunLoading}
 use Rattle.plain_runs.proofs.run.+runs.Given as goal
 
