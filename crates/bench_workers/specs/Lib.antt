@@ -1,1 +1,2 @@
 pub mod Tallies
+pub mod Turns

@@ -46,6 +46,16 @@ with_return (Stored names) t =
       refused = t.refused;
     }
 
+-- the counts with one more refusal
+abbrev pub with_one_refused : Tally → Tally
+with_one_refused t = record {
+  stored = t.stored;
+  same = t.same;
+  stale = t.stale;
+  unknown = t.unknown;
+  refused = sum_of t.refused 1;
+}
+
 -- the counts of both
 abbrev pub tally_sum : Tally → Tally → Tally
 tally_sum a b = record {

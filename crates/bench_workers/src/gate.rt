@@ -1,5 +1,7 @@
 //! What is told of each job of a worker.
 
+ghost use Rattle.std.specs.Prelude.{◌≡◌, false};
+
 use std::sync::Wait;
 
 /// Is told when a worker begins a job and when it ends it. It is called with no lock of the desk
@@ -28,7 +30,9 @@ impl Gate for NoGate {
 
     fn end<R: Wait>(&self, _rt: &R, _claim: u64) {}
 
-    fn hears_ends(&self) -> bool {
+    fn hears_ends(&self) -> bool
+        ensures { result ≡ false }
+    {
         false
     }
 }

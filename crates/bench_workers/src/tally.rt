@@ -1,7 +1,7 @@
 //! What became of the jobs of workers.
 
-ghost use Rattle.std.specs.Prelude.{◌≡◌, ◌+◌, ◌-◌, ◌^◌, min};
-ghost use Rattle.bench_workers.specs.Tallies.{with_return, tally_sum, no_jobs};
+ghost use Rattle.std.specs.Prelude.{◌≡◌};
+ghost use Rattle.bench_workers.specs.Tallies.{with_return, with_one_refused, tally_sum, no_jobs};
 
 use memo_core::claims::Finish;
 
@@ -48,13 +48,7 @@ impl Tally {
 
     /// Counts a refusal.
     pub fn note_refusal(&mut self)
-        ensures { self.new ≡ record {
-          stored = self.old.stored;
-          same = self.old.same;
-          stale = self.old.stale;
-          unknown = self.old.unknown;
-          refused = min (self.old.refused + 1) (2 ^ 64 - 1);
-        } }
+        ensures { self.new ≡ with_one_refused self.old }
     {
         self.refused = self.refused.saturating_add(1);
     }

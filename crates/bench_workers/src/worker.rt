@@ -1,5 +1,10 @@
 //! One worker.
 
+ghost use Rattle.std.specs.Prelude.{◌≡◌, true, false};
+ghost use Rattle.value_store.specs.declared.fault.StoreFault.TheVariants.{StoreFull};
+ghost use Rattle.memo_core.specs.declared.claims.Finish.{Finish};
+ghost use Rattle.bench_workers.specs.Turns.{after_return, after_refusal, after_fault, goes_on, goes_on_after};
+
 use crate::gate::Gate;
 use crate::tally::Tally;
 use cells::job::{Done, Job, RunFault};
@@ -20,13 +25,18 @@ struct Worker {
 
 impl Worker {
     // Counts a return by what it came to.
-    fn note(&mut self, finish: &Finish) {
+    fn note(&mut self, finish: &Finish)
+        ensures { self.new ≡ after_return finish.now self.old }
+    {
         self.tally.note(finish);
         let _many = self.refusals.note(false);
     }
 
     // Counts a refusal for memory. True if the worker goes on.
-    fn goes_on(&mut self) -> bool {
+    fn goes_on(&mut self) -> bool
+        ensures after { self.new ≡ after_refusal self.old }
+        ensures goes_on { result ≡ goes_on self.new }
+    {
         self.tally.note_refusal();
         !self.refusals.note(true)
     }
@@ -36,7 +46,9 @@ impl Worker {
 fn give_up<J: Naming + StoreName, X: BoardTexts, R: Wait + Drop, W: Wait>(
     rt: &W,
     desk: &Desk<J, X, R>,
-) -> bool {
+) -> bool
+    ensures { result ≡ false }
+{
     let _again = desk.close(rt).is_err();
     false
 }
@@ -53,7 +65,10 @@ enum Next<J: Naming + StoreName, X: BoardTexts> {
 }
 
 // Waits for a job where the worker goes on, and ends where it does not.
-fn next_if<J: Naming + StoreName, X: BoardTexts>(goes_on: bool) -> Next<J, X> {
+fn next_if<J: Naming + StoreName, X: BoardTexts>(goes_on: bool) -> Next<J, X>
+    ensures waits { goes_on ≡ true → result ≡ Next.Wait }
+    ensures ends { goes_on ≡ false → result ≡ Next.End }
+{
     if goes_on { Next::Wait } else { Next::End }
 }
 
@@ -63,7 +78,10 @@ fn is_refused<J: Naming + StoreName, X: BoardTexts, R: Wait + Drop, W: Wait>(
     desk: &Desk<J, X, R>,
     fault: DeskFault<X::Fault>,
     worker: &mut Worker,
-) -> bool {
+) -> bool
+    ensures after { worker.new ≡ after_fault fault worker.old }
+    ensures goes_on { result ≡ goes_on_after fault worker.new }
+{
     match fault {
         DeskFault::Closed => false,
         DeskFault::OutOfMemory => {
@@ -72,7 +90,9 @@ fn is_refused<J: Naming + StoreName, X: BoardTexts, R: Wait + Drop, W: Wait>(
             }
             give_up(rt, desk)
         }
-        _ => give_up(rt, desk),
+        DeskFault::Claim(_) => give_up(rt, desk),
+        DeskFault::Edit(_) => give_up(rt, desk),
+        DeskFault::NoSeat => give_up(rt, desk),
     }
 }
 
@@ -82,7 +102,11 @@ fn hand_in<J: Naming + StoreName, X: BoardTexts, R: Wait + Drop, W: Wait>(
     desk: &Desk<J, X, R>,
     done: Done<J, X>,
     worker: &mut Worker,
-) -> bool {
+) -> bool
+    ensures counted { result ≡ true
+        → (finish : Finish) × (worker.new ≡ after_return finish worker.old) }
+    ensures same { result ≡ false → worker.new ≡ worker.old }
+{
     match desk.finish(rt, done) {
         Ok((finish, _posted)) => {
             worker.note(&finish);
@@ -117,7 +141,11 @@ fn lose<J: Naming + StoreName, X: BoardTexts, R: Wait + Drop, W: Wait>(
     claim: u64,
     fault: RunFault,
     worker: &mut Worker,
-) -> bool {
+) -> bool
+    ensures after { worker.new ≡ after_refusal worker.old }
+    ensures few { result ≡ true → goes_on worker.new ≡ true }
+    ensures full { fault ≡ StoreFull → result ≡ false }
+{
     let is_open = desk.lose(rt, claim).is_ok();
     let goes_on = worker.goes_on();
     match fault {

@@ -1,6 +1,7 @@
 //! Workers beside a body.
 
-ghost use Rattle.std.specs.Prelude.{IfOk, IfSome};
+ghost use Rattle.std.specs.Prelude.{◌≡◌, IfOk, IsOk, IfSome};
+ghost use Rattle.bench_workers.specs.Tallies.{no_jobs};
 
 use crate::gate::Gate;
 use crate::tally::Tally;
@@ -120,8 +121,16 @@ where
     F: FnOnce() -> T + Drop,
     T: Drop,
     requires { F.pre body }
-    ensures { IfOk result (λ w. F.post body w.0) }
+    ensures body { IfOk result (λ w. F.post body w.0) }
+    // Without workers nothing is refused, and no job is done.
+    ensures started { count ≡ 0 → IsOk result }
+    ensures none { count ≡ 0 → IfOk result (λ w. w.1 ≡ no_jobs) }
 {
+    if count == 0 {
+        let answer = body();
+        let _again = desk.close(rt).is_err();
+        return Ok((answer, Tally::new()));
+    }
     let shift = Shift {
         alloc,
         desk,

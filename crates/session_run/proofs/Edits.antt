@@ -1,5 +1,5 @@
 -- An edit of own texts, by whether it is refused.
-use Rattle.std.proofs.Common.{◌≡◌, ℕ, ◌<◌, ◌≤◌, ◌+◌, ◌^◌, arith, List, [], true, false, ap, sym, subst, ◌∙◌}
+use Rattle.std.proofs.Common.{◌≡◌, ℕ, ◌≤◌, ◌+◌, List, [], true, false, ap, sym, subst, ◌∙◌}
 use Rattle.bench_texts.specs.BenchTexts.{BenchTexts, no_texts}
 use Rattle.bench_texts.specs.declared.edit.Edit as code
 use Rattle.bench_texts.specs.Edits.{Edit, Applies, edit_of}
@@ -22,11 +22,11 @@ abbrev pub HasOwnEdits : code.Edit → (seen later : List BoardOp) → Type 0
 HasOwnEdits e seen later = (number : ℕ) × (number ≤ LAST) × HasOwnEdit e number seen later
 
 -- the law of own edits
-abbrev pub EditsAreKnown : BenchTexts → Type 0
-EditsAreKnown t =
+abbrev pub EditsAreCounted : BenchTexts → Type 0
+EditsAreCounted t =
     (e : code.Edit) (number : ℕ) (seen later : List BoardOp) (made : ℕ) (new : BenchTexts)
-    → KnowsOwn seen made t → HasOwnEdit e number seen later → Applies t false (edit_of e) new
-    → KnowsOwn later (made + 1) new
+    → KnowsTexts seen made t → number ≤ LAST → HasOwnEdit e number seen later
+    → Applies t false (edit_of e) new → KnowsTexts later (made + 1) new
 
 pub knows_texts : (seen : List BoardOp) (t : BenchTexts) → KnowsOwn [] 0 no_texts → seen ≡ []
     → t ≡ no_texts → KnowsOwn seen 0 t
@@ -34,21 +34,10 @@ knows_texts seen t k nothing none =
     subst (λ (l : List BoardOp). KnowsOwn l 0 t) (sym nothing)
     (subst (λ (x : BenchTexts). KnowsOwn [] 0 x) (sym none) k)
 
--- the law that they are few
-abbrev pub EditsAreFew : Type 0
-EditsAreFew =
-    (e : code.Edit) (number : ℕ) (seen later : List BoardOp) (made : ℕ) (t : BenchTexts)
-    → KnowsOwn seen made t → HasOwnEdit e number seen later → made < number
-
 pub accepted_ready : (e : code.Edit) (seen later : List BoardOp) (made : ℕ) (t after : BenchTexts)
-    (said : SessionAnswer) → EditsAreKnown t → EditsAreFew → KnowsTexts seen made t
-    → HasOwnEdits e seen later
+    (said : SessionAnswer) → EditsAreCounted t → KnowsTexts seen made t → HasOwnEdits e seen later
     → IsEditAnswer t (edit_of e) said after → said.refused ≡ false
     → KnowsTexts later (made + 1) after
-accepted_ready e seen later made t after said law few ready has edited accepted =
-    let below : made < has.0 = few e has.0 seen later made t ready.1 has.2 in
-    let most : has.0 ≤ 2 ^ 63 = has.1 in (
-      omega (arith, below, most),
-      law e has.0 seen later made after ready.1 has.2
-          (accepted_applies t after (edit_of e) said edited accepted),
-    )
+accepted_ready e seen later made t after said law ready has edited accepted =
+    law e has.0 seen later made after ready has.1 has.2
+    (accepted_applies t after (edit_of e) said edited accepted)

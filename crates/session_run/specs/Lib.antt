@@ -1,3 +1,4 @@
 pub mod Sessions
 pub mod Faults
 pub mod Untold
+pub mod Blamed

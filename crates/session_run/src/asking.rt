@@ -1,13 +1,15 @@
 //! Questions of a session.
 
-ghost use Rattle.std.specs.Prelude.{◌≡◌, ◌≢◌, true, IfOk, IfErr, IfSome, OnOk, Err};
+ghost use Rattle.std.specs.Prelude.{◌≡◌, ◌≢◌, true, IfOk, IfErr, IfSome, OnOk, Some, Err};
 ghost use mathlib.Core.List.{IsPrefix};
 ghost use Rattle.bench_texts.specs.Held.{texts_of};
 ghost use Rattle.board.specs.Edits.{edit_count};
 ghost use Rattle.board.specs.Legal.{IsLegal};
+ghost use Rattle.board.specs.Operations.{board_after};
 ghost use Rattle.session_answers.specs.Questions.{IsReply};
 ghost use Rattle.session_run.specs.Faults.{IsOwnFault};
 ghost use Rattle.session_views.specs.Knowing.{KnowsTexts};
+ghost use Rattle.session_views.specs.Progress.{progress_of};
 
 use crate::fault::fault_of;
 use crate::jobs::run_some;
@@ -79,7 +81,11 @@ fn due_progress<J: Naming, L: ProgressListener>(
     texts: &Texts,
     question: &Question,
     listener: &mut L,
-) -> Option<Progress> {
+) -> Option<Progress>
+    requires legal { IsLegal view.now }
+    ensures { IfSome result (λ p.
+        progress_of (texts_of texts.now) (board_after view.now) question.now ≡ Some p) }
+{
     match answer {
         Ok(None) if listener.is_due() => board_progress(texts, view.board(), question),
         _ => None,

@@ -1,38 +1,67 @@
 //! What of the line of a request is at fault, where it is refused for that.
 
+ghost use Rattle.std.specs.Prelude.{◌≡◌, IfOk, decimal};
+ghost use Rattle.bench_texts.specs.Edits.{has_test, has_model};
+ghost use Rattle.bench_texts.specs.Held.{texts_of};
+ghost use Rattle.session_run.specs.Blamed.{blamed_word, missing_word, test_or, model_or};
+
 use bench_texts::Texts;
-use session_script::{Names, Request, ScriptText};
+use session_script::{Request, ScriptText};
 use std::alloc::{AllocError, Global};
 use text_values::put_decimal;
 
-fn word(alloc: Global, name: &ScriptText) -> Result<Vec<u8>, AllocError> {
+fn word(alloc: Global, name: &ScriptText) -> Result<Vec<u8>, AllocError>
+    ensures { IfOk result (λ v. v.items ≡ name.now) }
+{
     Vec::from_slice(alloc, name.as_bytes())
 }
 
-fn decimal(alloc: Global, number: u64) -> Result<Vec<u8>, AllocError> {
+fn decimal(alloc: Global, number: u64) -> Result<Vec<u8>, AllocError>
+    ensures { IfOk result (λ v. v.items ≡ decimal number) }
+{
     let mut word = Vec::new(alloc);
     put_decimal(&mut word, number)?;
     Ok(word)
 }
 
-fn is_test(texts: &Texts, name: &ScriptText) -> bool {
+fn is_test(texts: &Texts, name: &ScriptText) -> bool
+    ensures { result ≡ has_test (texts_of texts.now) name.now }
+{
     texts.test_index(name.as_bytes()) < texts.tests().len()
 }
 
-fn is_model(texts: &Texts, name: &ScriptText) -> bool {
+fn is_model(texts: &Texts, name: &ScriptText) -> bool
+    ensures { result ≡ has_model (texts_of texts.now) name.now }
+{
     texts.model_index(name.as_bytes()) < texts.models().len()
 }
 
-// The first of these names that is not there, or the last.
-fn missing_model<'n>(texts: &Texts, names: &'n Names) -> Option<&'n ScriptText> {
-    let mut last = None;
-    for name in names.as_slice() {
+// The first of these models that is not there, or no word. Errors: out of memory.
+fn missing_word(alloc: Global, texts: &Texts, names: &[ScriptText]) -> Result<Vec<u8>, AllocError>
+    ensures { IfOk result (λ v. v.items ≡ missing_word (texts_of texts.now) names.now) }
+{
+    for name in names {
         if !is_model(texts, name) {
-            return Some(name);
+            return word(alloc, name);
         }
-        last = Some(name);
     }
-    last
+    Ok(Vec::new(alloc))
+}
+
+// The name of a model that is not there, or else that of another model.
+fn model_word(
+    alloc: Global,
+    texts: &Texts,
+    first: &ScriptText,
+    second: &ScriptText,
+) -> Result<Vec<u8>, AllocError>
+    ensures { IfOk result (λ v. v.items ≡ model_or (texts_of texts.now) first.now second.now) }
+{
+    if is_model(texts, first) {
+        word(alloc, second)
+    } else {
+        word(alloc, first)
+    }
 }
 
 // The name of a model that is not there, or else the number of its item.
@@ -41,7 +70,10 @@ fn item_word(
     texts: &Texts,
     model: &ScriptText,
     item: u64,
-) -> Result<Vec<u8>, AllocError> {
+) -> Result<Vec<u8>, AllocError>
+    ensures { IfOk result (λ v. v.items
+        ≡ model_or (texts_of texts.now) model.now (decimal item)) }
+{
     if is_model(texts, model) {
         decimal(alloc, item)
     } else {
@@ -55,7 +87,10 @@ fn thread_word(
     texts: &Texts,
     test: &ScriptText,
     thread: u64,
-) -> Result<Vec<u8>, AllocError> {
+) -> Result<Vec<u8>, AllocError>
+    ensures { IfOk result (λ v. v.items
+        ≡ test_or (texts_of texts.now) test.now (decimal thread)) }
+{
     if is_test(texts, test) {
         decimal(alloc, thread)
     } else {
@@ -69,7 +104,10 @@ fn cell_word(
     texts: &Texts,
     test: &ScriptText,
     model: &ScriptText,
-) -> Result<Vec<u8>, AllocError> {
+) -> Result<Vec<u8>, AllocError>
+    ensures { IfOk result (λ v. v.items
+        ≡ test_or (texts_of texts.now) test.now model.now) }
+{
     if is_test(texts, test) {
         word(alloc, model)
     } else {
@@ -83,7 +121,10 @@ pub(crate) fn blamed_word(
     alloc: Global,
     texts: &Texts,
     request: &Request,
-) -> Result<Vec<u8>, AllocError> {
+) -> Result<Vec<u8>, AllocError>
+    ensures { IfOk result (λ v. v.items
+        ≡ blamed_word (texts_of texts.now) request.now) }
+{
     match request {
         Request::PutTest => Ok(Vec::new(alloc)),
         Request::PutModel { model } | Request::DropModel { model } | Request::Items { model } =>
@@ -100,16 +141,7 @@ pub(crate) fn blamed_word(
         Request::Show { test, model } | Request::Counts { test, model } => {
             cell_word(alloc, texts, test, model)
         }
-        Request::Table { models } => match missing_model(texts, models) {
-            Some(model) => word(alloc, model),
-            None => Ok(Vec::new(alloc)),
-        },
-        Request::Difference { first, second } => {
-            if is_model(texts, first) {
-                word(alloc, second)
-            } else {
-                word(alloc, first)
-            }
-        }
+        Request::Table { models } => missing_word(alloc, texts, models.as_slice()),
+        Request::Difference { first, second } => model_word(alloc, texts, first, second),
     }
 }

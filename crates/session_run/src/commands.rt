@@ -9,6 +9,7 @@ ghost use Rattle.bench_texts.specs.BenchTexts.{no_texts};
 ghost use Rattle.command_answers.specs.Answer.{AreReadsCounted, AreWritesCounted};
 ghost use Rattle.session_script.specs.Written.{WritesPrefix};
 ghost use Rattle.session_views.specs.Knowing.{KnowsTexts};
+ghost use Rattle.session_run.specs.Blamed.{changed_model, model_changed, text_behind, IsBlamed};
 ghost use Rattle.session_run.specs.Sessions.{IsSession, IsReplied, IsReplyStopped, IsTurnFault};
 
 use crate::blamed::blamed_word;
@@ -64,22 +65,40 @@ struct Heard {
 }
 
 // The model that a request puts or changes.
-fn changed_model(alloc: Global, request: &Request) -> Result<Option<ScriptText>, AllocError> {
+fn changed_model(alloc: Global, request: &Request) -> Result<Option<ScriptText>, AllocError>
+    ensures { IfOk result (λ model. model ≡ changed_model request.now) }
+{
     match request {
         Request::PutModel { model } => Ok(Some(model.copied(alloc)?)),
         Request::SetItem { model, .. } => Ok(Some(model.copied(alloc)?)),
         Request::InsertItem { model, .. } => Ok(Some(model.copied(alloc)?)),
         Request::RemoveItem { model, .. } => Ok(Some(model.copied(alloc)?)),
-        _ => Ok(None),
+        Request::PutTest
+        | Request::SetInit { .. }
+        | Request::SetThread { .. }
+        | Request::SetCondition { .. }
+        | Request::SetLocations { .. }
+        | Request::DropTest { .. }
+        | Request::DropModel { .. }
+        | Request::Items { .. }
+        | Request::Show { .. }
+        | Request::Counts { .. }
+        | Request::Table { .. }
+        | Request::Difference { .. } => Ok(None),
     }
 }
 
+// What a listener is to hear of a command.
 fn heard_of(
     alloc: Global,
     texts: &Texts,
     script: &ScriptReader,
     command: &Command,
-) -> Result<Heard, AllocError> {
+) -> Result<Heard, AllocError>
+    ensures blamed { IfOk result (λ h. IsBlamed (texts_of texts.now) command.now h.blamed.items) }
+    ensures text { IfOk result (λ h. h.text.items ≡ text_behind command.now) }
+    ensures model { IfOk result (λ h. h.model ≡ model_changed command.now) }
+{
     let line = script.command_line();
     match command {
         Command::Asked { request, text } => Ok(Heard {

@@ -16,7 +16,7 @@ use command_answers::SessionFault;
 use desk::{Accepted, Naming, Viewer};
 use memo_engine::graph::LAST;
 use session_edits::{Answer, answer_edit};
-use session_views::laws::{own_edits_are_few, own_edits_are_known};
+use session_views::laws::own_edits_are_counted;
 use std::alloc::Global;
 use std::sync::Wait;
 use value_store::StoreName;
@@ -60,8 +60,7 @@ pub(crate) fn make_edit<J: Naming + StoreName, R: Wait + Drop, W: Wait>(
     ensures fault { IfErr result IsOwnFault }
     ensures shared { result ≡ Err SessionFault.Shared → IsDisputed edit session.old.viewer }
 {
-    own_edits_are_known(&session.texts);
-    own_edits_are_few();
+    own_edits_are_counted(&session.texts);
     let answer = match answer_edit(alloc, &mut session.texts, &edit) {
         Ok(answer) => answer,
         Err(_) => return Err(SessionFault::Memory),

@@ -1,6 +1,6 @@
 //! A session with its desk and its workers.
 
-ghost use Rattle.std.specs.Prelude.{◌≡◌, ◌-◌, ◌<◌, ◌^◌};
+ghost use Rattle.std.specs.Prelude.{◌≡◌, ◌-◌, ◌<◌, ◌^◌, min};
 ghost use Rattle.command_answers.specs.Answer.{AreReadsCounted, AreWritesCounted};
 ghost use Rattle.session_run.specs.Sessions.{IsSession};
 
@@ -16,7 +16,9 @@ use std::thread::Threads;
 use value_store::StoreName;
 
 // So many workers as are hired.
-fn count_of(workers: u64) -> u32 {
+fn count_of(workers: u64) -> u32
+    ensures { result ≡ min workers 32 }
+{
     workers.min(MOST_WORKERS as u64) as u32
 }
 

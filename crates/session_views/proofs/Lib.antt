@@ -1,3 +1,4 @@
 pub mod Counts
 pub mod Cells
 pub mod Opening
+pub mod Settled

@@ -1,6 +1,6 @@
 //! Laws of who makes edits, keeps texts of its own and reads boards.
 
-ghost use Rattle.std.specs.Prelude.{◌≡◌, ◌<◌, ◌+◌, ◌-◌, ◌^◌, ℕ, List, [], Some, false, slice_get};
+ghost use Rattle.std.specs.Prelude.{◌≡◌, ◌<◌, ◌≤◌, ◌+◌, ◌-◌, ◌^◌, ℕ, List, [], Some, false, slice_get};
 ghost use mathlib.Core.List.{IsPrefix};
 ghost use Rattle.text_values.specs.TestValue.{Content};
 ghost use Rattle.verdict.specs.declared.answer.Outcome.{Outcome};
@@ -14,7 +14,8 @@ ghost use Rattle.board.specs.Operations.{board_after};
 ghost use Rattle.board.specs.Legal.{IsLegal};
 ghost use Rattle.session_answers.specs.Cells.{IsPlainOutcome};
 ghost use Rattle.board.specs.Edits.{edit_count};
-ghost use Rattle.session_views.specs.Knowing.{KnowsOwn, HasOwnEdit};
+ghost use Rattle.memo_engine.specs.declared.graph.TheConstants.{LAST};
+ghost use Rattle.session_views.specs.Knowing.{KnowsOwn, KnowsTexts, HasOwnEdit};
 ghost use Rattle.session_views.specs.Shown.{ShowsTexts};
 
 use bench_texts::Texts;
@@ -44,6 +45,16 @@ pub fn own_edits_are_few()
     ensures { (e : CodeEdit) (number : ℕ) (seen later : List BoardOp) (made : ℕ) (t : BenchTexts)
         → KnowsOwn seen made t → HasOwnEdit e number seen later → made < number }
 {}
+
+/// Who knows its texts and counts its edits makes one of them, under a number that edits may have,
+/// and is told of it: it knows the texts with the edit, and counts it.
+pub fn own_edits_are_counted(own: &Texts)
+    ensures { (e : CodeEdit) (number : ℕ) (seen later : List BoardOp) (made : ℕ) (new : BenchTexts)
+        → KnowsTexts seen made (texts_of own.now) → number ≤ LAST → HasOwnEdit e number seen later
+        → Applies (texts_of own.now) false (edit_of e) new → KnowsTexts later (made + 1) new }
+{
+    let _own = own;
+}
 
 /// A board of which all operations were seen by who knows its texts shows these texts, if it counts
 /// as many edits as were made.

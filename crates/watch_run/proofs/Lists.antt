@@ -1,7 +1,8 @@
 -- Lists with one element put at an index, and the first element that passes a test.
 use Rattle.std.proofs.Common.{◌≡◌, ℕ, zero, suc, ◌+◌, ◌<◌, ◌≤◌, List, [], ◌∷◌, length, map, Bool, true, false, Some, refl, sym, ap, ◌∙◌, inl, inr, arith}
-use Rattle.std.specs.Prelude.{slice_get, option_map, get_or, set}
-use Rattle.std.specs.List.{position_or_len}
+use Rattle.std.specs.Prelude.{slice_get, option_map, get_or, set, remove, take, drop, ◌||◌}
+use Rattle.std.specs.List.{position_or_len, list_any}
+use Rattle.std.proofs.lemmas.List.Folds.{list_any-append}
 use Rattle.std.proofs.lemmas.Bool.{cases_Bool}
 use Rattle.std.proofs.lemmas.Option.{same_Some}
 use Rattle.bench_texts.specs.BenchTexts.{put_at, changed_at}
@@ -127,3 +128,9 @@ got_past (suc i) d (x ∷ xs) le = got_past i d xs (omega (arith, le))
 pub nothing_of : {A : Type 0} (xs : List A) → length xs ≡ 0 → xs ≡ []
 nothing_of [] e = refl
 nothing_of (x ∷ xs) e = absurd (omega (arith, e))
+
+-- ---- an element left out
+
+pub held_beside : {A : Type 0} (p : A → Bool) (xs : List A) (i : ℕ)
+    → list_any p (remove xs i) ≡ (list_any p (take i xs) || list_any p (drop (suc i) xs))
+held_beside p xs i = list_any-append p (take i xs) (drop (suc i) xs)

@@ -1,5 +1,5 @@
 -- Read this first: what is held of the watched files, and what a version of a file makes of it.
-use Rattle.std.specs.Prelude.{◌≡◌, ◌≢◌, false, Bool, ℕ, zero, suc, ◌+◌, List, [], ◌∷◌, ◌++◌, map, replicate, get_or, remove, bytes_eq, if◌then◌else◌, Option, Some, None, codes, decimal}
+use Rattle.std.specs.Prelude.{◌≡◌, ◌≢◌, false, not, ◌&&◌, Bool, ℕ, zero, suc, ◌+◌, List, [], ◌∷◌, ◌++◌, map, replicate, get_or, remove, bytes_eq, if◌then◌else◌, Option, Some, None, codes, decimal}
 use Rattle.std.specs.List.{list_any}
 use Rattle.text_values.specs.TestValue.{Content}
 use Rattle.text_values.specs.ModelValue.{Clause}
@@ -95,6 +95,15 @@ holds_name name (Some held) = bytes_eq held name
 -- the name of the test that the file of that index holds, if any
 abbrev pub held_name : ℕ → (names : List (Option (List ℕ))) → Option (List ℕ)
 held_name index names = get_or names index None
+
+-- What the file of that index holds goes where it holds the test of this name from then on: it is a
+-- test of another name, which no other file holds.
+abbrev pub is_leaving : Option (Option (List ℕ)) → (index : ℕ) (new : List ℕ)
+    → (names : List (Option (List ℕ))) → Bool
+is_leaving None index new names = false
+is_leaving (Some None) index new names = false
+is_leaving (Some (Some old)) index new names =
+    not (bytes_eq old new) && not (list_any (holds_name old) (remove names index))
 
 -- the tests without the first of a name that a file held, unless a file holds one of that name
 abbrev pub without_unheld : Option (List ℕ) → (names : List (Option (List ℕ))) → List Content

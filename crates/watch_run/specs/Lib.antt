@@ -5,3 +5,4 @@ pub mod Runs
 pub mod Ends
 pub mod Boards
 pub mod Edits
+pub mod Turns

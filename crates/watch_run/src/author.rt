@@ -1,8 +1,9 @@
 //! Who makes the edits of the files that are watched.
 
-ghost use Rattle.std.specs.Prelude.{◌≡◌, List, IfOk, IfSome, IfNone, OnOk, OnErr, Err};
+ghost use Rattle.std.specs.Prelude.{◌≡◌, ◌≤◌, List, IfOk, IfSome, IfNone, OnOk, OnErr, Err};
 ghost use mathlib.Core.List.{IsPrefix};
 ghost use Rattle.board.specs.declared.operation.BoardOp.{BoardOp};
+ghost use Rattle.memo_engine.specs.declared.graph.TheConstants.{LAST};
 ghost use Rattle.session_views.specs.Knowing.{HasOwnEdit};
 ghost use Rattle.watch_run.specs.Boards.{lists_of, AreOwnLines, HasOpenLine};
 
@@ -19,8 +20,9 @@ pub trait Author {
 
     /// Makes an edit, and says its number. Errors: out of memory, also where a worker gave up.
     fn give<W: Wait>(&mut self, rt: &W, edit: Edit) -> Result<u64, AllocError>
-        ensures { IfOk result (λ number.
-            HasOwnEdit edit number (seen self.old) (seen self.new)) };
+        ensures told { IfOk result (λ number.
+            HasOwnEdit edit number (seen self.old) (seen self.new)) }
+        ensures number { IfOk result (λ number. number ≤ LAST) };
 
     /// Has the jobs run until each cell is settled and published, and says how many there were
     /// after the edit of this number, the last. Errors: `Memory`, also where the store is full or a

@@ -1,6 +1,6 @@
 //! A later version of a file: the edits that make it of what the bench holds.
 
-ghost use Rattle.std.specs.Prelude.{◌≡◌, Some, false, option_map, IfOk, OnOk, IfSome, IsSome, IsTrue};
+ghost use Rattle.std.specs.Prelude.{◌≡◌, ◌<◌, Some, false, not, length, remove, slice_get, option_map, IfOk, OnOk, IfSome, IsSome, IsTrue};
 ghost use Rattle.std.specs.List.{list_any};
 ghost use Rattle.text_values.specs.ModelValues.{clauses_of};
 ghost use Rattle.text_values.specs.TestValue.{Content, content_of};
@@ -10,7 +10,7 @@ ghost use Rattle.bench_texts.specs.Edits.{edit_of, RefusesEdit};
 ghost use Rattle.bench_texts.specs.Held.{plain_model, texts_of};
 ghost use Rattle.session_answers.specs.Cells.{test_named, model_named};
 ghost use Rattle.session_edits.specs.Faults.{HasFaultLine};
-ghost use Rattle.watch_run.specs.Holding.{bench_model_name, holds_name, without_unheld, held_name, HoldsItems, IsSameButModel, IsTestTaken, ModelFile, TestFile};
+ghost use Rattle.watch_run.specs.Holding.{bench_model_name, holds_name, without_unheld, held_name, is_leaving, HoldsItems, IsSameButModel, IsTestTaken, ModelFile, TestFile};
 ghost use Rattle.watch_run.specs.Edits.{IsEditTried, IsVersionTaken, IsModelEdit, AreChanges, AreTestParts, AreSameBut};
 ghost use Rattle.watch_run.specs.Boards.{KnowsItsTexts, holding};
 
@@ -20,14 +20,11 @@ use crate::watched::Watched;
 use bench_texts::{Edit, EditFault, NamedModel, Texts};
 use cat_syntax::{CatFault, ModelText, read_model};
 use litmus_ppc::{LitmusFault, Name, Test, read_test};
-use session_views::laws::own_edits_are_known;
+use session_views::laws::own_edits_are_counted;
 use std::alloc::{AllocError, Global};
 use std::mem::replace;
 use std::sync::Wait;
 use watch_edits::{ItemChange, TestPart, changed_parts, item_changes, item_edit, part_edit};
-
-// The numbers of edits that a board counts, below the greatest.
-const MOST_EDITS: u64 = u64::MAX - 1;
 
 // A fault that is told. Errors: out of memory, where that is the fault.
 fn told_fault(fault: EditFault) -> Result<EditFault, AllocError>
@@ -176,21 +173,23 @@ fn is_held(names: &[Option<Name>], name: &Name) -> bool
 }
 
 // Whether no file but that of this index holds the test of this name.
-fn is_alone(names: &[Option<Name>], index: usize, name: &Name) -> bool {
-    for other in 0..names.len() {
-        if other != index && is_of(&names[other], name) {
-            return false;
-        }
-    }
-    true
+#[tactic(auto, using(crate::proofs::Lists::held_beside))]
+fn is_alone(names: &[Option<Name>], index: usize, name: &Name) -> bool
+    requires { index < length names.now }
+    ensures { result ≡ not (list_any (holds_name name.now) (remove names.now index)) }
+{
+    !is_held(&names[..index], name) && !is_held(&names[index + 1..], name)
 }
 
 // Whether the test that the file of that index holds goes where it holds the one of this name from
 // now on.
-fn is_leaving(names: &[Option<Name>], index: usize, new: &Name) -> bool {
+fn is_leaving(names: &[Option<Name>], index: usize, new: &Name) -> bool
+    ensures { result ≡ is_leaving (slice_get names.now index) index new.now names.now }
+{
     match names.get(index) {
-        Some(Some(old)) => !old.is_same(new) && is_alone(names, index, old),
-        _ => false,
+        Some(Some(old)) => { old.as_bytes() != new.as_bytes() && is_alone(names, index, old) }
+        Some(None) => false,
+        None => false,
     }
 }
 
@@ -222,14 +221,11 @@ impl<A: Author> Watched<A> {
             IsEditTried (texts_of self.old.texts) (edit_of edit) o (texts_of self.new.texts)) }
         ensures names { self.new.names ≡ self.old.names }
     {
-        own_edits_are_known(&self.texts);
+        own_edits_are_counted(&self.texts);
         let prepared = match self.texts.prepare_unless_spent(alloc, &edit, false) {
             Ok(prepared) => prepared,
             Err(fault) => return Ok(Some(told_fault(fault)?)),
         };
-        if self.made >= MOST_EDITS {
-            return Err(AllocError);
-        }
         self.last = self.author.give(rt, edit)?;
         self.texts.commit(prepared);
         self.made += 1;

@@ -1,6 +1,6 @@
 //! An author at a running desk: it runs the jobs between two edits, or the workers do.
 
-ghost use Rattle.std.specs.Prelude.{OnOk, OnErr, IfOk, ◌≡◌, Err};
+ghost use Rattle.std.specs.Prelude.{OnOk, OnErr, IfOk, ◌≡◌, ◌≤◌, Err};
 ghost use mathlib.Core.List.{IsPrefix};
 ghost use Rattle.session_views.specs.Knowing.{HasOwnEdit};
 
@@ -14,6 +14,7 @@ use command_answers::SessionFault;
 use core::mem::replace_with;
 use desk::{Accepted, Naming, Viewer};
 use litmus_ppc::Name;
+use memo_engine::graph::LAST;
 use std::alloc::{AllocError, Global};
 use std::sync::Wait;
 use value_store::StoreName;
@@ -35,7 +36,8 @@ fn give_edit<J: Naming + StoreName, R: Wait + Drop, W: Wait>(
     viewer: &mut Viewer<J, StampedTexts>,
     edit: Edit,
 ) -> Result<u64, AllocError>
-    ensures { IfOk result (λ number. HasOwnEdit edit number viewer.old viewer.new) }
+    ensures told { IfOk result (λ number. HasOwnEdit edit number viewer.old viewer.new) }
+    ensures number { IfOk result (λ number. number ≤ LAST) }
 {
     match desk.edit(rt, viewer, edit) {
         Ok(Accepted::Now(number)) => Ok(number),

@@ -1,6 +1,6 @@
 //! The desk of a run, with its workers.
 
-ghost use Rattle.std.specs.Prelude.{◌≡◌, [], ◌-◌, ◌<◌, ◌^◌, length, map, IfOk};
+ghost use Rattle.std.specs.Prelude.{◌≡◌, ◌≢◌, [], ◌-◌, ◌<◌, ◌^◌, length, map, IfOk};
 ghost use Rattle.watch_run.specs.Edits.{model_paths, test_paths};
 ghost use Rattle.watch_run.specs.Boards.{lists_of, KnowsItsTexts, standing};
 ghost use Rattle.watch_run.specs.Runs.{at_first};
@@ -78,7 +78,10 @@ fn run_at<'a, 'd, J: Naming + StoreName, R: AllocGlobal + Wait + Drop>(
 fn hands_of<'d, J: Naming + StoreName, R: Wait + Drop>(
     turnstile: &'d RunningTurnstile<'d, J, R>,
     workers: u32,
-) -> Hands<'d, J, R> {
+) -> Hands<'d, J, R>
+    ensures own { workers ≡ 0 → result ≡ Hands.Own }
+    ensures workers { workers ≢ 0 → result ≡ Hands.Workers turnstile.entry }
+{
     if workers == 0 {
         Hands::Own
     } else {

@@ -1,6 +1,6 @@
 //! What people are told of the versions of files.
 
-ghost use Rattle.std.specs.Prelude.{◌≡◌, List, [], ◌∷◌, Option};
+ghost use Rattle.std.specs.Prelude.{◌≡◌, ◌<◌, List, [], ◌∷◌, Option, IfSome, length};
 ghost use Rattle.watch_run.specs.Readings.{AreReadBetween};
 
 use crate::versions::{Version, Versions};
@@ -23,7 +23,9 @@ pub struct VersionTeller<'a, V, W> {
 }
 
 // The index of this path among others.
-fn index_of(paths: &[&str], path: &str) -> Option<usize> {
+fn index_of(paths: &[&str], path: &str) -> Option<usize>
+    ensures { IfSome result (λ i. i < length paths.now) }
+{
     for index in 0..paths.len() {
         if paths[index] == path {
             return Some(index);
@@ -42,7 +44,11 @@ impl<'a, V: Versions, W: Write> VersionTeller<'a, V, W> {
         tells_tests: bool,
         errors: W,
     ) -> Self
-        ensures { result.versions ≡ versions }
+        ensures versions { result.versions ≡ versions }
+        ensures models { result.models ≡ models.entry }
+        ensures tests { result.tells_tests ≡ tells_tests }
+        ensures errors { result.errors ≡ errors }
+        ensures faults { result.faults.items ≡ [] }
     {
         VersionTeller {
             versions,

@@ -1,7 +1,7 @@
 //! Where the versions of files come from.
 
-ghost use Rattle.std.specs.Prelude.{List, [], ◌∷◌, Option, None};
-ghost use Rattle.watch_run.specs.Readings.{FileReading, AreReadBetween};
+ghost use Rattle.std.specs.Prelude.{◌≡◌, List, [], ◌∷◌, Option, None};
+ghost use Rattle.watch_run.specs.Readings.{FileReading, AreReadBetween, IsNoText};
 
 use command_answers::{OfRead, SessionFault, read_text};
 use std::alloc::Global;
@@ -42,12 +42,17 @@ pub struct FileVersions<'a, R, W> {
 
 impl<'a, R, W: Write> FileVersions<'a, R, W> {
     /// The files that this runtime reaches.
-    pub fn new(rt: &'a R, errors: W) -> Self {
+    pub fn new(rt: &'a R, errors: W) -> Self
+        ensures files { result.rt ≡ rt.entry }
+        ensures errors { result.errors ≡ errors }
+    {
         FileVersions { rt, errors }
     }
 
     // What is said where the file cannot be opened.
-    fn unopened(&mut self, path: &str, error: &io::Error) -> Version {
+    fn unopened(&mut self, path: &str, error: &io::Error) -> Version
+        ensures { IsNoText result }
+    {
         match error.kind() {
             io::ErrorKind::OutOfMemory => Version::OutOfMemory,
             _ => self.unread(path, error),
@@ -64,7 +69,9 @@ impl<'a, R, W: Write> FileVersions<'a, R, W> {
     }
 
     // What cannot be told is left out.
-    fn unread<T: Display>(&mut self, path: &str, reason: &T) -> Version {
+    fn unread<T: Display>(&mut self, path: &str, reason: &T) -> Version
+        ensures { result ≡ Version.Unread }
+    {
         let _ = self.errors.write_fmt(format_args!("{path}: {reason}\n"));
         Version::Unread
     }

@@ -9,7 +9,7 @@ returns-clause-ready g c =
     accepted_ready c.args.edit c.args.session.now.viewer c.tell_desk.new.viewer
     c.args.session.now.made (texts_of c.args.session.now.texts)
     (texts_of c.answer_edit.new.texts) c.in-Ok.answer
-    c.own_edits_are_known.ensures c.own_edits_are_few.ensures c.requires.ready
+    c.own_edits_are_counted.ensures c.requires.ready
     c.in_ok-tell_desk.ensures.told c.in-Ok.ensures.edited (search rules)
 
 pub returns-in_err-tell_desk-clause-shared : goal.returns-in_err-tell_desk-clause-shared
