@@ -3,50 +3,26 @@ use Rattle.std.proofs.Common.{ℕ, ◌+◌, ◌≤◌, ◌≡◌, ◌==◌, true
 use Rattle.std.specs.Str.{bytes_eq}
 use Rattle.std.specs.List.{AllByRecursion as Each}
 use mathlib.Core.List.{head-eq_of_cons-eq, tail-eq_of_cons-eq}
-use Rattle.std.proofs.lemmas.Bool.{cases_Bool, and_parts, and_from, false≢true}
+use Rattle.std.proofs.lemmas.Bool.{cases_Bool}
 use Rattle.std.proofs.lemmas.List.{append-nil}
 use Rattle.std.proofs.lemmas.Slice.Eq.{bytes_eq-Decides}
 use Rattle.bench_items.specs.Items.{RoleContent}
 use Rattle.bench_items.specs.Laws.{KeepsNumbers, TellsNamesApart, HoldsNames}
-use Rattle.binding_kinds.specs.declared.kinds.Kind.{Kind}
-use Rattle.binding_kinds.specs.declared.kinds.Kind.TheVariants.{OfSet, OfRelation, OfAny}
-use Rattle.bench_items.specs.Naming.{SeenName, is_same_kind, is_same_name, seen_names_in, number_in_history, IsInHistory, IsNumberedAlike, AreInHistory, with_new_name, with_names, with_role_names}
+use Rattle.bench_items.specs.Naming.{SeenName, seen_names_in, number_in_history, IsInHistory, IsNumberedAlike, AreInHistory, with_new_name, with_names, with_role_names}
 
 -- ---- names that are the same
 
-itself_kind : (k : Kind) → is_same_kind k k ≡ true
-itself_kind OfSet = refl
-itself_kind OfRelation = refl
-itself_kind OfAny = refl
+itself : (n : SeenName) → bytes_eq n n ≡ true
+itself n = (bytes_eq-Decides n n).1 refl
 
-one_kind : (k l : Kind) → is_same_kind k l ≡ true → k ≡ l
-one_kind OfSet OfSet e = refl
-one_kind OfSet OfRelation e = absurd (false≢true e)
-one_kind OfSet OfAny e = absurd (false≢true e)
-one_kind OfRelation OfSet e = absurd (false≢true e)
-one_kind OfRelation OfRelation e = refl
-one_kind OfRelation OfAny e = absurd (false≢true e)
-one_kind OfAny OfSet e = absurd (false≢true e)
-one_kind OfAny OfRelation e = absurd (false≢true e)
-one_kind OfAny OfAny e = refl
-
-itself : (n : SeenName) → is_same_name n n ≡ true
-itself n =
-    and_from (bytes_eq n.name n.name) (is_same_kind n.kind n.kind)
-    ((bytes_eq-Decides n.name n.name).1 refl) (itself_kind n.kind)
-
-pub one_name : (n m : SeenName) → is_same_name n m ≡ true → n ≡ m
-one_name n m e =
-    let both = and_parts (bytes_eq n.name m.name) (is_same_kind n.kind m.kind) e in
-    let spelt : n.name ≡ m.name = (bytes_eq-Decides n.name m.name).0 both.0 in
-    let kind : n.kind ≡ m.kind = one_kind n.kind m.kind both.1 in
-    λ i. record { name = spelt i; kind = kind i }
+pub one_name : (n m : SeenName) → bytes_eq n m ≡ true → n ≡ m
+one_name n m e = (bytes_eq-Decides n m).0 e
 
 -- ---- numbers of a history
 
 number_within : (h : List SeenName) (a : SeenName) → number_in_history h a ≤ length h
 number_within [] a = omega arith
-number_within (n ∷ h) a = elim (cases_Bool (is_same_name n a)) [
+number_within (n ∷ h) a = elim (cases_Bool (bytes_eq n a)) [
   | inl e ↦ rw e (omega arith)
   | inr f ↦ rw f (let within = number_within h a in omega (arith, within))
 ]
@@ -55,7 +31,7 @@ number_within (n ∷ h) a = elim (cases_Bool (is_same_name n a)) [
 pub number_stays : (h rest : List SeenName) (a : SeenName) → IsInHistory h a
     → number_in_history (h ++ rest) a ≡ number_in_history h a
 number_stays [] rest a lt = absurd (omega (arith, lt))
-number_stays (n ∷ h) rest a lt = elim (cases_Bool (is_same_name n a)) [
+number_stays (n ∷ h) rest a lt = elim (cases_Bool (bytes_eq n a)) [
   | inl e ↦ rw e refl
   | inr f ↦ (
       let here = rw f at lt in
@@ -70,7 +46,7 @@ still_named h rest a lt =
 
 last_named : (h : List SeenName) (a : SeenName) → IsInHistory (h ++ a ∷ []) a
 last_named [] a = rw (itself a) (omega arith)
-last_named (n ∷ h) a = elim (cases_Bool (is_same_name n a)) [
+last_named (n ∷ h) a = elim (cases_Bool (bytes_eq n a)) [
   | inl e ↦ rw e (omega arith)
   | inr f ↦ rw f (let later = last_named h a in omega (arith, later))
 ]
@@ -78,12 +54,12 @@ last_named (n ∷ h) a = elim (cases_Bool (is_same_name n a)) [
 -- two names of one number are one name
 pub number_tells : (h : List SeenName) → TellsNamesApart h
 number_tells [] a b lt same = absurd (omega (arith, lt))
-number_tells (n ∷ h) a b lt same = elim (cases_Bool (is_same_name n a)) [
-  | inl e ↦ elim (cases_Bool (is_same_name n b)) [
+number_tells (n ∷ h) a b lt same = elim (cases_Bool (bytes_eq n a)) [
+  | inl e ↦ elim (cases_Bool (bytes_eq n b)) [
     | inl g ↦ sym (one_name n a e) ∙ one_name n b g
     | inr g ↦ absurd (let now = rw g at (rw e at same) in omega (arith, now))
   ]
-  | inr f ↦ elim (cases_Bool (is_same_name n b)) [
+  | inr f ↦ elim (cases_Bool (bytes_eq n b)) [
     | inl g ↦ absurd (let now = rw g at (rw f at same) in omega (arith, now))
     | inr g ↦ (
         let here = rw f at lt in

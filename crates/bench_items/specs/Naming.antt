@@ -1,11 +1,8 @@
 -- The names of an item as other items see them, and the numbers by which they go: a name's number
 -- is its index in the history of its item, which is the list of the names that the item has had, in
--- the order in which they came. A name whose value comes to be of the other kind is another name.
-use Rattle.std.specs.Prelude.{ℕ, ◌≡◌, ◌<◌, ◌==◌, ◌&&◌, Bool, not, zero, suc, List, [], ◌∷◌, ◌++◌, length, map, bytes_eq, if◌then◌else◌}
+-- the order in which they came. A name stays the same whatever the kind of its value becomes.
+use Rattle.std.specs.Prelude.{ℕ, ◌≡◌, ◌<◌, ◌==◌, zero, suc, List, [], ◌∷◌, ◌++◌, length, map, bytes_eq, if◌then◌else◌}
 use Rattle.std.specs.List.{position_or_len, AllByRecursion as Each}
-use Rattle.binding_kinds.specs.declared.kinds.Kind.{Kind}
-use Rattle.binding_kinds.specs.declared.kinds.Kind.TheVariants.{OfSet, OfRelation, OfAny}
-use Rattle.binding_kinds.specs.Kinds.{is_set_kind, is_relation}
 use Rattle.binding_graph.specs.Contents.{BodyContent, RoleContent, Group, Check, Silent, body_content, role_content}
 use Rattle.binding_graph.specs.declared.resolved.Body.{Body}
 use Rattle.binding_graph.specs.declared.resolved.ResolvedItem.{ResolvedItem}
@@ -18,16 +15,12 @@ role_at (r ∷ rs) (suc i) = role_at rs i
 
 -- ---- names
 
--- a name of a group as other items see it: how it is spelt, and of which kind its value is
-pub record SeenName : Type 0 where
-  pub name : List ℕ
-  pub kind : Kind
-
-abbrev pub seen_name : BodyContent → SeenName
-seen_name b = record { name = b.name; kind = b.code.kind }
+-- a name of a group as other items see it: how it is spelt
+abbrev pub SeenName : Type 0
+SeenName = List ℕ
 
 abbrev pub names_of_bodies : List BodyContent → List SeenName
-names_of_bodies bodies = map seen_name bodies
+names_of_bodies bodies = map (λ b. b.name) bodies
 
 -- the names of a group, in order; a check and a flag have none
 abbrev pub seen_names_in : RoleContent → List SeenName
@@ -40,18 +33,9 @@ body_names bodies = names_of_bodies (map body_content bodies)
 
 -- ---- numbers
 
-abbrev pub is_same_kind : Kind → Kind → Bool
-is_same_kind OfSet k = not (is_relation k)
-is_same_kind OfRelation k = not (is_set_kind k)
-is_same_kind OfAny k = is_set_kind k && is_relation k
-
--- whether two names are spelt alike, and are of one kind
-abbrev pub is_same_name : SeenName → SeenName → Bool
-is_same_name n m = bytes_eq n.name m.name && is_same_kind n.kind m.kind
-
 -- the index of a name in a history, or how many names that has where it is none of them
 abbrev pub number_in_history : List SeenName → SeenName → ℕ
-number_in_history history name = position_or_len (λ n. is_same_name n name) history
+number_in_history history name = position_or_len (λ n. bytes_eq n name) history
 
 -- of the names of a group, in order
 abbrev pub numbers_of : List SeenName → RoleContent → List ℕ

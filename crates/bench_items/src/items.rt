@@ -4,10 +4,11 @@ ghost use Rattle.std.specs.Prelude.{◌≡◌, ◌<◌, vec_len};
 ghost use Rattle.std.specs.Arc.{arc_value};
 ghost use Rattle.bench_items.specs.Naming.{role_at, with_role_names};
 
-use crate::names::{SeenName, first_history, grown_history, item_outputs};
+use crate::names::{first_history, grown_history, item_outputs};
 use binding_graph::{Resolved, ResolvedItem, Role};
 use std::alloc::{AllocError, Global};
 use std::sync::Arc;
+use text_values::Name;
 
 /// An item of a model without fault, with its history, both of which it shares with others.
 /// Contracts see what the item does and the names that it has had.
@@ -16,7 +17,7 @@ pub struct SharedItem {
     index: usize,
     /// The names that the item has had, in the order in which they came, with those that it has
     /// now.
-    history: Arc<Vec<SeenName>>,
+    history: Arc<Vec<Name>>,
     ghost within: { index < vec_len (arc_value resolved).items },
     ghost named: { with_role_names (arc_value history).items
         (role_at (arc_value resolved).items.items index) ≡ (arc_value history).items },
@@ -43,7 +44,7 @@ impl SharedItem {
         alloc: Global,
         role: &Role,
         before: Option<&SharedItem>,
-    ) -> Result<Arc<Vec<SeenName>>, AllocError>
+    ) -> Result<Arc<Vec<Name>>, AllocError>
         ensures { let held = held_history (option_map (λ b. b.now) before.entry) in
             IfOk result (λ h. (arc_value h).items ≡ with_role_names held (role_content role.now)) }
     {
@@ -102,7 +103,7 @@ impl SharedItem {
     }
 
     /// The names that the item has had.
-    pub fn history(&self) -> &[SeenName]
+    pub fn history(&self) -> &[Name]
         ensures { result.now ≡ shared_history self.now }
     {
         &self.history

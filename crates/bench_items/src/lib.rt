@@ -7,4 +7,4 @@ pub mod laws;
 mod names;
 
 pub use items::SharedItem;
-pub use names::{SeenName, number_in_history, only_zero, same_outputs};
+pub use names::{number_in_history, only_zero, same_outputs};

@@ -3,86 +3,24 @@
 ghost use Rattle.std.specs.Prelude.{◌≡◌, ◌↔◌, ◌≤◌, ◌∷◌, [], IfOk, IsTrue, length, map};
 ghost use Rattle.std.specs.List.{AllByRecursion as Each};
 ghost use Rattle.std.specs.Arc.{arc_value};
-ghost use Rattle.binding_graph.specs.Contents.{body_content, role_content};
-ghost use Rattle.bench_items.specs.Naming.{seen_name, seen_names_in, body_names, is_same_kind, number_in_history, numbers_of, IsInHistory, IsNumberedAlike};
+ghost use Rattle.binding_graph.specs.Contents.{role_content};
+ghost use Rattle.bench_items.specs.Naming.{seen_names_in, body_names, number_in_history, numbers_of, IsInHistory, IsNumberedAlike};
 ghost use Rattle.bench_items.specs.Naming.{with_new_name, with_names, with_role_names, item_outputs};
 
-use binding_graph::{Body, Kind, Role};
+use binding_graph::{Body, Role};
 use std::alloc::{AllocError, Global};
-use std::marker::Model;
 use std::sync::Arc;
+use text_copies::copied_names;
 use text_values::Name;
 
-/// A name of a group as other items see it. Contracts see it as plain data.
-pub struct SeenName {
-    /// How it is spelt.
-    pub name: Name,
-    /// Of which kind its value is.
-    pub kind: Kind,
-}
-
-impl Drop for SeenName {
-    fn drop(self) {
-        let SeenName { name: _, kind: _ } = self;
-    }
-}
-
-impl Model for SeenName {
-    ghost use Rattle.bench_items.specs.Naming as naming;
-
-    ghost Value = { naming.SeenName };
-
-    ghost view = { λ n. record { name = n.name; kind = n.kind } };
-}
-
-fn is_same_kind(this: Kind, that: Kind) -> bool
-    ensures { result ≡ is_same_kind this that }
-{
-    this == that
-}
-
-impl SeenName {
-    ghost use Rattle.std.specs.Prelude.{◌≡◌, IfOk};
-    ghost use Rattle.binding_graph.specs.Contents.{body_content};
-    ghost use Rattle.bench_items.specs.Naming.{seen_name, is_same_name};
-
-    // The name of a body. Errors: out of memory.
-    fn of_body(alloc: Global, body: &Body) -> Result<SeenName, AllocError>
-        ensures { IfOk result (λ n. n ≡ seen_name (body_content body.now)) }
-    {
-        Ok(SeenName {
-            name: body.name.copied(alloc)?,
-            kind: body.code.kind,
-        })
-    }
-
-    // A copy. Errors: out of memory.
-    fn copied(&self, alloc: Global) -> Result<SeenName, AllocError>
-        ensures { IfOk result (λ n. n ≡ self.now) }
-    {
-        Ok(SeenName {
-            name: self.name.copied(alloc)?,
-            kind: self.kind,
-        })
-    }
-
-    // Whether it is spelt so, and of that kind.
-    fn is(&self, name: &[u8], kind: Kind) -> bool
-        ensures { result ≡ is_same_name self.now (record { name = name.now; kind = kind }) }
-    {
-        self.name.as_bytes() == name && is_same_kind(self.kind, kind)
-    }
-}
-
-/// The number of a name of a kind: its index in a history, or how many names that has where it is
-/// none of them.
-pub fn number_in_history(history: &[SeenName], name: &[u8], kind: Kind) -> usize
-    ensures number { result
-        ≡ number_in_history history.now (record { name = name.now; kind = kind }) }
+/// The number of a name: its index in a history, or how many names that has where it is none of
+/// them.
+pub fn number_in_history(history: &[Name], name: &[u8]) -> usize
+    ensures number { result ≡ number_in_history history.now name.now }
     ensures within { result ≤ length history.now }
 {
     for index in 0..history.len() {
-        if history[index].is(name, kind) {
+        if history[index].as_bytes() == name {
             return index;
         }
     }
@@ -90,11 +28,11 @@ pub fn number_in_history(history: &[SeenName], name: &[u8], kind: Kind) -> usize
 }
 
 // The number of the name of a body.
-fn body_number(history: &[SeenName], body: &Body) -> usize
-    ensures number { result ≡ number_in_history history.now (seen_name (body_content body.now)) }
+fn body_number(history: &[Name], body: &Body) -> usize
+    ensures number { result ≡ number_in_history history.now body.now.name }
     ensures within { result ≤ length history.now }
 {
-    number_in_history(history, body.name.as_bytes(), body.code.kind)
+    number_in_history(history, body.name.as_bytes())
 }
 
 // The bodies of a group.
@@ -109,7 +47,7 @@ fn bodies_in(role: &Role) -> &[Body]
 }
 
 // Whether the names of these bodies are in a history.
-fn are_named(history: &[SeenName], bodies: &[Body]) -> bool
+fn are_named(history: &[Name], bodies: &[Body]) -> bool
     ensures { IsTrue result ↔ Each (IsInHistory history.now) (body_names bodies.now) }
 {
     for body in bodies {
@@ -121,17 +59,17 @@ fn are_named(history: &[SeenName], bodies: &[Body]) -> bool
 }
 
 // Adds the name of a body to a history, where it is none of its names yet.
-fn put_name(alloc: Global, history: &mut Vec<SeenName>, body: &Body) -> Result<(), AllocError>
+fn put_name(alloc: Global, history: &mut Vec<Name>, body: &Body) -> Result<(), AllocError>
     ensures { IfOk result (λ _. history.new.items
-        ≡ with_new_name history.old.items (seen_name (body_content body.now))) }
+        ≡ with_new_name history.old.items body.now.name) }
 {
     if body_number(history, body) == history.len() {
-        history.push(SeenName::of_body(alloc, body)?)?;
+        history.push(body.name.copied(alloc)?)?;
     }
     Ok(())
 }
 
-fn put_names(alloc: Global, history: &mut Vec<SeenName>, bodies: &[Body]) -> Result<(), AllocError>
+fn put_names(alloc: Global, history: &mut Vec<Name>, bodies: &[Body]) -> Result<(), AllocError>
     ensures { IfOk result (λ _. history.new.items
         ≡ with_names history.old.items (body_names bodies.now)) }
 {
@@ -141,23 +79,12 @@ fn put_names(alloc: Global, history: &mut Vec<SeenName>, bodies: &[Body]) -> Res
     Ok(())
 }
 
-// Copies of names, in order. Errors: out of memory.
-fn copied_names(alloc: Global, names: &[SeenName]) -> Result<Vec<SeenName>, AllocError>
-    ensures { IfOk result (λ v. v.items ≡ names.now) }
-{
-    let mut copies = Vec::with_capacity(alloc, names.len())?;
-    for name in names {
-        copies.push(name.copied(alloc)?)?;
-    }
-    Ok(copies)
-}
-
 // A history with the names of these bodies that are not in it yet.
 fn more_names(
     alloc: Global,
-    history: &[SeenName],
+    history: &[Name],
     bodies: &[Body],
-) -> Result<Arc<Vec<SeenName>>, AllocError>
+) -> Result<Arc<Vec<Name>>, AllocError>
     ensures { IfOk result (λ h. (arc_value h).items
         ≡ with_names history.now (body_names bodies.now)) }
 {
@@ -167,7 +94,7 @@ fn more_names(
 }
 
 /// The history of an item that does this, of which nothing was known before. Errors: out of memory.
-pub(crate) fn first_history(alloc: Global, role: &Role) -> Result<Arc<Vec<SeenName>>, AllocError>
+pub(crate) fn first_history(alloc: Global, role: &Role) -> Result<Arc<Vec<Name>>, AllocError>
     ensures { IfOk result (λ h. (arc_value h).items ≡ with_role_names [] (role_content role.now)) }
 {
     more_names(alloc, &[], bodies_in(role))
@@ -178,9 +105,9 @@ pub(crate) fn first_history(alloc: Global, role: &Role) -> Result<Arc<Vec<SeenNa
 #[tactic(auto, using(crate::proofs::Naming::names_stay))]
 pub(crate) fn grown_history(
     alloc: Global,
-    history: &Arc<Vec<SeenName>>,
+    history: &Arc<Vec<Name>>,
     role: &Role,
-) -> Result<Arc<Vec<SeenName>>, AllocError>
+) -> Result<Arc<Vec<Name>>, AllocError>
     ensures { IfOk result (λ h. (arc_value h).items
         ≡ with_role_names (arc_value history.now).items (role_content role.now)) }
 {
@@ -192,7 +119,7 @@ pub(crate) fn grown_history(
     }
 }
 
-fn numbers_of(alloc: Global, history: &[SeenName], bodies: &[Body]) -> Result<Vec<u64>, AllocError>
+fn numbers_of(alloc: Global, history: &[Name], bodies: &[Body]) -> Result<Vec<u64>, AllocError>
     ensures { IfOk result (λ v. v.items
         ≡ map (number_in_history history.now) (body_names bodies.now)) }
 {
@@ -217,7 +144,7 @@ pub fn only_zero(alloc: Global) -> Result<Vec<u64>, AllocError>
 pub(crate) fn item_outputs(
     alloc: Global,
     role: &Role,
-    history: &[SeenName],
+    history: &[Name],
 ) -> Result<Vec<u64>, AllocError>
     ensures { IfOk result (λ v. v.items ≡ item_outputs (role_content role.now) history.now) }
 {
@@ -229,7 +156,7 @@ pub(crate) fn item_outputs(
 }
 
 // Whether the names of these bodies have the same numbers in two histories.
-fn are_numbered_alike(these: &[SeenName], those: &[SeenName], bodies: &[Body]) -> bool
+fn are_numbered_alike(these: &[Name], those: &[Name], bodies: &[Body]) -> bool
     ensures { IsTrue result ↔ Each (IsNumberedAlike these.now those.now) (body_names bodies.now) }
 {
     for body in bodies {
@@ -242,7 +169,7 @@ fn are_numbered_alike(these: &[SeenName], those: &[SeenName], bodies: &[Body]) -
 
 /// Whether the outputs of an item that does this go by the same numbers with two histories.
 #[tactic(auto, using(crate::proofs::Naming::numbers_alike, crate::proofs::Naming::alike_numbers))]
-pub fn same_outputs(role: &Role, these: &[SeenName], those: &[SeenName]) -> bool
+pub fn same_outputs(role: &Role, these: &[Name], those: &[Name]) -> bool
     ensures { IsTrue result
         ↔ (item_outputs (role_content role.now) these.now
         ≡ item_outputs (role_content role.now) those.now) }

@@ -8,6 +8,7 @@ pub mod Once
 pub mod Jobs
 pub mod Given
 pub mod JobLists
+pub mod ListRuns
 pub mod TaskLists
 pub mod Unreached
 pub mod SameVerdicts

@@ -9,6 +9,7 @@ use Rattle.memo_core.specs.declared.keys.Kind.TheVariants as kinds
 use Rattle.memo_core.specs.declared.keys.Node.{Node}
 use Rattle.memo_core.specs.Step.{Has}
 use Rattle.binding_graph.specs.Contents.{BodyContent, RoleContent, Group, Check, Silent}
+use Rattle.binding_shapes.specs.Shapes.{role_shape}
 use Rattle.bench_items.specs.Naming.{SeenName, names_of_bodies, number_in_history, item_outputs}
 use Rattle.bench_nodes.specs.declared.table.Slot.{Slot}
 use Rattle.bench_nodes.specs.declared.table.SlotKey.{SlotKey}
@@ -42,7 +43,7 @@ module _ (s : PartsState) (models : List ModelReading) (built : IsBuilt s models
 
   begun_given : (test : ℕ) (keys : List SlotKey) → BeginsAsItem s of keys
       → given_item (contents s (keys_at test keys))
-      ≡ Some (ForItem does (item_outputs does history))
+      ≡ Some (ForItem (role_shape does) (item_outputs does history))
   begun_given test keys b =
       ap (λ (ks : List SlotKey). given_item (contents s (keys_at test ks))) b.1
       ∙ ap (λ (c : Option PartContent). given_item (c ∷ contents s (keys_at test b.0))) known
@@ -50,7 +51,7 @@ module _ (s : PartsState) (models : List ModelReading) (built : IsBuilt s models
   kind_given : (kind : Kind) (test : ℕ) (g : GivenContent)
       → (has_slot ss kind of ≡ true → BeginsAsItem s of (slot_keys ss kind of))
       → given_item (contents s (keys_at test (slot_keys ss kind of))) ≡ Some g
-      → g ≡ ForItem does (item_outputs does history)
+      → g ≡ ForItem (role_shape does) (item_outputs does history)
   kind_given kind test g begins e = elim (cases_Bool (has_slot ss kind of)) [
     | inl t ↦ given_is (sym (begun_given test (slot_keys ss kind of) (begins t)) ∙ e)
     | inr f ↦ (
@@ -62,20 +63,20 @@ module _ (s : PartsState) (models : List ModelReading) (built : IsBuilt s models
 
   group_given : (test : ℕ) (g : GivenContent)
       → given_item (contents s (keys_at test (slot_keys ss kinds.Group of))) ≡ Some g
-      → g ≡ ForItem does (item_outputs does history)
+      → g ≡ ForItem (role_shape does) (item_outputs does history)
   group_given test g e =
       kind_given kinds.Group test g
       (λ t. (good_slot s models kinds.Group of built.slots built.models_in t).1) e
 
   check_given : (test : ℕ) (g : GivenContent)
       → given_item (contents s (keys_at test (slot_keys ss kinds.Check of))) ≡ Some g
-      → g ≡ ForItem does (item_outputs does history)
+      → g ≡ ForItem (role_shape does) (item_outputs does history)
   check_given test g e =
       kind_given kinds.Check test g
       (λ t. (good_slot s models kinds.Check of built.slots built.models_in t).1) e
 
   node_given : (role : RoleContent) (test : ℕ) (g : GivenContent)
-      → given_to_node s (item_node role test of) ≡ Some g → g ≡ ForItem does (item_outputs does history)
+      → given_to_node s (item_node role test of) ≡ Some g → g ≡ ForItem (role_shape does) (item_outputs does history)
   node_given (Group recursive bodies) test g e = group_given test g e
   node_given (Check negated word code flag) test g e = check_given test g e
   node_given Silent test g e = group_given test g e
@@ -83,13 +84,13 @@ module _ (s : PartsState) (models : List ModelReading) (built : IsBuilt s models
 item_given : (t : StampedTexts) → AreSoundTexts t → (test item : ℕ) (does : RoleContent)
     → IsItemOfTexts t item does → (g : GivenContent)
     → given_to_node (stamped_state t) (item_node does test item) ≡ Some g
-    → g ≡ ForItem does (item_outputs does (histories (stamped_state t) item))
+    → g ≡ ForItem (role_shape does) (item_outputs does (histories (stamped_state t) item))
 item_given t sound test item does is g e =
     let s = stamped_state t in
     let held = item_held t sound item does is in
     node_given s (readings_of t.parts.table.models.items t.texts.models.items)
     (sound.parts_are).built item does held.0 held.1 does test g e
-    ∙ ap (λ (h : List SeenName). ForItem does (item_outputs does h))
+    ∙ ap (λ (h : List SeenName). ForItem (role_shape does) (item_outputs does h))
     (sym (held_history_is s item does held.0 held.1))
 
 -- ---- the numbers that are told

@@ -1,12 +1,13 @@
 -- The number of an output tells its name.
 use Rattle.std.proofs.Common.{◌≡◌, ℕ, zero, suc, ◌+◌, inl, inr, List, [], ◌∷◌, length, map, codes, Option, Some, None, option_map, slice_get, refl, sym, ap, subst, ◌∙◌, arith}
 use Rattle.std.specs.List.{AllByRecursion as Each}
+use Rattle.std.specs.Str.{bytes_eq}
 use Rattle.std.proofs.lemmas.Bool.{cases_Bool}
 use Rattle.std.proofs.lemmas.Option.{none-some, slice_get-map}
 use Rattle.memo_core.specs.Step.{Has}
-use Rattle.binding_graph.specs.Contents.{BodyContent, RoleContent, Group, Check, Silent, role_content}
+use Rattle.binding_graph.specs.Contents.{RoleContent, Group, Check, Silent, role_content}
 use Rattle.binding_graph.specs.declared.resolved.ResolvedItem.{ResolvedItem}
-use Rattle.bench_items.specs.Naming.{SeenName, names_of_bodies, is_same_name, number_in_history, IsInHistory, AreInHistory, item_outputs}
+use Rattle.bench_items.specs.Naming.{SeenName, names_of_bodies, number_in_history, IsInHistory, AreInHistory, item_outputs}
 use Rattle.bench_items.proofs.Naming.{one_name}
 use Rattle.bench_nodes.specs.declared.table.ModelRow.{ModelRow}
 use Rattle.bench_slots.specs.Tables.{ModelReading}
@@ -34,7 +35,7 @@ later_at n h k = ap (slice_get (n ∷ h)) (one_more k)
 -- the number of a name is the index at which the history has it
 named_at : (h : List SeenName) (a : SeenName) → IsInHistory h a → slice_get h (number_in_history h a) ≡ Some a
 named_at [] a lt = absurd (omega (arith, lt))
-named_at (n ∷ h) a lt = elim (cases_Bool (is_same_name n a)) [
+named_at (n ∷ h) a lt = elim (cases_Bool (bytes_eq n a)) [
   | inl e ↦ rw e (ap (λ (m : SeenName). let o : Option SeenName = Some m in o) (one_name n a e))
   | inr f ↦ (
       let here = rw f at lt in
@@ -55,26 +56,20 @@ each_at P (y ∷ ys) (suc i) x all e = each_at P ys i x all.1 e
 number_some : {a b : ℕ} → Some a ≡ Some b → a ≡ b
 number_some e = cc
 
-names_alike : (bodies : List BodyContent)
-    → map (λ n. n.name) (names_of_bodies bodies) ≡ map (λ b. b.name) bodies
-names_alike [] = refl
-names_alike (b ∷ bs) = ap (λ (ns : List (List ℕ)). b.name ∷ ns) (names_alike bs)
-
 seen_by : (h names : List SeenName) (index number : ℕ) → Each (IsInHistory h) names
     → (o : Option SeenName) → slice_get names index ≡ o
-    → option_map (number_in_history h) o ≡ Some number → seen_at h number ≡ option_map (λ n. n.name) o
+    → option_map (number_in_history h) o ≡ Some number → seen_at h number ≡ o
 seen_by h names index number all None e is = absurd (none-some number is)
 seen_by h names index number all (Some n) e is =
-    ap (λ (k : ℕ). seen_at h k) (sym (number_some is)) ∙ ap (option_map (λ (n : SeenName). n.name))
-    (named_at h n (each_at (IsInHistory h) names index n all e))
+    ap (λ (k : ℕ). seen_at h k) (sym (number_some is))
+    ∙ named_at h n (each_at (IsInHistory h) names index n all e)
 
 seen_names : (h names : List SeenName) (index number : ℕ) → Each (IsInHistory h) names
     → slice_get (map (number_in_history h) names) index ≡ Some number
-    → seen_at h number ≡ slice_get (map (λ n. n.name) names) index
+    → seen_at h number ≡ slice_get names index
 seen_names h names index number all is =
     seen_by h names index number all (slice_get names index) refl
     (sym (slice_get-map (number_in_history h) names index) ∙ is)
-    ∙ sym (slice_get-map (λ (n : SeenName). n.name) names index)
 
 only_check : (name : List ℕ) (index number : ℕ) → slice_get (0 ∷ []) index ≡ Some number
     → only_name name number ≡ slice_get (name ∷ []) index
@@ -85,8 +80,7 @@ named_by : (does : RoleContent) (h : List SeenName) (index number : ℕ) → Are
     → slice_get (item_outputs does h) index ≡ Some number
     → name_by (content_node_kind does) h number ≡ slice_get (names_given does) index
 named_by (Group recursive bodies) h index number all is =
-    seen_names h (names_of_bodies bodies) index number all is ∙ ap
-    (λ (ns : List (List ℕ)). slice_get ns index) (names_alike bodies)
+    seen_names h (names_of_bodies bodies) index number all is
 named_by (Check negated word code flag) h index number all is =
     only_check (codes "check") index number is
 named_by Silent h index number all is = absurd (none-some number is)

@@ -3,6 +3,7 @@ pub mod There
 pub mod Stamps
 pub mod Jobs
 pub mod JobLists
+pub mod ListRuns
 pub mod Unreached
 pub mod OnlyReached
 pub mod UsedOnce

@@ -6,6 +6,7 @@ use Rattle.memo_core.specs.declared.claims.StoredOutputs.{StoredOutputs}
 use Rattle.memo_core.specs.Run.{Returned, Step}
 use Rattle.memo_core.specs.Step.{Has, Return}
 use Rattle.binding_graph.specs.Contents.{RoleContent}
+use Rattle.binding_shapes.specs.Shapes.{role_shape}
 use Rattle.bench_items.specs.Naming.{item_outputs}
 use Rattle.bench_values.specs.Givens.{GivenContent, ForItem}
 use Rattle.bench_values.specs.Makes.{output_names}
@@ -45,11 +46,11 @@ pub record TellsOutputOf (t : StampedTexts) (test item : ℕ) (does : RoleConten
   pub told_is : output_name (histories (stamped_state t)) (item_node does test item) number
       ≡ Some name
 
--- the job was given what the item does, with the numbers of its outputs, and each of these numbers
--- tells one of them, by its name
+-- the job was given what the item does, kinds left out, with the numbers of its outputs, and each of
+-- these numbers tells one of them, by its name
 pub record TellsItem (t : StampedTexts) (r : Return NodeContent GivenContent) (test item : ℕ)
     (does : RoleContent) (numbers : List ℕ) : Type 0 where
-  pub given_is : r.given ≡ ForItem does (item_outputs does (histories (stamped_state t) item))
+  pub given_is : r.given ≡ ForItem (role_shape does) (item_outputs does (histories (stamped_state t) item))
   pub each : Each (TellsOutputOf t test item does) numbers
 
 -- The numbers that a return of the node of an item tells are those of outputs of the item that the

@@ -17,6 +17,7 @@ ghost use Rattle.bench_laws.specs.Stamps.{HasLowStamps, ChangedOutputIsNewer};
 ghost use Rattle.bench_laws.specs.There.{HoldsAfterEvents, HasJustItsCells, ShowsRight};
 ghost use Rattle.bench_laws.specs.Jobs.{JobsAreAccepted, ClaimsStayOut, UnsettledIsGiven, GivenIsBounded, EditBoundsGiven};
 ghost use Rattle.bench_laws.specs.JobLists.{ListBoundsGiven, ListAcceptsJobs};
+ghost use Rattle.bench_laws.specs.ListRuns.{ListsAreTheirRuns};
 ghost use Rattle.bench_laws.specs.Refusals.{RefusedChangesNothing, RefusedEditChangesNothing};
 ghost use Rattle.bench_laws.specs.OutputNames.{OutputsHaveTheirNames, OthersHaveOneOutput};
 ghost use Rattle.bench_laws.specs.ToldOutputs.{ReturnsTellOutputs, ReturnsNameOutputs};
@@ -88,6 +89,12 @@ pub fn lists_are_runs()
 {
     cells::laws::listed::<StampedTexts>();
 }
+
+/// Its run is that of the list's own events: each has one reply, and by it is one event of the
+/// bench, or none where a return is of no job or its job is refused.
+pub fn lists_are_their_runs()
+    ensures { ListsAreTheirRuns live_meaning live_refusing live_last }
+{}
 
 /// What evaluating a test under a model from nothing gives is one outcome: any two that satisfy its
 /// definition are equal.

@@ -17,6 +17,7 @@ use Rattle.bench_nodes.specs.declared.table.SlotKey.TheVariants as slots
 use Rattle.bench_nodes.specs.declared.table.TestRow.{TestRow}
 use Rattle.bench_nodes.specs.Nodes.{used, keys_at, is_slot, has_slot, slot_keys, thread_parts, row_of, row_parts, space_keys, node_inputs}
 use Rattle.bench_nodes.proofs.Laws.{used_test, used_slot}
+use Rattle.binding_shapes.specs.Shapes.{role_shape}
 use Rattle.bench_values.specs.Givens.{GivenContent, ForItem}
 use Rattle.bench_items.specs.Items.{RoleContent}
 use Rattle.bench_items.specs.Naming.{SeenName, item_outputs}
@@ -77,7 +78,7 @@ module _ (s : PartsState) where
   -- ---- what items and verdicts are given
 
   item_given : (test of : ℕ) (keys : List SlotKey) (b : BeginsAsItem s of keys)
-      → given_item (contents s (keys_at test keys)) ≡ Some (ForItem b.2 (item_outputs b.2 b.3))
+      → given_item (contents s (keys_at test keys)) ≡ Some (ForItem (role_shape b.2) (item_outputs b.2 b.3))
   item_given test of keys b =
       ap (λ (ks : List SlotKey). given_item (contents s (keys_at test ks))) b.1
       ∙ ap (λ (c : Option PartContent). given_item (c ∷ contents s (keys_at test b.0))) b.4
@@ -99,7 +100,7 @@ module _ (s : PartsState) where
     item_outputs_there kind test of name g begins has e = elim (cases_Bool (has_slot ss kind of)) [
       | inl t ↦ (
           let b = begins t in
-          let is : ForItem b.2 (item_outputs b.2 b.3) ≡ g = some_given (sym (item_given test of (slot_keys ss kind of) b) ∙ e) in
+          let is : ForItem (role_shape b.2) (item_outputs b.2 b.3) ≡ g = some_given (sym (item_given test of (slot_keys ss kind of) b) ∙ e) in
           let part : OfRole b.2 b.3 ≡ OfRole has.0 has.1 = some_part (sym b.4 ∙ has.2) in
           let role : b.2 ≡ has.0 = part_role part in
           let history : b.3 ≡ has.1 = part_names part in

@@ -18,8 +18,8 @@ use Rattle.bench_nodes.specs.declared.table.Slot.{Slot}
 use Rattle.bench_nodes.specs.declared.table.SlotKey.{SlotKey}
 use Rattle.bench_nodes.specs.declared.table.SlotKey.TheVariants as slots
 use Rattle.bench_nodes.specs.Nodes.{is_slot, has_slot, slot_keys}
-use Rattle.bench_items.specs.Items.{RoleContent, held_history, body_content, role_content}
-use Rattle.bench_items.specs.Naming.{SeenName, seen_name, item_outputs, seen_names_in, body_names, number_in_history}
+use Rattle.bench_items.specs.Items.{BodyContent, RoleContent, held_history, body_content, role_content}
+use Rattle.bench_items.specs.Naming.{SeenName, item_outputs, seen_names_in, body_names, number_in_history}
 use Rattle.bench_items.specs.declared.items.SharedItem.{SharedItem}
 use Rattle.bench_slots.proofs.Lists.{each_append, has_map}
 use Rattle.bench_slots.specs.Slots.{PlainSlot, plain, number_at, item_history, no_name, name_of, input_name, function_key, name_key, space_key, item_keys, slots_of, item_slots, used_slots, flag_key, answer_key, key_by, keys_by, verdict_keys, sound_slots}
@@ -72,7 +72,7 @@ role_has_name : (role : Role) (p : ℕ) (history : List SeenName) → p < name_c
     (get_or (seen_names_in (role_content role)) p no_name))
 role_has_name (roles.Group recursive bodies) p history lt =
     let names = body_names bodies.items in
-    let many : length names ≡ length bodies.items = length-map (map body_content bodies.items) seen_name ∙ length-map bodies.items body_content in
+    let many : length names ≡ length bodies.items = length-map (map body_content bodies.items) (λ (b : BodyContent). b.name) ∙ length-map bodies.items body_content in
     has_map (number_in_history history) names (get_or names p no_name)
     (has_at names p no_name (omega (arith, many, lt)))
 role_has_name (roles.Check check) p history lt = absurd (omega (arith, lt))

@@ -23,8 +23,9 @@ use Rattle.bench_slot_laws.proofs.Roles.{roles_again}
 use Rattle.bench_nodes.specs.declared.table.SlotKey.{SlotKey}
 use Rattle.bench_nodes.specs.declared.table.SlotKey.TheVariants as slots
 use Rattle.bench_nodes.specs.Nodes.{part_stamp, has_slot, slot_keys, keys_at}
+use Rattle.binding_shapes.specs.Shapes.{role_shape}
 use Rattle.bench_values.specs.Givens.{ForItem}
-use Rattle.bench_items.specs.Items.{RoleContent, role_content}
+use Rattle.bench_items.specs.Items.{role_content}
 use Rattle.bench_items.specs.Naming.{SeenName, AreInHistory, item_outputs}
 use Rattle.bench_slots.specs.Slots.{PlainSlot, number_at, item_keys, slots_of, item_slots, used_slots, verdict_keys, sound_slots}
 use Rattle.bench_slots.specs.Tables.{ModelReading, Sound, Faulty, space_slots, slots_in, all_slots}
@@ -183,8 +184,8 @@ module _ (w : WrittenState) (whole : IsWholeState w) where
     -- what its job is given
     pub given_is : (test : ℕ)
         → given_item (contents w.state (keys_at test keys))
-        ≡ Some (ForItem (role_content a.item.role) (item_outputs (role_content a.item.role)
-        (histories w.state of)))
+        ≡ Some (ForItem (role_shape (role_content a.item.role))
+        (item_outputs (role_content a.item.role) (histories w.state of)))
     given_is test =
         ap (λ (ks : List SlotKey). given_item (contents w.state (keys_at test ks))) a.keys_are
         ∙ ap
@@ -272,7 +273,5 @@ module _ (w v : WrittenState) (since : IsStateSince w v) (of : ℕ) (old new : L
       (item_in w since.whole of old a x.0 x.1) (item_in v since.still_whole of new b y.0 y.1) test
       same_keys said_again in
       given_is v since.still_whole of new b test
-      ∙ ap (λ (role : RoleContent). Some (ForItem role (item_outputs role (histories v.state of))))
-      again.0
-      ∙ ap (λ (ns : List ℕ). Some (ForItem (role_content a.item.role) ns)) again.1
+      ∙ (λ i. Some (ForItem (again.0 i) (again.1 i)))
       ∙ sym (given_is w since.whole of old a test)

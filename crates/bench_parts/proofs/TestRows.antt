@@ -132,7 +132,7 @@ thread_stamps fresh held ts stamps e h k = elim (leb_tells (suc k) (length ts)) 
 
 -- ---- the row before
 
-row_low : (last : ℕ) (r : TestRow) (t : Test) → IsTestRow last r t → (part : ℕ)
+pub row_low : (last : ℕ) (r : TestRow) (t : Test) → IsTestRow last r t → (part : ℕ)
     → stamp_in r part ≤ last
 row_low last r t w =
     by_part (λ part. stamp_in r part ≤ last) w.condition.1 w.observed.1 w.locations.1 w.init.1

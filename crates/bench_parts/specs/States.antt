@@ -15,6 +15,7 @@ use Rattle.memo_core.specs.Graph.{Net}
 use Rattle.memo_core.specs.Names.{kind_number}
 use Rattle.memo_core.specs.Right.{Making}
 use Rattle.memo_core.specs.Step.{Has}
+use Rattle.binding_shapes.specs.Shapes.{role_shape}
 use Rattle.bench_values.specs.Givens.{GivenContent, ForSpace, ForItem, ForVerdict, ForFault}
 use Rattle.bench_items.specs.Items.{Check}
 use Rattle.bench_items.specs.Naming.{item_outputs}
@@ -91,14 +92,15 @@ verdict_given kind proposition (Some (OfFault fault) ∷ cs) flags =
     Some (ForFault (record { kind = kind; proposition = proposition; fault = fault }))
 verdict_given kind proposition _ flags = None
 
--- a space begins with initial values, an item with what it does, of which the history numbers the
--- outputs, a verdict with a condition
+-- a space begins with initial values, an item with what it does, given without kinds, of which the
+-- history numbers the outputs, a verdict with a condition
 abbrev pub given_space : List (Option PartContent) → Option GivenContent
 given_space (Some (OfInit init) ∷ cs) = space_given init [] cs
 given_space _ = None
 
 abbrev pub given_item : List (Option PartContent) → Option GivenContent
-given_item (Some (OfRole role history) ∷ cs) = Some (ForItem role (item_outputs role history))
+given_item (Some (OfRole role history) ∷ cs) =
+    Some (ForItem (role_shape role) (item_outputs role history))
 given_item _ = None
 
 abbrev pub given_verdict : List (Option PartContent) → List (Option (List ℕ)) → Option GivenContent

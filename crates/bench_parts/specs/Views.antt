@@ -9,6 +9,7 @@ use Rattle.bench_nodes.specs.declared.table.SlotKey.{SlotKey}
 use Rattle.bench_nodes.specs.declared.table.SlotKey.TheVariants as slots
 use Rattle.bench_nodes.specs.declared.table.TestRow.{TestRow}
 use Rattle.bench_nodes.specs.Nodes.{keys_at}
+use Rattle.binding_shapes.specs.Shapes.{role_shape}
 use Rattle.bench_values.specs.Givens.{GivenContent, ForSpace, ForItem, ForVerdict, ForFault, asked, faulted}
 use Rattle.bench_items.specs.Items.{shared_role, shared_history, shared_outputs}
 use Rattle.bench_values.specs.Parts.{parts_of}
@@ -97,7 +98,8 @@ flags_from s test keys (Some f) =
 abbrev pub given_of : PartsState → ℕ → NodeParts → GivenContent
 given_of s test (parts.Space init threads locations) =
     ForSpace (parts_of init.now threads.now locations.now)
-given_of s test (parts.Item item) = ForItem (shared_role item.now) (shared_outputs item.now)
+given_of s test (parts.Item item) =
+    ForItem (role_shape (shared_role item.now)) (shared_outputs item.now)
 given_of s test (parts.Verdict condition observed keys) =
     ForVerdict (asked condition.now observed.now (flags_read s (keys_at test keys.now)
     (keys_at test keys.now)))

@@ -15,15 +15,15 @@ use Rattle.binding_graph.specs.declared.resolved.ResolvedItem.{ResolvedItem}
 use Rattle.binding_graph.specs.declared.resolved.Role.{Role}
 use Rattle.binding_graph.specs.declared.resolved.Role.TheVariants as roles
 use Rattle.binding_laws.specs.ItemLaws.{SayTheSame}
-use Rattle.binding_laws.specs.Reread as reread
-use Rattle.binding_laws.specs.Reread.{ReadModel, HasNumber, IsItemOf, seen_body, bodies_of, seen_at, seen_input, seen_function, UseTheSame, IsSeenInput, IsSeenFunction}
+use Rattle.binding_laws.specs.Reread.{ReadModel, HasNumber, IsItemOf, bodies_of, seen_at, seen_input, seen_function, UseTheSame, IsSeenInput, IsSeenFunction}
 use Rattle.binding_laws.proofs.Again.{items_again}
 use Rattle.binding_laws.proofs.Visible.{uses_seen}
+use Rattle.binding_shapes.specs.Shapes.{role_shape}
+use Rattle.bench_items.proofs.Shaped.{shaped_outputs}
 use Rattle.bench_items.specs.Items.{RoleContent, Group, Check, Silent, role_content}
 use Rattle.bench_items.specs.Naming.{SeenName, seen_names_in, body_names, number_in_history, IsInHistory, AreInHistory, item_outputs}
 use Rattle.bench_items.proofs.Naming.{number_stays, still_named, number_tells}
 use Rattle.bench_nodes.specs.declared.table.SlotKey.{SlotKey}
-use Rattle.bench_nodes.specs.declared.table.SlotKey.TheVariants as slots
 use Rattle.bench_nodes.specs.Nodes.{keys_at}
 use Rattle.bench_slots.specs.Slots.{no_name, name_of, input_name, number_at, function_key, name_key, space_key}
 use Rattle.bench_slot_laws.specs.Roles.{AreBeforeAndAfter, IsSaidAgain, AreSaidAgain, keys_in, RolesStay}
@@ -83,39 +83,33 @@ behind : {A B : Type 0} (f : A → B) (o : Option A) (b : B) → option_map f o 
 behind f None b e = absurd (none-some b e)
 behind f (Some a) b e = (a, refl, same_Some _ _ e)
 
-abbrev seen_of : reread.SeenName → SeenName
-seen_of n = record { name = n.name; kind = n.kind }
-
-abbrev back_of : SeenName → reread.SeenName
-back_of n = record { name = n.name; kind = n.kind }
-
-body_seen : (bs : List Body) (p : ℕ) (s : reread.SeenName)
-    → option_map seen_body (slice_get bs p) ≡ Some s → get_or (body_names bs) p no_name ≡ seen_of s
+body_seen : (bs : List Body) (p : ℕ) (s : List ℕ)
+    → option_map (λ b. b.name) (slice_get bs p) ≡ Some s → get_or (body_names bs) p no_name ≡ s
 body_seen [] p s e = absurd (none-some s e)
-body_seen (b ∷ bs) zero s e = ap seen_of (same_Some _ _ e)
+body_seen (b ∷ bs) zero s e = same_Some _ _ e
 body_seen (b ∷ bs) (suc p) s e = body_seen bs p s e
 
-role_seen : (role : Role) (p : ℕ) (s : reread.SeenName)
-    → option_map seen_body (slice_get (bodies_of role) p) ≡ Some s
-    → get_or (seen_names_in (role_content role)) p no_name ≡ seen_of s
+role_seen : (role : Role) (p : ℕ) (s : List ℕ)
+    → option_map (λ b. b.name) (slice_get (bodies_of role) p) ≡ Some s
+    → get_or (seen_names_in (role_content role)) p no_name ≡ s
 role_seen (roles.Group recursive bodies) p s e = body_seen bodies.items p s e
 role_seen (roles.Check c) p s e = absurd (none-some s e)
 role_seen roles.Silent p s e = absurd (none-some s e)
 
-name_seen : (o : Option ResolvedItem) (p : ℕ) (s : reread.SeenName) → seen_at o p ≡ Some s
-    → name_of o p ≡ seen_of s
+name_seen : (o : Option ResolvedItem) (p : ℕ) (s : List ℕ) → seen_at o p ≡ Some s
+    → name_of o p ≡ s
 name_seen None p s e = absurd (none-some s e)
 name_seen (Some r) p s e = role_seen r.role p s e
 
-body_named : (h : List SeenName) (bs : List Body) (p : ℕ) (s : reread.SeenName)
-    → Each (IsInHistory h) (body_names bs) → option_map seen_body (slice_get bs p) ≡ Some s
+body_named : (h : List SeenName) (bs : List Body) (p : ℕ) (s : List ℕ)
+    → Each (IsInHistory h) (body_names bs) → option_map (λ b. b.name) (slice_get bs p) ≡ Some s
     → IsInHistory h (get_or (body_names bs) p no_name)
 body_named h [] p s all e = absurd (none-some s e)
 body_named h (b ∷ bs) zero s all e = all.0
 body_named h (b ∷ bs) (suc p) s all e = body_named h bs p s all.1 e
 
-role_named : (h : List SeenName) (role : Role) (p : ℕ) (s : reread.SeenName)
-    → AreInHistory h (role_content role) → option_map seen_body (slice_get (bodies_of role) p) ≡ Some s
+role_named : (h : List SeenName) (role : Role) (p : ℕ) (s : List ℕ)
+    → AreInHistory h (role_content role) → option_map (λ b. b.name) (slice_get (bodies_of role) p) ≡ Some s
     → IsInHistory h (get_or (seen_names_in (role_content role)) p no_name)
 role_named h (roles.Group recursive bodies) p s all e = body_named h bodies.items p s all e
 role_named h (roles.Check c) p s all e = absurd (none-some s e)
@@ -181,7 +175,7 @@ module _ (ps : List Predefined) (m w : ReadModel) (histories later : ℕ → Lis
       → IsInHistory (histories (number_at m.numbers i.item)) (input_name m.resolved i)
   input_named i a =
       by_item (slice_get m.resolved i.item) refl
-      (ap (λ (p : Option ℕ × Option reread.SeenName). p.1) a.seen)
+      (ap (λ (p : Option ℕ × Option (List ℕ)). p.1) a.seen)
     where
       by_item : (o : Option ResolvedItem) → slice_get m.resolved i.item ≡ o
           → seen_at o i.position ≡ Some a.name
@@ -197,8 +191,8 @@ module _ (ps : List Predefined) (m w : ReadModel) (histories later : ℕ → Lis
       let n : ℕ = number_at m.numbers i.item in
       let old : SeenName = input_name m.resolved i in
       let new : SeenName = input_name w.resolved j in
-      let at_i : HasNumber m i.item a.number = ap (λ (p : Option ℕ × Option reread.SeenName). p.0) a.seen in
-      let at_j : HasNumber w j.item b.number = ap (λ (p : Option ℕ × Option reread.SeenName). p.0) b.seen in
+      let at_i : HasNumber m i.item a.number = ap (λ (p : Option ℕ × Option (List ℕ)). p.0) a.seen in
+      let at_j : HasNumber w j.item b.number = ap (λ (p : Option ℕ × Option (List ℕ)). p.0) b.seen in
       let own : n ≡ number_at w.numbers j.item = ap (λ (p : ℕ × ℕ). p.0) e in
       let number : a.number ≡ b.number = sym (number_is m i.item a.number at_i) ∙ own ∙ number_is w j.item b.number at_j in
       let here : HasNumber m i.item n = at_i ∙ ap (λ (k : ℕ). Some k) (sym (number_is m i.item a.number at_i)) in
@@ -209,10 +203,10 @@ module _ (ps : List Predefined) (m w : ReadModel) (histories later : ℕ → Lis
       let stays : number_in_history (later n) old ≡ number_in_history (histories n) old = ap (λ (h : List SeenName). number_in_history h old) more.1 ∙ number_stays (histories n) more.0 old named in
       let same : number_in_history (later n) old ≡ number_in_history (later n) new = stays ∙ ap (λ (p : ℕ × ℕ). p.1) e ∙ ap (λ (k : ℕ). number_in_history (later k) new) (sym own) in
       let one : old ≡ new = number_tells (later n) old new still same in
-      let old_is : old ≡ seen_of a.name = name_seen (slice_get m.resolved i.item) i.position a.name (ap (λ (p : Option ℕ × Option reread.SeenName). p.1) a.seen) in
-      let new_is : new ≡ seen_of b.name = name_seen (slice_get w.resolved j.item) j.position b.name (ap (λ (p : Option ℕ × Option reread.SeenName). p.1) b.seen) in
-      let name : a.name ≡ b.name = ap back_of (sym old_is ∙ one ∙ new_is) in
-      let pair : ◌≡◌ {A = Option ℕ × Option reread.SeenName} (Some a.number, Some a.name) (Some b.number, Some b.name) = λ d. (Some (number d), Some (name d)) in
+      let old_is : old ≡ a.name = name_seen (slice_get m.resolved i.item) i.position a.name (ap (λ (p : Option ℕ × Option (List ℕ)). p.1) a.seen) in
+      let new_is : new ≡ b.name = name_seen (slice_get w.resolved j.item) j.position b.name (ap (λ (p : Option ℕ × Option (List ℕ)). p.1) b.seen) in
+      let name : a.name ≡ b.name = sym old_is ∙ one ∙ new_is in
+      let pair : ◌≡◌ {A = Option ℕ × Option (List ℕ)} (Some a.number, Some a.name) (Some b.number, Some b.name) = λ d. (Some (number d), Some (name d)) in
       a.seen ∙ pair ∙ sym b.seen
 
   inputs_alike : (is js : List Input) → Each (IsSeenInput m) is → Each (IsSeenInput w) js
@@ -280,17 +274,18 @@ module _ (ps : List Predefined) (m w : ReadModel) (histories later : ℕ → Lis
     say_same : SayTheSame x y
     say_same = said number (inl refl) k l x y at.has_number at.text also.has_number also.text
 
-    role_again : role_content q.role ≡ role_content r.role
+    role_again : role_shape (role_content q.role) ≡ role_shape (role_content r.role)
     role_again =
         sym (items_again ps m w number k l x y r q beside.sound beside.still beside.order at also
         say_same uses_same)
 
-    outputs_again : item_outputs (role_content r.role) (later number)
+    outputs_again : item_outputs (role_content q.role) (later number)
         ≡ item_outputs (role_content r.role) (histories number)
     outputs_again =
         let more = beside.grown number k l at.has_number also.has_number in
         let named : AreInHistory (histories number) (role_content r.role) = subst (λ (n : ℕ). AreInHistory (histories n) (role_content r.role)) (number_is m k number at.has_number) (beside.named k r at.item) in
-        ap (item_outputs (role_content r.role)) more.1
+        shaped_outputs (role_content q.role) (role_content r.role) (later number) role_again
+        ∙ ap (item_outputs (role_content r.role)) more.1
         ∙ outputs_stay (role_content r.role) (histories number) more.0 named
 
 pub roles_again : RolesStay

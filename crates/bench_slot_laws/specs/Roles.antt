@@ -1,5 +1,5 @@
--- After edits of its model an item does what it did, by its keys and by the texts among them: the
--- law `roles_stay`. Read it after Slots of bench_slots and Reread of binding_laws.
+-- After edits of its model an item does what it did, kinds left out, by its keys and by the texts
+-- among them: the law `roles_stay`. Read it after Slots of bench_slots and Reread of binding_laws.
 use Rattle.std.specs.Prelude.{◌≡◌, ℕ, List, ◌++◌, slice_get, Some}
 use Rattle.text_values.specs.declared.model.Item.{Item}
 use Rattle.text_values.specs.declared.predefined.Predefined.{Predefined}
@@ -9,6 +9,7 @@ use Rattle.memo_core.specs.Step.{Has}
 use Rattle.binding_graph.specs.declared.resolved.ResolvedItem.{ResolvedItem}
 use Rattle.binding_laws.specs.ItemLaws.{SayTheSame}
 use Rattle.binding_laws.specs.Reread.{ReadModel, HasNumber, outer_namings, IsReadModel, AreInOneOrder, IsItemOf}
+use Rattle.binding_shapes.specs.Shapes.{role_shape}
 use Rattle.bench_items.specs.Items.{role_content}
 use Rattle.bench_items.specs.Naming.{SeenName, AreInHistory, item_outputs}
 use Rattle.bench_nodes.specs.Nodes.{keys_at}
@@ -53,8 +54,8 @@ IsSaidAgain m w number =
 abbrev pub AreSaidAgain : ReadModel → ReadModel → List Key → Type 0
 AreSaidAgain m w keys = (number : ℕ) → Has keys (Part 0 number) → IsSaidAgain m w number
 
--- an item with the keys that it had does what it did, and its outputs go by the numbers by which
--- they went, where each text among the keys says what it said
+-- an item with the keys that it had does what it did, kinds left out, and its outputs go by the
+-- numbers by which they went, where each text among the keys says what it said
 abbrev pub RolesStay : Type 0
 RolesStay =
     (ps : List Predefined) (m w : ReadModel) (histories later : ℕ → List SeenName)
@@ -63,6 +64,6 @@ RolesStay =
     → IsItemOf w number l y q
     → (test : ℕ) → keys_in later w number q test ≡ keys_in histories m number r test
     → AreSaidAgain m w (keys_in histories m number r test)
-    → (role_content q.role ≡ role_content r.role)
-    × (item_outputs (role_content r.role) (later number)
+    → (role_shape (role_content q.role) ≡ role_shape (role_content r.role))
+    × (item_outputs (role_content q.role) (later number)
     ≡ item_outputs (role_content r.role) (histories number))

@@ -3,8 +3,7 @@ use Rattle.std.proofs.Common.{ℕ, zero, suc, ◌+◌, ◌<◌, ◌≤◌, ◌�
 use Rattle.std.proofs.lemmas.Bool.{cases_lt}
 use Rattle.std.proofs.lemmas.List.{drop_all}
 use Rattle.binding_graph.specs.declared.resolved.Body.{Body}
-use Rattle.bench_items.specs.Naming.{seen_name, body_names}
-use Rattle.bench_items.specs.Items.{body_content}
+use Rattle.bench_items.specs.Naming.{body_names}
 use Rattle.bench_items.specs.declared.items.SharedItem.{SharedItem}
 use Rattle.bench_nodes.specs.declared.table.ItemRow.{ItemRow}
 use Rattle.bench_slots.specs.Slots.{no_name, item_history}
@@ -41,7 +40,7 @@ past_rows rows roles i n past = elim (cases_lt i (length rows)) [
 -- ---- names
 
 pub body_name_at : (bodies : List Body) (p : ℕ) (b : Body) → p < length bodies
-    → b ≡ get_or bodies p b → seen_name (body_content b) ≡ get_or (body_names bodies) p no_name
+    → b ≡ get_or bodies p b → b.name ≡ get_or (body_names bodies) p no_name
 body_name_at [] p b lt at = absurd (omega (arith, lt))
-body_name_at (x ∷ xs) zero b lt at = ap (λ (c : Body). seen_name (body_content c)) at
+body_name_at (x ∷ xs) zero b lt at = ap (λ (c : Body). c.name) at
 body_name_at (x ∷ xs) (suc p) b lt at = body_name_at xs p b (omega (arith, lt)) at

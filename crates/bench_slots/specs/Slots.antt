@@ -4,7 +4,6 @@
 use Rattle.std.specs.Prelude.{ℕ, ◌==◌, List, [], ◌∷◌, ◌++◌, map, get_or, slice_get, Option, Some, None, if◌then◌else◌}
 use Rattle.memo_core.specs.declared.keys.Kind.{Kind}
 use Rattle.memo_core.specs.declared.keys.Kind.TheVariants as kinds
-use Rattle.binding_kinds.specs.declared.kinds.Kind.TheVariants.{OfAny}
 use Rattle.binding_kinds.specs.declared.scope.Input.{Input}
 use Rattle.binding_graph.specs.declared.resolved.ResolvedItem.{ResolvedItem}
 use Rattle.binding_graph.specs.declared.resolved.Role.{Role}
@@ -48,9 +47,9 @@ histories_in h = item_history h.rows.now h.roles.now
 
 -- where there is no name
 abbrev pub no_name : SeenName
-no_name = record { name = []; kind = OfAny }
+no_name = []
 
--- the name at a position of an item, with its kind
+-- the name at a position of an item
 abbrev pub name_of : Option ResolvedItem → ℕ → SeenName
 name_of None position = no_name
 name_of (Some r) position = get_or (seen_names_in (role_content r.role)) position no_name

@@ -4,8 +4,9 @@ ghost use Rattle.std.specs.Prelude.{◌≡◌};
 ghost use Rattle.bench_items.specs.Items.{held_history};
 ghost use Rattle.bench_slots.specs.Slots.{item_history};
 
-use bench_items::{SeenName, SharedItem};
+use bench_items::SharedItem;
 use bench_nodes::ItemRow;
+use text_values::Name;
 
 /// The items by their numbers, and beside each what it does, with its history.
 #[derive(Clone, Copy)]
@@ -17,7 +18,7 @@ pub struct Histories<'h> {
 }
 
 // The names that an item has had, none where it was never known what it does.
-fn held_history(role: &Option<SharedItem>) -> &[SeenName]
+fn held_history(role: &Option<SharedItem>) -> &[Name]
     ensures { result.now ≡ held_history role.now }
 {
     match role {
@@ -31,7 +32,7 @@ pub(crate) fn item_history<'h>(
     rows: &'h [ItemRow],
     roles: &'h [Option<SharedItem>],
     number: u64,
-) -> &'h [SeenName]
+) -> &'h [Name]
     ensures { result.now ≡ item_history rows.now roles.now number }
 {
     for at in 0..rows.len().min(roles.len()) {

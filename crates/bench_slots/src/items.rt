@@ -9,7 +9,7 @@ ghost use Rattle.bench_slots.specs.Slots.{plain, number_at, histories_in, no_nam
 use crate::histories::{Histories, item_history};
 use bench_items::number_in_history;
 use bench_nodes::{Slot, SlotKey};
-use binding_graph::{Input, Kind as ValueKind, ResolvedItem, Role};
+use binding_graph::{Input, ResolvedItem, Role};
 use memo_core::keys::Kind;
 use std::alloc::{AllocError, Global};
 
@@ -50,32 +50,31 @@ fn function_keys(
     Ok(keys)
 }
 
-// The name at a position of an item with its kind, an empty one where there is none.
-fn bound_name(role: &Role, position: usize) -> (&[u8], ValueKind)
-    ensures { record { name = result.0.now; kind = result.1 }
-        ≡ get_or (seen_names_in (role_content role.now)) position no_name }
+// The name at a position of an item, an empty one where there is none.
+fn bound_name(role: &Role, position: usize) -> &[u8]
+    ensures { result.now ≡ get_or (seen_names_in (role_content role.now)) position no_name }
 {
     match role {
         Role::Group { bodies, .. } => {
             if position < bodies.len() {
                 let body = &bodies[position];
-                (body.name.as_bytes(), body.code.kind)
+                body.name.as_bytes()
             } else {
-                (&[], ValueKind::OfAny)
+                &[]
             }
         }
-        Role::Check(_) => (&[], ValueKind::OfAny),
-        Role::Silent => (&[], ValueKind::OfAny),
+        Role::Check(_) => &[],
+        Role::Silent => &[],
     }
 }
 
-// The name that an input is with its kind, an empty one where it is none.
-fn input_name<'i>(items: &'i [ResolvedItem], input: &Input) -> (&'i [u8], ValueKind)
-    ensures { record { name = result.0.now; kind = result.1 } ≡ input_name items.now input.now }
+// The name that an input is, an empty one where it is none.
+fn input_name<'i>(items: &'i [ResolvedItem], input: &Input) -> &'i [u8]
+    ensures { result.now ≡ input_name items.now input.now }
 {
     match items.get(input.item) {
         Some(item) => bound_name(&item.role, input.position),
-        None => (&[], ValueKind::OfAny),
+        None => &[],
     }
 }
 
@@ -90,8 +89,7 @@ fn name_key(
 {
     let own = number_at(numbers, input.item);
     let history = item_history(histories.rows, histories.roles, own);
-    let (name, kind) = input_name(items, input);
-    let number = number_in_history(history, name, kind);
+    let number = number_in_history(history, input_name(items, input));
     SlotKey::Value(Kind::Group, own, number as u64)
 }
 

@@ -23,7 +23,9 @@ use Rattle.verdict.specs.Kept.{Flag, of_raised}
 use Rattle.bench_items.specs.Items.{RoleContent, role_content}
 use Rattle.bench_items.specs.Naming.{SeenName, item_outputs}
 use Rattle.bench_values.specs.Givens.{ForItem}
-use Rattle.bench_values.specs.Makes.{ItemMakes, Makes, HasGroupColumns, HasCheckAnswers, checks_among, flags_among, IsVerdictOutcome}
+use Rattle.binding_shapes.specs.Shapes.{role_shape, role_with}
+use Rattle.binding_shapes.proofs.Shaped.{role_by_shape}
+use Rattle.bench_values.specs.Makes.{column_kind, role_over, ItemMakes, Makes, HasGroupColumns, HasCheckAnswers, checks_among, flags_among, IsVerdictOutcome}
 use Rattle.bench_values.specs.Spaces.{SpaceContent, space_content, no_executions}
 use Rattle.bench_values.specs.Values.{NodeContent, first_space, space_of, columns_of, answers_of}
 use Rattle.bench_values.specs.Views.{verdict_parts}
@@ -44,37 +46,55 @@ space_missing values s is none =
 
 -- ---- columns, answers and outcomes over it
 
-pub columns_over : (r : Role) (values : List NodeContent) (s : Space)
-    (inputs found : List (Bor Column)) (x : Result (Vec Column Global) AllocError)
-    → space_content s ≡ space_of values → inputs ≡ found
-    → map (λ c. c.now) found ≡ columns_of values → IfOk x (λ v. ColumnsOf r inputs s v.items)
-    → IfOk x (λ v. HasGroupColumns (role_content r) (space_of values) (columns_of values) v.items)
-columns_over r values s inputs found (Ok v) over same are made = record {
-  read = r;
-  reading = refl;
-  over = s;
-  shown = over;
-  inputs = inputs;
-  are = ap (λ (l : List (Bor Column)). map (λ c. c.now) l) same ∙ are;
-  values = made;
-}
-columns_over r values s inputs found (Err e) over same are made = tt
+-- the role that was made is that of the shape over these columns
+pub role_made : (r made : RoleContent) (columns : List Column)
+    → made ≡ role_with (map column_kind columns) r → made ≡ role_over (role_shape r) columns
+role_made r made columns is = is ∙ sym (role_by_shape (map column_kind columns) r)
 
-pub answers_over : (r : Role) (values : List NodeContent) (s : Space)
-    (inputs found : List (Bor Column)) (x : Result (Vec Bool Global) AllocError)
-    → space_content s ≡ space_of values → inputs ≡ found
-    → map (λ c. c.now) found ≡ columns_of values → IfOk x (λ v. AnswersOf r inputs s v.items)
-    → IfOk x (λ v. HasCheckAnswers (role_content r) (space_of values) (columns_of values) v.items)
-answers_over r values s inputs found (Ok v) over same are made = record {
+-- the role that was made for the inputs is that of their columns
+read_over : (r : Role) (shape : RoleContent) (values : List NodeContent)
+    (inputs found more : List (Bor Column)) → more ≡ found
+    → map (λ c. c.now) found ≡ columns_of values
+    → role_content r ≡ role_over shape (map (λ c. c.now) more)
+    → role_content r ≡ role_over shape (columns_of values)
+read_over r shape values inputs found more same are read =
+    read ∙ ap (role_over shape) (ap (λ (l : List (Bor Column)). map (λ c. c.now) l) same ∙ are)
+
+pub columns_over : (r : Role) (shape : RoleContent) (values : List NodeContent) (s : Space)
+    (inputs found more : List (Bor Column)) (x : Result (Vec Column Global) AllocError)
+    → space_content s ≡ space_of values → inputs ≡ found → more ≡ found
+    → map (λ c. c.now) found ≡ columns_of values
+    → role_content r ≡ role_over shape (map (λ c. c.now) more)
+    → IfOk x (λ v. ColumnsOf r inputs s v.items)
+    → IfOk x (λ v. HasGroupColumns shape (space_of values) (columns_of values) v.items)
+columns_over r shape values s inputs found more (Ok v) over same also are read made = record {
   read = r;
-  reading = refl;
+  reading = read_over r shape values inputs found more also are read;
   over = s;
   shown = over;
   inputs = inputs;
   are = ap (λ (l : List (Bor Column)). map (λ c. c.now) l) same ∙ are;
   values = made;
 }
-answers_over r values s inputs found (Err e) over same are made = tt
+columns_over r shape values s inputs found more (Err e) over same also are read made = tt
+
+pub answers_over : (r : Role) (shape : RoleContent) (values : List NodeContent) (s : Space)
+    (inputs found more : List (Bor Column)) (x : Result (Vec Bool Global) AllocError)
+    → space_content s ≡ space_of values → inputs ≡ found → more ≡ found
+    → map (λ c. c.now) found ≡ columns_of values
+    → role_content r ≡ role_over shape (map (λ c. c.now) more)
+    → IfOk x (λ v. AnswersOf r inputs s v.items)
+    → IfOk x (λ v. HasCheckAnswers shape (space_of values) (columns_of values) v.items)
+answers_over r shape values s inputs found more (Ok v) over same also are read made = record {
+  read = r;
+  reading = read_over r shape values inputs found more also are read;
+  over = s;
+  shown = over;
+  inputs = inputs;
+  are = ap (λ (l : List (Bor Column)). map (λ c. c.now) l) same ∙ are;
+  values = made;
+}
+answers_over r shape values s inputs found more (Err e) over same also are read made = tt
 
 pub outcome_over : (parts : VerdictParts) (values : List NodeContent) (s : Space)
     (observed : List Place) (checks : List (List Bool)) (flags : List Flag)
@@ -93,10 +113,10 @@ outcome_over parts values s observed checks flags (Err e) over shows are raised 
 
 pub item_over : (r : Role) (role : RoleContent) (history : List SeenName)
     (values : List NodeContent) (x : Result (Vec NodeContent Global) AllocError)
-    → role_content r ≡ role → IfOk x (λ v. ItemMakes (role_content r) values v.items)
-    → IfOk x (λ v. Makes (ForItem role (item_outputs role history)) values v.items)
+    → role_content r ≡ role → IfOk x (λ v. ItemMakes (role_shape (role_content r)) values v.items)
+    → IfOk x (λ v. Makes (ForItem (role_shape role) (item_outputs role history)) values v.items)
 item_over r role history values (Ok v) is made =
-    let here : ItemMakes role values v.items = subst (λ (q : RoleContent). ItemMakes q values v.items) is made in
+    let here : ItemMakes (role_shape role) values v.items = subst (λ (q : RoleContent). ItemMakes (role_shape q) values v.items) is made in
     (here, item_many role history (space_of values) (columns_of values) v.items here)
 item_over r role history values (Err e) is made = tt
 

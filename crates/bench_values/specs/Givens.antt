@@ -40,17 +40,17 @@ faulted condition fault =
       fault = fault;
     }
 
--- An item is given as what it does, wherever it stands among the items, and with the numbers by
--- which its outputs go.
+-- An item is given as its shape, wherever it stands among the items, and with the numbers by which
+-- its outputs go: the kinds of the names that it uses are those of their values.
 pub data GivenContent : Type 0 where
   ForSpace : (parts : SpacePartsContent) → GivenContent
-  ForItem : (role : RoleContent) (numbers : List ℕ) → GivenContent
+  ForItem : (shape : RoleContent) (numbers : List ℕ) → GivenContent
   ForVerdict : (parts : VerdictPartsContent) → GivenContent
   ForFault : (parts : FaultPartsContent) → GivenContent
 
 -- which checks a verdict is told to be flags
 abbrev pub given_flags : GivenContent → List (Option (List ℕ))
 given_flags (ForSpace parts) = []
-given_flags (ForItem role numbers) = []
+given_flags (ForItem shape numbers) = []
 given_flags (ForVerdict parts) = parts.flags
 given_flags (ForFault parts) = []

@@ -7,8 +7,12 @@ use Rattle.text_values.specs.TestValue.{Formula}
 use Rattle.litmus_printing.specs.Printing.{condition_text}
 use Rattle.ppc_semantics.specs.declared.fault.EvalRefusal.{EvalRefusal}
 use Rattle.candidates.specs.declared.candidate.Space.{Space}
+use Rattle.binding_kinds.specs.declared.kinds.Kind.{Kind}
+use Rattle.binding_kinds.specs.declared.kinds.Kind.TheVariants.{OfSet, OfRelation}
 use Rattle.binding_graph.specs.declared.resolved.Role.{Role}
+use Rattle.binding_shapes.specs.Shapes.{role_with}
 use Rattle.cat_eval.specs.declared.column.Column.{Column}
+use Rattle.cat_eval.specs.declared.column.Column.TheVariants as columns
 use Rattle.cat_eval.specs.Columns.{ColumnsOf}
 use Rattle.cat_eval.specs.Values.{AnswersOf}
 use Rattle.verdict.specs.declared.answer.Outcome.{Outcome}
@@ -21,7 +25,7 @@ use Rattle.bench_values.specs.Givens.{VerdictPartsContent, GivenContent, ForSpac
 use Rattle.bench_items.specs.Items.{RoleContent, Group, Check, Silent, role_content}
 use Rattle.bench_values.specs.Parts.{SpacePartsContent, IsPartSpace, IsPartRefusal}
 use Rattle.bench_values.specs.Spaces.{SpaceContent, space_content}
-use Rattle.bench_values.specs.Values.{NodeContent, OfSpace, OfRefusal, OfColumn, OfCheck, OfOutcome, space_of, refusal_of, columns_of, answers_of}
+use Rattle.bench_values.specs.Values.{NodeContent, OfSpace, OfRefusal, OfColumn, OfCheck, OfOutcome, column_value, space_of, refusal_of, columns_of, answers_of}
 
 -- the space of the parts, or why they have none
 abbrev pub IsSpaceValue : SpacePartsContent → NodeContent → Type 0
@@ -31,12 +35,21 @@ IsSpaceValue parts (OfColumn column) = ⊥
 IsSpaceValue parts (OfCheck answers) = ⊥
 IsSpaceValue parts (OfOutcome outcome) = ⊥
 
--- the columns of the names of an item that does this over a space, from the columns of the names
--- that it uses
-pub record HasGroupColumns (role : RoleContent) (space : SpaceContent) (columns : List Column)
+-- of which kind the values of a column are
+abbrev pub column_kind : Column → Kind
+column_kind (columns.Sets values) = OfSet
+column_kind (columns.Relations values) = OfRelation
+
+-- what an item of this shape does where the names that it uses have these columns
+abbrev pub role_over : RoleContent → List Column → RoleContent
+role_over shape columns = role_with (map column_kind columns) shape
+
+-- the columns of the names of an item of this shape over a space, from the columns of the names that
+-- it uses
+pub record HasGroupColumns (shape : RoleContent) (space : SpaceContent) (columns : List Column)
     (cs : List Column) : Type 0 where
   pub read : Role
-  pub reading : role_content read ≡ role
+  pub reading : role_content read ≡ role_over shape columns
   pub over : Space
   pub shown : space_content over ≡ space
   pub inputs : List (Bor Column)
@@ -44,10 +57,10 @@ pub record HasGroupColumns (role : RoleContent) (space : SpaceContent) (columns 
   pub values : ColumnsOf read inputs over cs
 
 -- the answers of a check or a flag, likewise
-pub record HasCheckAnswers (role : RoleContent) (space : SpaceContent) (columns : List Column)
+pub record HasCheckAnswers (shape : RoleContent) (space : SpaceContent) (columns : List Column)
     (answers : List Bool) : Type 0 where
   pub read : Role
-  pub reading : role_content read ≡ role
+  pub reading : role_content read ≡ role_over shape columns
   pub over : Space
   pub shown : space_content over ≡ space
   pub inputs : List (Bor Column)
@@ -57,7 +70,7 @@ pub record HasCheckAnswers (role : RoleContent) (space : SpaceContent) (columns 
 -- a group gives the column of each of its names, a check or a flag its answers
 abbrev pub RoleMakes : RoleContent → SpaceContent → List Column → List NodeContent → Type 0
 RoleMakes (Group recursive bodies) space columns outputs =
-    (cs : List Column) × (outputs ≡ map OfColumn cs)
+    (cs : List Column) × (outputs ≡ map column_value cs)
     × HasGroupColumns (Group recursive bodies) space columns cs
 RoleMakes (Check negated word code flag) space columns outputs =
     (answers : List Bool) × (outputs ≡ OfCheck answers ∷ [])
@@ -98,16 +111,16 @@ IsVerdictOver (Some refusal) parts values o =
     o ≡ refused parts.kind parts.proposition (refusals.Space refusal)
 IsVerdictOver None parts values o = IsVerdictOutcome parts (space_of values) (answers_of values) o
 
--- what an item gives
+-- what an item of this shape gives
 abbrev pub ItemMakes : RoleContent → List NodeContent → List NodeContent → Type 0
-ItemMakes role values outputs = RoleMakes role (space_of values) (columns_of values) outputs
+ItemMakes shape values outputs = RoleMakes shape (space_of values) (columns_of values) outputs
 
 -- what a node gives: an item as many values as it has numbers
 abbrev pub Makes : GivenContent → List NodeContent → List NodeContent → Type 0
 Makes (ForSpace parts) values outputs =
     (v : NodeContent) × (outputs ≡ v ∷ []) × IsSpaceValue parts v
-Makes (ForItem role numbers) values outputs =
-    ItemMakes role values outputs × (length outputs ≡ length numbers)
+Makes (ForItem shape numbers) values outputs =
+    ItemMakes shape values outputs × (length outputs ≡ length numbers)
 Makes (ForVerdict parts) values outputs =
     (o : Outcome) × (outputs ≡ OfOutcome o ∷ []) × IsVerdictOver (refusal_of values) parts values o
 Makes (ForFault parts) values outputs =
@@ -117,6 +130,6 @@ Makes (ForFault parts) values outputs =
 
 abbrev pub output_names : GivenContent → List ℕ
 output_names (ForSpace parts) = 0 ∷ []
-output_names (ForItem role numbers) = numbers
+output_names (ForItem shape numbers) = numbers
 output_names (ForVerdict parts) = 0 ∷ []
 output_names (ForFault parts) = 0 ∷ []

@@ -1,8 +1,10 @@
 -- What a node holds, as plain data: contracts see a `NodeValue` so.
-use Rattle.std.specs.Prelude.{Bool, List, [], ◌∷◌, Option, Some, None, unwrap_or}
+use Rattle.std.specs.Prelude.{ℕ, zero, suc, Bool, List, [], ◌∷◌, Option, Some, None, unwrap_or}
 use Rattle.std.specs.List.{filter_map}
 use Rattle.ppc_semantics.specs.declared.fault.EvalRefusal.{EvalRefusal}
 use Rattle.cat_eval.specs.declared.column.Column.{Column}
+use Rattle.cat_eval.specs.declared.column.Column.TheVariants as columns
+use Rattle.cat_eval.specs.Values.{column_len}
 use Rattle.verdict.specs.declared.answer.Outcome.{Outcome}
 use Rattle.bench_values.specs.Spaces.{SpaceContent, no_executions}
 
@@ -14,6 +16,15 @@ pub data NodeContent : Type 0 where
   OfColumn : (column : Column) → NodeContent
   OfCheck : (answers : List Bool) → NodeContent
   OfOutcome : (outcome : Outcome) → NodeContent
+
+-- the column, where it has values; without any, it is of no kind
+abbrev pub column_of : ℕ → Column → Column
+column_of zero column = columns.Sets []
+column_of (suc n) column = column
+
+-- the value of a name: columns without a value are one, those of sets as those of relations
+abbrev pub column_value : Column → NodeContent
+column_value column = OfColumn (column_of (column_len column) column)
 
 -- ---- what the values of a node's inputs hold
 

@@ -1,4 +1,5 @@
 -- What contracts see of what is held and of what is given.
+use Rattle.binding_shapes.specs.Shapes.{role_shape}
 use Rattle.bench_values.specs.Givens.{asked, faulted, VerdictPartsContent, FaultPartsContent, GivenContent, ForSpace, ForItem, ForVerdict, ForFault}
 use Rattle.bench_items.specs.Items.{shared_role, shared_outputs}
 use Rattle.bench_values.specs.Parts.{SpacePartsContent, parts_of}
@@ -30,6 +31,6 @@ fault_parts p = faulted p.condition p.fault
 
 abbrev pub given_content : GivenParts → GivenContent
 given_content (givens.Space parts) = ForSpace (space_parts parts)
-given_content (givens.Item item) = ForItem (shared_role item) (shared_outputs item)
+given_content (givens.Item item) = ForItem (role_shape (shared_role item)) (shared_outputs item)
 given_content (givens.Verdict parts) = ForVerdict (verdict_parts parts)
 given_content (givens.Fault parts) = ForFault (fault_parts parts)

@@ -1,6 +1,7 @@
 //! What nodes are given, made of the texts.
 
 ghost use Rattle.std.specs.Prelude.{◌≡◌, IfOk};
+ghost use Rattle.binding_shapes.specs.Shapes.{role_shape};
 ghost use Rattle.bench_values.specs.Givens.{ForSpace, ForItem, ForVerdict, ForFault, asked, faulted};
 ghost use Rattle.bench_items.specs.Items.{shared_role, shared_outputs};
 ghost use Rattle.bench_values.specs.Parts.{parts_of};
@@ -32,7 +33,8 @@ impl Given {
 
     /// What a group, a check or a flag is given that is this item. Errors: out of memory.
     pub fn of_item(alloc: Global, item: &SharedItem) -> Result<Given, AllocError>
-        ensures { IfOk result (λ g. g ≡ ForItem (shared_role item.now) (shared_outputs item.now)) }
+        ensures { let shape = role_shape (shared_role item.now) in
+            IfOk result (λ g. g ≡ ForItem shape (shared_outputs item.now)) }
     {
         Given::new(alloc, GivenParts::Item(item.again()?))
     }

@@ -2,15 +2,17 @@
 
 ghost use Rattle.std.specs.Prelude.{◌≡◌, ◌↔◌, IsTrue, IfOk};
 ghost use Rattle.text_values.specs.TestValue.{formula_of};
+ghost use Rattle.binding_shapes.specs.Shapes.{role_shape};
 ghost use Rattle.bench_values.specs.Givens.{ForSpace, ForItem, ForVerdict, ForFault, asked, faulted, given_flags};
 ghost use Rattle.bench_items.specs.Items.{shared_role, shared_outputs};
 ghost use Rattle.bench_values.specs.Makes.{output_names};
 ghost use Rattle.bench_values.specs.Parts.{parts_of};
 ghost use Rattle.bench_values.specs.Views.{given_content};
 
-use crate::same::{same_flags, same_role, same_threads};
+use crate::same::{same_flags, same_threads};
 use bench_items::{SharedItem, only_zero, same_outputs};
 use binding_graph::ModelFault;
+use binding_shapes::same_shape;
 use std::alloc::{AllocError, Global};
 use std::marker::Model;
 use std::sync::Arc;
@@ -54,8 +56,8 @@ pub struct FaultParts {
 pub enum GivenParts {
     /// What the space of a test is given.
     Space(SpaceParts),
-    /// What a group, a check or a flag is given: an item, of which contracts see what it does and
-    /// the numbers of its outputs.
+    /// What a group, a check or a flag is given: an item, of which contracts see what it does,
+    /// without kinds, and the numbers of its outputs.
     Item(SharedItem),
     /// What a verdict is given.
     Verdict(VerdictParts),
@@ -97,13 +99,14 @@ fn same_condition(this: &Condition, that: &Condition) -> bool
     is_same_condition(this, that)
 }
 
+#[tactic(auto, using(crate::proofs::Outputs::same_from, crate::proofs::Outputs::same_back))]
 fn same_item(this: &SharedItem, that: &SharedItem) -> bool
     ensures { IsTrue result
-        ↔ ((shared_role this.now ≡ shared_role that.now)
+        ↔ ((role_shape (shared_role this.now) ≡ role_shape (shared_role that.now))
         × (shared_outputs this.now ≡ shared_outputs that.now)) }
 {
     let role = &this.item().role;
-    same_role(role, &that.item().role) && same_outputs(role, this.history(), that.history())
+    same_shape(role, &that.item().role) && same_outputs(role, this.history(), that.history())
 }
 
 impl GivenParts {
@@ -146,8 +149,9 @@ impl GivenParts {
     }
 
     fn is_item(&self, item: &SharedItem) -> bool
-        ensures { IsTrue result
-            ↔ (ForItem (shared_role item.now) (shared_outputs item.now) ≡ given_content self.now) }
+        ensures { let shape = role_shape (shared_role item.now) in
+            IsTrue result
+            ↔ (ForItem shape (shared_outputs item.now) ≡ given_content self.now) }
     {
         match self {
             GivenParts::Space(_) => false,
@@ -231,11 +235,11 @@ impl Given {
         self.parts.output_names(alloc)
     }
 
-    /// Whether it is what a group, a check or a flag is given that does what this item does, and
-    /// whose outputs go by the same numbers.
+    /// Whether it is what a group, a check or a flag is given that does what this item does, kinds
+    /// left out, and whose outputs go by the same numbers.
     pub fn is_item(&self, item: &SharedItem) -> bool
-        ensures { IsTrue result
-            ↔ (ForItem (shared_role item.now) (shared_outputs item.now) ≡ self.now) }
+        ensures { let shape = role_shape (shared_role item.now) in
+            IsTrue result ↔ (ForItem shape (shared_outputs item.now) ≡ self.now) }
     {
         self.parts.is_item(item)
     }

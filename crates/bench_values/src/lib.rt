@@ -12,5 +12,4 @@ mod value;
 
 pub use given::{FaultParts, Given, GivenParts, SpaceParts, VerdictParts};
 pub use run::run_node;
-pub use same::same_role;
 pub use value::{NodeValue, ValueContent};

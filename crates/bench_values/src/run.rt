@@ -6,16 +6,18 @@ ghost use Rattle.ppc_semantics.specs.declared.fault.EvalRefusal.{EvalRefusal};
 ghost use Rattle.verdict.specs.declared.answer.Outcome.{Outcome};
 ghost use Rattle.verdict.specs.declared.answer.Refusal.TheVariants as refusals;
 ghost use Rattle.verdict.specs.Kept.{of_raised};
+ghost use Rattle.binding_shapes.specs.Shapes.{role_shape, role_with};
 ghost use Rattle.bench_items.specs.Items.{role_content};
-ghost use Rattle.bench_values.specs.Makes.{IsSpaceValue, RoleMakes, HasGroupColumns, HasCheckAnswers, checks_among, flags_among, IsVerdictOutcome, IsVerdictOver, refused, Makes};
+ghost use Rattle.bench_values.specs.Makes.{IsSpaceValue, column_kind, role_over, RoleMakes, HasGroupColumns, HasCheckAnswers, checks_among, flags_among, IsVerdictOutcome, IsVerdictOver, refused, Makes};
 ghost use Rattle.bench_values.specs.Parts.{SpacePartsContent, HasParts};
 ghost use Rattle.bench_values.specs.Spaces.{space_content, no_executions};
-ghost use Rattle.bench_values.specs.Values.{OfColumn, first_space, space_of, refusal_of, columns_of, answers_of};
+ghost use Rattle.bench_values.specs.Values.{column_value, first_space, space_of, refusal_of, columns_of, answers_of};
 ghost use Rattle.bench_values.specs.Views.{given_content, space_parts, verdict_parts};
 
 use crate::given::{Given, GivenParts, SpaceParts, VerdictParts};
 use crate::value::NodeValue;
-use binding_graph::{ResolvedItem, Role};
+use binding_graph::{Kind, ResolvedItem, Role};
+use binding_shapes::role_with_kinds;
 use candidates::{EvalRefusal, Space, SpaceFault, space};
 use cat_eval::{Column, eval_check, eval_group};
 use litmus_printing::print_condition;
@@ -176,63 +178,107 @@ fn one_value(alloc: Global, value: NodeValue) -> Result<Vec<NodeValue>, AllocErr
 }
 
 fn column_values(alloc: Global, columns: Vec<Column>) -> Result<Vec<NodeValue>, AllocError>
-    ensures { IfOk result (λ v. v.items ≡ map OfColumn columns.items) }
+    ensures { IfOk result (λ v. v.items ≡ map column_value columns.items) }
 {
     let mut values = Vec::with_capacity(alloc, columns.len())?;
     for column in columns {
-        values.push(NodeValue::of_column(column))?;
+        values.push(NodeValue::of_column(alloc, column))?;
     }
     Ok(values)
 }
 
+fn column_kind(column: &Column) -> Kind
+    ensures { result ≡ column_kind column.now }
+{
+    match column {
+        Column::Sets(_) => Kind::OfSet,
+        Column::Relations(_) => Kind::OfRelation,
+    }
+}
+
+fn column_kinds(alloc: Global, columns: &[&Column]) -> Result<Vec<Kind>, AllocError>
+    ensures { IfOk result (λ v. v.items ≡ map column_kind (map (λ c. c.now) columns.now)) }
+{
+    let mut kinds = Vec::with_capacity(alloc, columns.len())?;
+    for column in columns {
+        kinds.push(column_kind(column))?;
+    }
+    Ok(kinds)
+}
+
+// What an item does, where the names that it uses have these columns.
+fn role_over(alloc: Global, role: &Role, columns: &[&Column]) -> Result<Role, AllocError>
+    ensures { let kinds = map column_kind (map (λ c. c.now) columns.now) in
+        IfOk result (λ r. role_content r ≡ role_with kinds (role_content role.now)) }
+{
+    let kinds = column_kinds(alloc, columns)?;
+    role_with_kinds(alloc, role, &kinds)
+}
+
+// An item that does this.
+#[tactic(auto, using(crate::proofs::Making::role_made))]
+fn item_over(alloc: Global, role: &Role, columns: &[&Column]) -> Result<ResolvedItem, AllocError>
+    ensures { IfOk result (λ r. role_content r.role
+        ≡ role_over (role_shape (role_content role.now)) (map (λ c. c.now) columns.now)) }
+{
+    Ok(ResolvedItem {
+        role: role_over(alloc, role, columns)?,
+        inputs: Vec::new(alloc),
+        functions: Vec::new(alloc),
+    })
+}
+
 fn group_columns<'v>(
     alloc: Global,
-    item: &'v ResolvedItem,
+    role: &'v Role,
     values: &[&'v NodeValue],
     space: &Space,
 ) -> Result<Vec<Column>, AllocError>
     ensures { let given = map (λ v. v.now) values.now in
         space_content space.now ≡ space_of given
-        → IfOk result (λ v. HasGroupColumns (role_content item.now.role) (space_of given)
+        → IfOk result (λ v. HasGroupColumns (role_shape (role_content role.now)) (space_of given)
         (columns_of given) v.items) }
 {
     let inputs = columns_of(alloc, values)?;
-    eval_group(alloc, item, space, &inputs)
+    let item = item_over(alloc, role, &inputs)?;
+    eval_group(alloc, &item, space, &inputs)
 }
 
 fn check_answers<'v>(
     alloc: Global,
-    item: &'v ResolvedItem,
+    role: &'v Role,
     values: &[&'v NodeValue],
     space: &Space,
 ) -> Result<Vec<bool>, AllocError>
     ensures { let given = map (λ v. v.now) values.now in
         space_content space.now ≡ space_of given
-        → IfOk result (λ v. HasCheckAnswers (role_content item.now.role) (space_of given)
+        → IfOk result (λ v. HasCheckAnswers (role_shape (role_content role.now)) (space_of given)
         (columns_of given) v.items) }
 {
     let inputs = columns_of(alloc, values)?;
-    eval_check(alloc, item, space, &inputs)
+    let item = item_over(alloc, role, &inputs)?;
+    eval_check(alloc, &item, space, &inputs)
 }
 
 fn item_values<'v>(
     alloc: Global,
-    item: &'v ResolvedItem,
+    role: &'v Role,
     values: &[&'v NodeValue],
     space: &Space,
 ) -> Result<Vec<NodeValue>, AllocError>
     ensures { let given = map (λ v. v.now) values.now in
         space_content space.now ≡ space_of given
         → IfOk result (λ v.
-        RoleMakes (role_content item.now.role) (space_of given) (columns_of given) v.items) }
+        RoleMakes (role_shape (role_content role.now)) (space_of given) (columns_of given)
+        v.items) }
 {
-    match &item.role {
+    match role {
         Role::Group { .. } => {
-            let columns = group_columns(alloc, item, values, space)?;
+            let columns = group_columns(alloc, role, values, space)?;
             column_values(alloc, columns)
         }
         Role::Check(_) => {
-            let answers = check_answers(alloc, item, values, space)?;
+            let answers = check_answers(alloc, role, values, space)?;
             one_value(alloc, NodeValue::of_check(answers))
         }
         Role::Silent => Ok(Vec::new(alloc)),
@@ -303,7 +349,7 @@ fn made_over<'v>(
 {
     match parts {
         GivenParts::Space(parts) => one_value(alloc, space_value(alloc, parts)?),
-        GivenParts::Item(item) => item_values(alloc, item.item(), values, space),
+        GivenParts::Item(item) => item_values(alloc, &item.item().role, values, space),
         GivenParts::Verdict(parts) => {
             let outcome = verdict_over(alloc, parts, values, space)?;
             one_value(alloc, NodeValue::of_outcome(outcome))

@@ -1,12 +1,14 @@
 //! The value of a node.
 
 ghost use Rattle.std.specs.Prelude.{◌≡◌, ◌↔◌, IsTrue, option_map};
+ghost use Rattle.cat_eval.specs.Values.{column_len};
 ghost use Rattle.bench_values.specs.Spaces.{space_content};
-ghost use Rattle.bench_values.specs.Values.{OfSpace, OfRefusal, OfColumn, OfCheck, OfOutcome, space_in, column_in, check_in, outcome_in, refusal_in};
+ghost use Rattle.bench_values.specs.Values.{OfSpace, OfRefusal, OfColumn, OfCheck, OfOutcome, column_of, column_value, space_in, column_in, check_in, outcome_in, refusal_in};
 ghost use Rattle.bench_values.specs.Views.{value_content};
 
 use candidates::{EvalRefusal, Space};
 use cat_eval::Column;
+use std::alloc::Global;
 use std::marker::Model;
 use verdict::Outcome;
 
@@ -50,6 +52,18 @@ fn same_answers(these: &[bool], those: &[bool]) -> bool
     ensures { IsTrue result ↔ (these.now ≡ those.now) }
 {
     these == those
+}
+
+// The column, where it has values: without any, that of sets, whatever its kind.
+#[tactic(auto, using(crate::proofs::Emptied::without_values, crate::proofs::Emptied::with_values))]
+fn one_if_empty(alloc: Global, column: Column) -> Column
+    ensures { result ≡ column_of (column_len column) column }
+{
+    if column.is_empty() {
+        Column::of_sets(alloc)
+    } else {
+        column
+    }
 }
 
 impl ValueContent {
@@ -214,12 +228,12 @@ impl NodeValue {
         }
     }
 
-    /// The value of a name of a group.
-    pub fn of_column(column: Column) -> NodeValue
-        ensures { result ≡ OfColumn column }
+    /// The value of a name of a group. Columns without a value are one, whatever their kind.
+    pub fn of_column(alloc: Global, column: Column) -> NodeValue
+        ensures { result ≡ column_value column }
     {
         NodeValue {
-            content: ValueContent::Column(column),
+            content: ValueContent::Column(one_if_empty(alloc, column)),
         }
     }
 

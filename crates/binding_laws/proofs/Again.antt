@@ -21,7 +21,10 @@ use Rattle.binding_graph.specs.Resolved.{IsResolvedIn}
 use Rattle.binding_graph.specs.Usages.{Usage}
 use Rattle.binding_laws.specs.ItemLaws.{Scope, scope_with_names, Sight, Matching, IsSameFound, SayTheSame, first_scope, own_at, functions_before, IsFunctionAlike, IsNamedAlike, IsNamedAlikeIn, IsNamedAlikeAt, HasAlikeFunctions, IsItemAt, IsResolvedAlike, sight_at, seeing}
 use Rattle.binding_laws.specs.Reread.{ReadModel, HasNumber, outer_namings, IsReadModel, AreInOneOrder, IsItemOf, seen_input, seen_function, UseTheSame, ItemsAreReadAgain}
-use Rattle.binding_laws.proofs.AlikeTexts.{alike_by}
+use Rattle.binding_laws.proofs.AlikeModels.{are_items}
+use Rattle.binding_laws.proofs.AlikeShapes.{IsFitItem, AreFitBoth, fit_item, alike_shapes}
+use Rattle.binding_laws.proofs.Known.{IsKnownScope, known_at, known_outermost, no_first_of}
+use Rattle.binding_laws.proofs.AlikeTexts.{alike_names}
 use Rattle.binding_laws.proofs.Lists.{partners, partners_are}
 use Rattle.binding_laws.proofs.Named.{HasNames}
 use Rattle.binding_laws.proofs.Told.{told_below, told_found, naming_found}
@@ -29,7 +32,7 @@ use Rattle.binding_laws.proofs.Placed.{sees, start, own_names, IsNameOfGroup, no
 use Rattle.binding_laws.proofs.Used.{IsKeptBinder, AreKept}
 use Rattle.binding_laws.proofs.Whole.{is_usage, IsKeptFunction}
 use Rattle.binding_laws.proofs.Uses.{IsKeptItem, item_inputs, item_kept, item_functions}
-use Rattle.binding_laws.proofs.Seen.{beside, outer_names, HasNamesIn, names_expected, own_is, resolved_at}
+use Rattle.binding_laws.proofs.Seen.{beside, outer_names, HasNamesIn, faultless, names_expected, own_is, resolved_at}
 use Rattle.binding_laws.proofs.Visible.{each_unit}
 use Rattle.binding_laws.proofs.Both.{HasSameInput, HasSameFunction, function_both, value_same}
 use Rattle.binding_laws.proofs.Terms.{AreSameValues, AreSameFunctions, term_alike}
@@ -116,7 +119,7 @@ module _ (ps : List Predefined) (m w : ReadModel) (well : IsReadModel (outer_nam
         → ((b : Input) → g.binder ≡ binders.Bound b → R b) → IsSameFound M.pairing f g
     values_same =
         value_same ps m w well other order back i j number at_left at_right k l rs qs M.pairing
-        (matches_outer ps m w k l rs qs fs gs count) (matches_used ps m w k l rs qs fs gs count)
+        (matches_outer ps m w k l rs qs fs gs count) (matches_used ps m w k l rs qs fs gs count) refl
 
     functions_same : (x : List ℕ) (f g : Found) (a b : ℕ) (u v : Usage)
         → found (in_m i).names x ≡ Some f → found (in_w j).names x ≡ Some g
@@ -190,7 +193,7 @@ module _ (ps : List Predefined) (m w : ReadModel) (well : IsReadModel (outer_nam
             (λ (y : Found).
             IsSameFound M.pairing (own_found (start names m.items k) k 0 o.position) y)
             right
-            (inside.0, refl, inputs))
+            (inside.0, tt, inputs))
         at_name (inr o) =
             let left : found (in_m k).names x ≡ Some f = sym o.left ∙ h in
             let right : found (in_w l).names x ≡ Some g = sym o.right ∙ e in
@@ -456,13 +459,44 @@ module _ (ps : List Predefined) (m w : ReadModel) (well : IsReadModel (outer_nam
             second same_names);
       }
 
+-- the item of that index fits what it sees
+pub fits_at : (ps : List Predefined) (m : ReadModel) (well : IsReadModel (outer_namings ps) m) (k : ℕ)
+    (x : Item) → slice_get m.items k ≡ Some x
+    → IsKnownScope (sees (outer_namings ps) m.items k)
+    × IsFitItem (sees (outer_namings ps) m.items k) (sees (outer_namings ps) m.items (suc k)).names
+    (bare_item x)
+fits_at ps m well k x there =
+    let s = sees (outer_namings ps) m.items k in
+    let known = known_at (first_scope (outer_namings ps)) 0 m.items k (record { sound = tt; known = known_outermost ps }) well.no_fault in
+    let none = no_first_of s.senses s.names k (bare_item x) (faultless ps m well k x there) in (
+      known,
+      subst (λ (names : List Naming). IsFitItem s names (bare_item x)) (own_is ps m well k x there)
+          (fit_item s k (bare_item x) known none),
+    )
+
 pub items_again : ItemsAreReadAgain
 items_again ps m w number k l x y r q well other order left right say alike =
     let back = order_turned (outer_namings ps) m w other order in
     let resolved = resolved_alike ps m w well other order back number k l x y r q left right say alike in
     let at_left : IsItemAt (outer_namings ps) m.items m.resolved k x r = record { all = well.as_resolved; labels = well.labelled; text = left.text; item = left.item } in
     let at_right : IsItemAt (outer_namings ps) w.items w.resolved l y q = record { all = other.as_resolved; labels = other.labelled; text = right.text; item = right.item } in
-    (alike_by m.items w.items
-    (both ps m w well other order back number k l x y r q left right say alike)
-    (outer_namings ps) (outer_namings ps) m.resolved w.resolved k l x y r q at_left at_right say
-    resolved).0
+    let p = (both ps m w well other order back number k l x y r q left right say alike).pairing in
+    let same = alike_names m.items w.items (both ps m w well other order back number k l x y r q left right say alike) (outer_namings ps) (outer_namings ps) k l x resolved in
+    let items = are_items m.items w.items (outer_namings ps) (outer_namings ps) m.resolved w.resolved k l x y r q at_left at_right say in
+    let s = sees (outer_namings ps) m.items k in
+    let o = sees (outer_namings ps) w.items l in
+    let own = own_at (first_scope (outer_namings ps)) 0 m.items k in
+    let owned = own_at (first_scope (outer_namings ps)) 0 w.items l in
+    let first = fits_at ps m well k x left.text in
+    let second = fits_at ps w other l y right.text in
+    let own_first = own_names (first_scope (outer_namings ps)) 0 m.items k x left.text in
+    let own_second = own_names (first_scope (outer_namings ps)) 0 w.items l y right.text in
+    let fits : AreFitBoth s o own owned x = record {
+      sound = first.0.sound;
+      still = second.0.sound;
+      fits = subst (λ (names : List Naming). IsFitItem s names (bare_item x)) (sym own_first) first.1;
+      also = subst (λ (names : List Naming). IsFitItem o names (bare_item x)) (sym own_second)
+          (subst (IsFitItem o (sees (outer_namings ps) w.items (suc l)).names) (sym say.0) second.1);
+    } in
+    alike_shapes x p s o own owned (length s.names) (length o.names) r q same.pairing same.same fits
+    items.left items.right

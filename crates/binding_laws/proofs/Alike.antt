@@ -1,7 +1,8 @@
 -- Expressions whose names stand for the same have the same form and kind.
-use Rattle.std.proofs.Common.{ℕ, ◌≡◌, ◌+◌, ◌*◌, zero, suc, List, [], ◌∷◌, length, reverse, Option, Some, None, Result, Ok, Err, get_or, refl, sym, ap, ◌∙◌, subst}
+use Rattle.std.proofs.Common.{ℕ, ◌≡◌, ◌+◌, ◌*◌, zero, suc, List, [], ◌∷◌, length, reverse, Bool, true, false, Option, Some, None, Result, Ok, Err, get_or, refl, sym, ap, ◌∙◌, subst}
 use Rattle.std.specs.Prelude.{nat_lt, nat_eq, if◌then◌else◌}
 use Rattle.std.specs.List.{AllZip}
+use Rattle.std.proofs.lemmas.Bool.{false≢true}
 use Rattle.text_values.specs.ModelValue.{Term, Terms, Atom, AllEvents, EmptyRelation, EmptySet, Join, Mark, Not, On, Apply, NoTerm, OneMore}
 use Rattle.binding_kinds.specs.declared.fault.ModelFault.{ModelFault}
 use Rattle.binding_kinds.specs.declared.kinds.Kind.{Kind}
@@ -15,7 +16,7 @@ use Rattle.binding_kinds.specs.Meanings.{parameter_of}
 use Rattle.binding_kinds.specs.Formula.{Formula, Value, Parameter, Everything, NoPairs, NoEvents, Joined, Marked, Complement, Identity, filled, constant_of, factor_of}
 use Rattle.binding_kinds.specs.Senses.{Sense, sense_of, size_of_arguments, size_with, size_applied, kind_applied, size_in, sizes_in, kind_in, kinds_in, count_of}
 use Rattle.binding_kinds.specs.Functions.{sense_seen, bound_formula, named_formula, applied_formula, formula_in, formulas_in}
-use Rattle.binding_laws.specs.ItemLaws.{Scope, Pairing, IsSameBinder, IsSameFound, IsSameName, IsSameUnless, IsSameFormula, IsSameSense, IsSameFunction, HasSameNames, HaveSameNames}
+use Rattle.binding_laws.specs.ItemLaws.{Scope, Pairing, IsSameBinder, IsSameKind, IsSameFound, IsSameName, IsSameUnless, IsSameFormula, IsSameSense, IsSameFunction, HasSameNames, HaveSameNames}
 use Rattle.binding_kinds.proofs.Applications.{long_kinds, found_arity}
 
 -- ---- forms
@@ -182,12 +183,16 @@ seen_arity ss names n x (Err k) is =
 
 -- ---- kinds
 
-module _ (p : Pairing) where
+one_kind : (b : Bool) (k l : Kind) → b ≡ true → IsSameKind b k l → k ≡ l
+one_kind true k l e h = h
+one_kind false k l e h = absurd (false≢true e)
+
+module _ (p : Pairing) (counts : p.kinds ≡ true) where
   pub found_kind : (f g : Option Found) → IsSameName p f g → kind_found f ≡ kind_found g
   found_kind None None h = refl
   found_kind None (Some g) h = absurd h
   found_kind (Some f) None h = absurd h
-  found_kind (Some f) (Some g) h = h.1
+  found_kind (Some f) (Some g) h = one_kind p.kinds f.kind g.kind counts h.1
 
   size_seen_same : (a b : Option Sense) → IsSameFunction p a b → (sizes : List ℕ)
       → size_seen a sizes ≡ size_seen b sizes
@@ -204,7 +209,7 @@ module _ (p : Pairing) where
   kind_seen_same n (Some a) None h m sizes kinds e = absurd h
   kind_seen_same n (Some a) (Some b) h m sizes kinds e =
       let size = size_same p a b h sizes in
-      let kind = h.kind_with kinds (e ∙ sym m) in
+      let kind = h.kind_with counts kinds (e ∙ sym m) in
       λ i. if nat_lt 4096 (size i) then OfAny else kind i
 
   module _ (s o : Scope) where

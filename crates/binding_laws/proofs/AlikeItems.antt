@@ -60,38 +60,39 @@ inputs_same p (u ∷ us) (w ∷ ws) h =
 -- ---- items
 
 module _ (p : Pairing) (from start : ℕ) (pairing : IsPairing p from start) where
-  code_same : (s o : Scope) (us ws : List Used) (t : Term) (c d : Code) → HasSameNames p s o [] t
-      → AreSameUsed p us ws → IsCode s.senses s.names us from t c
+  code_same : p.kinds ≡ true → (s o : Scope) (us ws : List Used) (t : Term) (c d : Code)
+      → HasSameNames p s o [] t → AreSameUsed p us ws → IsCode s.senses s.names us from t c
       → IsCode o.senses o.names ws start t d → code_content c ≡ code_content d
-  code_same s o us ws t c d alike used h g =
+  code_same counts s o us ws t c d alike used h g =
       let form = formula_same p s o [] t alike in
       let sets = set_same p from start pairing us ws used (formula_in s.senses s.names [] t) (formula_in o.senses o.names [] t) form in
       let relations = relation_same p from start pairing us ws used (formula_in s.senses s.names [] t) (formula_in o.senses o.names [] t) form in
-      let kinds = kind_same p s o t alike in
+      let kinds = kind_same p counts s o t alike in
       let kind : c.kind ≡ d.kind = h.0 ∙ (kinds ∙ sym g.0) in
       let all : steps_of (kind_in s.senses s.names t) (set_tree us from (formula_in s.senses s.names [] t)) (rel_tree us from (formula_in s.senses s.names [] t)) ≡ steps_of (kind_in o.senses o.names t) (set_tree ws start (formula_in o.senses o.names [] t)) (rel_tree ws start (formula_in o.senses o.names [] t)) =
       λ i. steps_of (kinds i) (sets i) (relations i) in
       let steps : c.steps.items ≡ d.steps.items = h.1 ∙ (all ∙ sym g.1) in
       λ i. record { kind = kind i; steps = steps i }
 
-  bodies_same : (s o : Scope) (us ws : List Used) (bs : List Bound) (rs qs : List Body)
+  bodies_same : p.kinds ≡ true → (s o : Scope) (us ws : List Used) (bs : List Bound)
+      (rs qs : List Body)
       → AllByRecursion (λ b. HasSameNames p s o [] b.body) bs → AreSameUsed p us ws
       → AreBodies s.senses s.usages s.names from us bs rs
       → AreBodies o.senses o.usages o.names start ws bs qs
       → map body_content rs ≡ map body_content qs
-  bodies_same s o us ws [] [] [] alike used h g = refl
-  bodies_same s o us ws [] [] (q ∷ qs) alike used h g = absurd g
-  bodies_same s o us ws [] (r ∷ rs) qs alike used h g = absurd h
-  bodies_same s o us ws (b ∷ bs) [] qs alike used h g = absurd h
-  bodies_same s o us ws (b ∷ bs) (r ∷ rs) [] alike used h g = absurd g
-  bodies_same s o us ws (b ∷ bs) (r ∷ rs) (q ∷ qs) alike used h g =
+  bodies_same counts s o us ws [] [] [] alike used h g = refl
+  bodies_same counts s o us ws [] [] (q ∷ qs) alike used h g = absurd g
+  bodies_same counts s o us ws [] (r ∷ rs) qs alike used h g = absurd h
+  bodies_same counts s o us ws (b ∷ bs) [] qs alike used h g = absurd h
+  bodies_same counts s o us ws (b ∷ bs) (r ∷ rs) [] alike used h g = absurd g
+  bodies_same counts s o us ws (b ∷ bs) (r ∷ rs) (q ∷ qs) alike used h g =
       let more = values_same p from start pairing s o [] b.body us ws alike.0 used in
       let left = with_values s.usages s.names [] from b.body us in
       let right = with_values o.usages o.names [] start b.body ws in
       let name : r.name ≡ q.name = h.0 ∙ sym g.0 in
-      let code = code_same s o left right b.body r.code q.code alike.0 more h.1 g.1 in
+      let code = code_same counts s o left right b.body r.code q.code alike.0 more h.1 g.1 in
       let first : body_content r ≡ body_content q = λ i. record { name = name i; code = code i } in
-      let rest = bodies_same s o left right bs rs qs alike.1 more h.2 g.2 in
+      let rest = bodies_same counts s o left right bs rs qs alike.1 more h.2 g.2 in
       λ i. first i ∷ rest i
 
   all_used_same : (s o : Scope) (us ws : List Used) (bs : List Bound)
@@ -104,33 +105,33 @@ module _ (p : Pairing) (from start : ℕ) (pairing : IsPairing p from start) whe
       (with_values o.usages o.names [] start b.body ws) bs alike.1
       (values_same p from start pairing s o [] b.body us ws alike.0 used)
 
-  group_same : (s o : Scope) (recursive : Bool) (bs : List Bound) (r q : Role)
+  group_same : p.kinds ≡ true → (s o : Scope) (recursive : Bool) (bs : List Bound) (r q : Role)
       → AllByRecursion (λ b. HasSameNames p s o [] b.body) bs
       → IsGroupRole s.senses s.usages s.names from recursive bs r
       → IsGroupRole o.senses o.usages o.names start recursive bs q → role_content r ≡ role_content q
-  group_same s o recursive bs (roles.Group a rs) (roles.Group b qs) alike h g =
+  group_same counts s o recursive bs (roles.Group a rs) (roles.Group b qs) alike h g =
       let kind : a ≡ b = h.0 ∙ sym g.0 in
-      let bodies = bodies_same s o [] [] bs rs.items qs.items alike tt h.1 g.1 in
+      let bodies = bodies_same counts s o [] [] bs rs.items qs.items alike tt h.1 g.1 in
       λ i. content.Group (kind i) (bodies i)
-  group_same s o recursive bs (roles.Group a rs) (roles.Check c) alike h g = absurd g
-  group_same s o recursive bs (roles.Group a rs) roles.Silent alike h g = absurd g
-  group_same s o recursive bs (roles.Check c) q alike h g = absurd h
-  group_same s o recursive bs roles.Silent q alike h g = absurd h
+  group_same counts s o recursive bs (roles.Group a rs) (roles.Check c) alike h g = absurd g
+  group_same counts s o recursive bs (roles.Group a rs) roles.Silent alike h g = absurd g
+  group_same counts s o recursive bs (roles.Check c) q alike h g = absurd h
+  group_same counts s o recursive bs roles.Silent q alike h g = absurd h
 
-  check_same : (s o : Scope) (w : CheckWord) (e : Term) (negated : Bool) (flag : Option (List ℕ))
-      (r q : Role) → HasSameNames p s o [] e → IsCheckRole s.senses s.usages s.names from w e r
+  check_same : p.kinds ≡ true → (s o : Scope) (w : CheckWord) (e : Term) (negated : Bool)
+      (flag : Option (List ℕ)) (r q : Role) → HasSameNames p s o [] e → IsCheckRole s.senses s.usages s.names from w e r
       → IsCheckRole o.senses o.usages o.names start w e q → IsLabelled negated flag r
       → IsLabelled negated flag q → role_content r ≡ role_content q
-  check_same s o w e negated flag (roles.Group a rs) q alike h g l m = absurd h
-  check_same s o w e negated flag (roles.Check c) (roles.Group b qs) alike h g l m = absurd g
-  check_same s o w e negated flag (roles.Check c) (roles.Check d) alike h g l m =
+  check_same counts s o w e negated flag (roles.Group a rs) q alike h g l m = absurd h
+  check_same counts s o w e negated flag (roles.Check c) (roles.Group b qs) alike h g l m = absurd g
+  check_same counts s o w e negated flag (roles.Check c) (roles.Check d) alike h g l m =
       let turned : c.negated ≡ d.negated = l.0 ∙ sym m.0 in
       let word : c.word ≡ d.word = h.0 ∙ sym g.0 in
-      let code = code_same s o (with_values s.usages s.names [] from e []) (with_values o.usages o.names [] start e []) e c.code d.code alike (values_same p from start pairing s o [] e [] [] alike tt) h.1 g.1 in
+      let code = code_same counts s o (with_values s.usages s.names [] from e []) (with_values o.usages o.names [] start e []) e c.code d.code alike (values_same p from start pairing s o [] e [] [] alike tt) h.1 g.1 in
       let name : c.flag ≡ d.flag = l.1 ∙ sym m.1 in
       λ i. content.Check (turned i) (word i) (code i) (name i)
-  check_same s o w e negated flag (roles.Check c) roles.Silent alike h g l m = absurd g
-  check_same s o w e negated flag roles.Silent q alike h g l m = absurd h
+  check_same counts s o w e negated flag (roles.Check c) roles.Silent alike h g l m = absurd g
+  check_same counts s o w e negated flag roles.Silent q alike h g l m = absurd h
 
   uses_same : (r q : ResolvedItem) (us ws : List Used) (fs gs : List ℕ) → AreSameUsed p us ws
       → HasUses r us fs → HasUses q ws gs
@@ -146,37 +147,37 @@ alike_items (items.Let true g) p s o own other from start r q pairing alike h k 
     let left : Scope = record { senses = s.senses; usages = s.usages; names = own } in
     let right : Scope = record { senses = o.senses; usages = o.usages; names = other } in
     let bs = map bound_value_of g.items in (
-      group_same p from start pairing left right true bs r.role q.role alike h.0.0 k.0.0,
+      λ counts. group_same p from start pairing counts left right true bs r.role q.role alike h.0.0 k.0.0,
       uses_same p from start pairing r q _ _ _ _
           (all_used_same p from start pairing left right [] [] bs alike tt) h.0.1 k.0.1,
     )
 alike_items (items.Let false g) p s o own other from start r q pairing alike h k =
     let bs = map bound_value_of g.items in (
-      group_same p from start pairing s o false bs r.role q.role alike h.0.0 k.0.0,
+      λ counts. group_same p from start pairing counts s o false bs r.role q.role alike h.0.0 k.0.0,
       uses_same p from start pairing r q _ _ _ _
           (all_used_same p from start pairing s o [] [] bs alike tt) h.0.1 k.0.1,
     )
 alike_items (items.Function n ps b) p s o own other from start r q pairing alike h k = (
-  ap role_content (h.0.0 ∙ sym k.0.0),
+  λ counts. ap role_content (h.0.0 ∙ sym k.0.0),
   uses_same p from start pairing r q _ _ _ _
       (values_same p from start pairing s o ps.items (term_of b) [] [] alike tt) h.0.1
       k.0.1,
 )
 alike_items (items.Check c t) p s o own other from start r q pairing alike h k = (
-  check_same p from start pairing s o c.word (term_of c.body) c.negated None r.role q.role alike
+  λ counts. check_same p from start pairing counts s o c.word (term_of c.body) c.negated None r.role q.role alike
       h.0.0 k.0.0 h.1 k.1,
   uses_same p from start pairing r q _ _ _ _
       (values_same p from start pairing s o [] (term_of c.body) [] [] alike tt) h.0.1
       k.0.1,
 )
 alike_items (items.Flag c t) p s o own other from start r q pairing alike h k = (
-  check_same p from start pairing s o c.word (term_of c.body) c.negated (Some t) r.role q.role
+  λ counts. check_same p from start pairing counts s o c.word (term_of c.body) c.negated (Some t) r.role q.role
       alike h.0.0 k.0.0 h.1 k.1,
   uses_same p from start pairing r q _ _ _ _
       (values_same p from start pairing s o [] (term_of c.body) [] [] alike tt) h.0.1
       k.0.1,
 )
 alike_items (items.Show f t) p s o own other from start r q pairing alike h k =
-    (ap role_content (h.0.0 ∙ sym k.0.0), uses_same p from start pairing r q _ _ _ _ tt h.0.1 k.0.1)
+    (λ counts. ap role_content (h.0.0 ∙ sym k.0.0), uses_same p from start pairing r q _ _ _ _ tt h.0.1 k.0.1)
 alike_items (items.Include n) p s o own other from start r q pairing alike h k =
-    (ap role_content (h.0.0 ∙ sym k.0.0), uses_same p from start pairing r q _ _ _ _ tt h.0.1 k.0.1)
+    (λ counts. ap role_content (h.0.0 ∙ sym k.0.0), uses_same p from start pairing r q _ _ _ _ tt h.0.1 k.0.1)

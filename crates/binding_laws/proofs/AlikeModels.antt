@@ -58,6 +58,27 @@ item_at s at (y ∷ ys) (q ∷ qs) zero x r h l is_x is_r =
 item_at s at (y ∷ ys) (q ∷ qs) (suc k) x r h l is_x is_r =
     item_at (scope_after s at y) (at + 1) ys qs k x r h.1 l.1 is_x is_r
 
+-- the items of these indices, which say the same, as items of the first text
+pub record AreItems (names more : List Naming) (model other : List Item) (k l : ℕ) (x : Item)
+    (r q : ResolvedItem) : Type 0 where
+  pub left : IsItem (scope_at (first_scope names) 0 model k)
+      (own_at (first_scope names) 0 model k)
+      (length (scope_at (first_scope names) 0 model k).names) x r
+  pub right : IsItem (scope_at (first_scope more) 0 other l) (own_at (first_scope more) 0 other l)
+      (length (scope_at (first_scope more) 0 other l).names) x q
+
+pub are_items : (model other : List Item) (names more : List Naming)
+    (resolved others : List ResolvedItem) (k l : ℕ) (x y : Item) (r q : ResolvedItem)
+    → IsItemAt names model resolved k x r → IsItemAt more other others l y q → SayTheSame x y
+    → AreItems names more model other k l x r q
+are_items model other names more resolved others k l x y r q h g e = record {
+  left = item_at (first_scope names) 0 model resolved k x r h.all h.labels h.text h.item;
+  right =
+      item_moved (scope_at (first_scope more) 0 other l) (own_at (first_scope more) 0 other l)
+      (length (scope_at (first_scope more) 0 other l).names) x y q e
+      (item_at (first_scope more) 0 other others l y q g.all g.labels g.text g.item);
+}
+
 pub alike_at : (model other : List Item) (p : Pairing) (names more : List Naming)
     (resolved others : List ResolvedItem) (k l : ℕ) (x y : Item) (r q : ResolvedItem)
     → IsItemAt names model resolved k x r → IsItemAt more other others l y q → SayTheSame x y
@@ -67,10 +88,9 @@ alike_at model other p names more resolved others k l x y r q h g e same =
     let o = scope_at (first_scope more) 0 other l in
     let own = own_at (first_scope names) 0 model k in
     let owned = own_at (first_scope more) 0 other l in
-    let left : IsItem s own (length s.names) x r = item_at (first_scope names) 0 model resolved k x r h.all h.labels h.text h.item in
-    let right : IsItem o owned (length o.names) y q = item_at (first_scope more) 0 other others l y q g.all g.labels g.text g.item in
-    alike_items x p s o own owned (length s.names) (length o.names) r q same.pairing same.same left
-    (item_moved o owned (length o.names) x y q e right)
+    let both = are_items model other names more resolved others k l x y r q h g e in
+    alike_items x p s o own owned (length s.names) (length o.names) r q same.pairing same.same
+    both.left both.right
 
 pub alike_in_models : (model other : ModelText) → HaveAlikeItems model other
 alike_in_models model other = alike_at model.items.items other.items.items

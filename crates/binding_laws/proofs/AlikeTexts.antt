@@ -19,7 +19,7 @@ use Rattle.binding_kinds.specs.Senses.{Sense, sense_of, sense_of_binder, with_ar
 use Rattle.binding_kinds.specs.Functions.{sense_seen, sense_of_function}
 use Rattle.binding_graph.specs.declared.resolved.ResolvedItem.{ResolvedItem}
 use Rattle.binding_graph.specs.Usages.{Usage, usage_at, values_of, usage_of_function}
-use Rattle.binding_laws.specs.ItemLaws.{Scope, Sight, Matching, Pairing, IsSameSense, IsSameFunction, AreSameUsed, HasSameNames, HaveSameNames, HasSameNamesIn, scope_with_names, first_scope, scope_at, own_at, functions_before, IsFunctionAlike, IsAppliedAlike, IsNamedAlike, AreNamedAlike, IsNamedAlikeIn, IsNamedAlikeAt, HasAlikeFunctions, IsItemAt, SayTheSame, DoTheSame, IsResolvedAlike, HaveItemsAlikeByText}
+use Rattle.binding_laws.specs.ItemLaws.{Scope, Sight, Matching, Pairing, IsSameSense, IsSameFunction, AreSameUsed, HasSameNames, HaveSameNames, HasSameNamesIn, scope_with_names, first_scope, scope_at, own_at, functions_before, IsFunctionAlike, IsAppliedAlike, IsNamedAlike, AreNamedAlike, IsNamedAlikeIn, IsNamedAlikeAt, HasAlikeFunctions, IsItemAt, SayTheSame, DoTheSame, HasSameNamesAt, IsResolvedAlike, HaveItemsAlikeByText}
 use Rattle.binding_laws.proofs.Using.{IsOne}
 use Rattle.binding_laws.proofs.Applied.{alike_sense, alike_usage}
 use Rattle.binding_laws.proofs.AlikeModels.{alike_at}
@@ -332,15 +332,22 @@ module _ (m : Matching) (one : IsOne m.pairing) (names more : List Naming) (mode
       one_function k l f g i j a b paired (seen_same most a.behind b.behind
       (omega (arith, a.before, few)))
 
-pub alike_by : (first second : List Item) (m : Matching) (names more : List Naming)
+-- the names of an item that are resolved alike stand for the same
+pub alike_names : (first second : List Item) (m : Matching) (names more : List Naming) (k l : ℕ)
+    (x : Item) → IsResolvedAlike m names more first second k l x
+    → HasSameNamesAt m.pairing names more first second k l x
+alike_names first second m names more k l x same =
+    let sees = seen_same m same.pairing.one names more first second same.functions k k l (omega arith) in
+    let told = item_same m (functions_before 0 first k) (functions_before 0 second l) (scope_at (first_scope names) 0 first k) (scope_at (first_scope more) 0 second l) sees (own_at (first_scope names) 0 first k) (own_at (first_scope more) 0 second l) (bare_item x) same.item in
+    record { pairing = same.pairing; same = told }
+
+alike_by : (first second : List Item) (m : Matching) (names more : List Naming)
     (resolved others : List ResolvedItem) (k l : ℕ) (x y : Item) (r q : ResolvedItem)
     → IsItemAt names first resolved k x r → IsItemAt more second others l y q → SayTheSame x y
     → IsResolvedAlike m names more first second k l x → DoTheSame m.pairing r q
 alike_by first second m names more resolved others k l x y r q h g e same =
-    let sees = seen_same m same.pairing.one names more first second same.functions k k l (omega arith) in
-    let told = item_same m (functions_before 0 first k) (functions_before 0 second l) (scope_at (first_scope names) 0 first k) (scope_at (first_scope more) 0 second l) sees (own_at (first_scope names) 0 first k) (own_at (first_scope more) 0 second l) (bare_item x) same.item in
     alike_at first second m.pairing names more resolved others k l x y r q h g e
-    (record { pairing = same.pairing; same = told })
+    (alike_names first second m names more k l x same)
 
 pub alike_by_text : (model other : ModelText) → HaveItemsAlikeByText model other
 alike_by_text model other = alike_by model.items.items other.items.items

@@ -73,11 +73,11 @@ parameters_arity ss names ps n x None (Err k) at is =
     let w : sense_seen ss names ps n x ≡ None = rw (at, is) refl in rw w tt
 
 module _ (p : Pairing) (s o : Scope) (ps : List (List ℕ)) (ks : List Kind)
-    (many : length ks ≡ length ps) where
+    (many : length ks ≡ length ps) (counts : p.kinds ≡ true) where
   unless_kind : (i : Option ℕ) (f g : Option Found) → IsSameUnless p i f g → i ≡ None
       → kind_found f ≡ kind_found g
   unless_kind (Some i) f g h e = absurd (let n : Some i ≡ None = e in cc)
-  unless_kind None f g h e = found_kind p f g h
+  unless_kind None f g h e = found_kind p counts f g h
 
   kind_of_same : (n : ℕ) (a b : Option Sense) → IsSameFunction p a b → HasArity n a
       → (kinds more : List Kind) → kinds ≡ more → length kinds ≡ n
@@ -86,7 +86,7 @@ module _ (p : Pairing) (s o : Scope) (ps : List (List ℕ)) (ks : List Kind)
   kind_of_same n None (Some b) h m kinds more e long = absurd h
   kind_of_same n (Some a) None h m kinds more e long = absurd h
   kind_of_same n (Some a) (Some b) h m kinds more e long =
-      h.kind_with kinds (long ∙ sym m) ∙ ap (λ (l : List Kind). b.kind_with l) e
+      h.kind_with counts kinds (long ∙ sym m) ∙ ap (λ (l : List Kind). b.kind_with l) e
 
   kinds_long : (ts : Terms) → length (kinds_of_body s.senses s.names ps ks ts) ≡ count_of ts
   kinds_long NoTerm = refl
@@ -147,8 +147,8 @@ pub alike_sense : (p : Pairing) (s o : Scope) (ps : List (List ℕ)) (body : Ter
 alike_sense p s o ps body alike = record {
   arity = refl;
   kind_with =
-      λ ks many. ap (λ (k : Kind). if has_any ks then OfAny else k)
-      (body_kind_same p s o ps ks many body alike);
+      λ counts ks many. ap (λ (k : Kind). if has_any ks then OfAny else k)
+      (body_kind_same p s o ps ks many counts body alike);
   formula = formula_same p s o ps body alike;
 }
 

@@ -1,5 +1,5 @@
 -- What a name stands for in two models: names of items and functions that stand for each other.
-use Rattle.std.proofs.Common.{ℕ, ◌≡◌, ◌<◌, ◌≤◌, List, length, Option, Some, None, Contains, refl, sym, ap, ◌∙◌, subst, inl, inr, arith}
+use Rattle.std.proofs.Common.{ℕ, ◌≡◌, ◌<◌, ◌≤◌, List, length, Bool, false, Option, Some, None, Contains, refl, sym, ap, ◌∙◌, subst, inl, inr, arith}
 use Rattle.std.specs.Prelude.{nat_le, slice_get, option_map}
 use Rattle.std.proofs.lemmas.Bool.{cases_Bool, leb-true, leb-false}
 use Rattle.std.proofs.lemmas.Option.{none-some, same_Some}
@@ -13,11 +13,11 @@ use Rattle.binding_kinds.specs.declared.scope.Input.{Input}
 use Rattle.binding_kinds.specs.Value.{Naming, BareItem, Defined, bare_item}
 use Rattle.binding_kinds.specs.Kinds.{found}
 use Rattle.binding_kinds.specs.Fits.{IsValue}
-use Rattle.binding_laws.specs.ItemLaws.{Pairing, IsSameBinder, IsSameFound, first_scope, functions_before}
-use Rattle.binding_laws.specs.Reread.{ReadModel, HasNumber, outer_namings, IsReadModel, AreInOneOrder, SeenName, seen_input, seen_function}
+use Rattle.binding_laws.specs.ItemLaws.{Pairing, IsSameBinder, IsSameKind, IsSameFound, first_scope, functions_before}
+use Rattle.binding_laws.specs.Reread.{ReadModel, HasNumber, outer_namings, IsReadModel, AreInOneOrder, seen_input, seen_function}
 use Rattle.binding_laws.proofs.Lists.{pairs_of, HasPartner}
 use Rattle.binding_laws.proofs.Told.{told, told_found, found_last, naming_found}
-use Rattle.binding_laws.proofs.Placed.{sees, start, slot_of, under_at, IsInput, IsNameOfGroup, input_told, told_input, input_kind, IsInputAt, input_order, IsFunction, function_told, IsFunctionSeen, told_function, function_order, told_outer}
+use Rattle.binding_laws.proofs.Placed.{sees, start, slot_of, under_at, IsInput, IsNameOfGroup, input_told, told_input, IsInputAt, input_order, IsFunction, function_told, IsFunctionSeen, told_function, function_order, told_outer}
 use Rattle.binding_laws.proofs.Whole.{bound_high, function_high}
 use Rattle.binding_laws.proofs.Seen.{beside, outer_names, input_seen, input_apart}
 
@@ -49,21 +49,17 @@ module _ (ps : List Predefined) (m w : ReadModel) (well : IsReadModel (outer_nam
 
   pub same_seen : (i j : Input) (x : List ℕ) (kind : Kind) → seen_input m i ≡ seen_input w j
       → IsInput (outer_namings ps) m.items i x kind → (y : List ℕ) (more : Kind)
-      → IsInput (outer_namings ps) w.items j y more → IsSameInput i j x kind
+      → IsInput (outer_namings ps) w.items j y more → IsSameInput i j x more
   same_seen i j x kind e h y more g =
       let a = input_seen ps m well i x kind h in
       let b = input_seen ps w other j y more g in
-      let numbers : slice_get m.numbers i.item ≡ slice_get w.numbers j.item = ap (λ (p : Option ℕ × Option SeenName). p.0) e in
-      let seen : record { name = x; kind = kind } ≡ record { name = y; kind = more } = same_Some _ _ (sym a.seen ∙ (ap (λ (p : Option ℕ × Option SeenName). p.1) e ∙ b.seen)) in
-      let name : y ≡ x = sym (ap (λ (s : SeenName). s.name) seen) in
-      let same_kind : more ≡ kind = sym (ap (λ (s : SeenName). s.kind) seen) in
+      let numbers : slice_get m.numbers i.item ≡ slice_get w.numbers j.item = ap (λ (p : Option ℕ × Option (List ℕ)). p.0) e in
+      let seen : x ≡ y = same_Some _ _ (sym a.seen ∙ (ap (λ (p : Option ℕ × Option (List ℕ)). p.1) e ∙ b.seen)) in
       record {
         number = a.number;
         left = a.has_number;
         right = sym numbers ∙ a.has_number;
-        input =
-            subst (λ (n : List ℕ). IsInput (outer_namings ps) w.items j n kind) name
-            (subst (λ (k : Kind). IsInput (outer_namings ps) w.items j y k) same_kind g);
+        input = subst (λ (n : List ℕ). IsInput (outer_namings ps) w.items j n more) (sym seen) g;
       }
 
   -- the functions are items of one number, and have one name
@@ -144,7 +140,7 @@ predefined_in c (binders.Predefined d) = d
 predefined_in c (binders.Bound i) = c
 predefined_in c (binders.Applicable g) = c
 
-same_predefined : (c d : Predefined) → binders.Predefined c ≡ binders.Predefined d → c ≡ d
+pub same_predefined : (c d : Predefined) → binders.Predefined c ≡ binders.Predefined d → c ≡ d
 same_predefined c d e = ap (predefined_in c) e
 
 -- a name that is predefined in both
@@ -210,7 +206,6 @@ module _ (ps : List Predefined) (m w : ReadModel) (well : IsReadModel (outer_nam
       pub both : Contains (pairs_of rs qs) (i, j)
       pub left_slot : f.slot ≡ slot_of (outer_namings ps) m.items i
       pub right_slot : g.slot ≡ slot_of (outer_namings ps) w.items j
-      pub kinds : f.kind ≡ g.kind
 
     input_both : (x : List ℕ) (f g : Found) (i j : Input) → found left_names x ≡ Some f
         → found right_names x ≡ Some g → f.binder ≡ binders.Bound i → g.binder ≡ binders.Bound j
@@ -220,19 +215,16 @@ module _ (ps : List Predefined) (m w : ReadModel) (well : IsReadModel (outer_nam
         let b = right_input x g j e gj in
         let one = same_seen ps m w well other i p.other x f.kind p.same a.input p.holds.name p.holds.kind p.holds.input in
         let two = same_seen ps w m other well j q.other x g.kind q.same b.input q.holds.name q.holds.kind q.holds.input in
-        let high = reach_input ps m w well other order k l number at_left at_right i p.other x f.kind g one a.before e in
-        let low = reach_input ps w m other well back l k number at_right at_left j q.other x g.kind f two b.before h in
+        let high = reach_input ps m w well other order k l number at_left at_right i p.other x p.holds.kind g one a.before e in
+        let low = reach_input ps w m other well back l k number at_right at_left j q.other x q.holds.kind f two b.before h in
         let up = input_order names w.items p.other j x g.kind b.input (subst (λ (n : ℕ). slot_of names w.items p.other ≤ n) b.place high) in
         let down = input_order names m.items q.other i x f.kind a.input (subst (λ (n : ℕ). slot_of names m.items q.other ≤ n) a.place low) in
         let item = one_place ps m w well other order i.item j.item p.other.item q.other.item one.number two.number one.left one.right two.left two.right up down in
-        let same : p.other ≡ j = input_apart ps w other p.other j x f.kind g.kind one.input b.input item in
+        let same : p.other ≡ j = input_apart ps w other p.other j x p.holds.kind g.kind one.input b.input item in
         record {
           both = subst (λ (d : Input). Contains (pairs_of rs qs) (i, d)) same p.both;
           left_slot = a.place;
           right_slot = b.place;
-          kinds =
-              input_kind names w.items j x f.kind g.kind
-              (subst (λ (d : Input). IsInput names w.items d x f.kind) same one.input) b.input;
         }
 
     -- a predefined name is of no item
@@ -242,7 +234,7 @@ module _ (ps : List Predefined) (m w : ReadModel) (well : IsReadModel (outer_nam
     outer_low x f g i p h e fi gp q =
         let a = left_input x f i h fi in
         let one = same_seen ps m w well other i q.other x f.kind q.same a.input q.holds.name q.holds.kind q.holds.input in
-        let high = reach_input ps m w well other order k l number at_left at_right i q.other x f.kind g one a.before e in
+        let high = reach_input ps m w well other order k l number at_left at_right i q.other x q.holds.kind g one a.before e in
         let low = told_outer names w.items l g.slot (naming_found x g) p (told_found right_names x g e) gp in
         let under = (under_at (first_scope names) 0 w.items q.other.item).shorter in
         omega (arith, high, low, under)
@@ -306,7 +298,11 @@ module _ (ps : List Predefined) (m w : ReadModel) (well : IsReadModel (outer_nam
     (outer_in : (a : ℕ) → a < length (outer_namings ps) → Contains p.slots (a, a))
     (both_in : (i j : Input) → Contains (pairs_of rs qs) (i, j)
     → Contains p.slots (slot_of (outer_namings ps) m.items i, slot_of (outer_namings ps) w.items j)
-    × Contains p.inputs (i, j)) where
+    × Contains p.inputs (i, j))
+    (free : p.kinds ≡ false) where
+  any_kind : (f g : Found) → IsSameKind p.kinds f.kind g.kind
+  any_kind f g = subst (λ (b : Bool). IsSameKind b f.kind g.kind) (sym free) tt
+
   pub value_same : (x : List ℕ) (f g : Found)
       → found (sees (outer_namings ps) m.items k).names x ≡ Some f
       → found (sees (outer_namings ps) w.items l).names x ≡ Some g → IsValue f.binder → IsValue g.binder
@@ -324,7 +320,7 @@ module _ (ps : List Predefined) (m w : ReadModel) (well : IsReadModel (outer_nam
           let binder : c ≡ d = same_predefined c d (sym fa ∙ (ap (λ (n : Found). n.binder) same ∙ gb)) in (
             subst (λ (s : ℕ). Contains p.slots (f.slot, s)) (ap (λ (n : Found). n.slot) same)
                 (outer_in f.slot low),
-            ap (λ (n : Found). n.kind) same,
+            any_kind f g,
             subst (λ (y : Binder). IsSameBinder p y g.binder) (sym fa)
                 (subst (λ (y : Binder). IsSameBinder p (binders.Predefined c) y) (sym gb) binder),
           )
@@ -340,7 +336,7 @@ module _ (ps : List Predefined) (m w : ReadModel) (well : IsReadModel (outer_nam
             subst (λ (s : ℕ). Contains p.slots (f.slot, s)) (sym both.right_slot)
                 (subst (λ (s : ℕ). Contains p.slots (s, slot_of (outer_namings ps) w.items j))
                 (sym both.left_slot) inside.0),
-            both.kinds,
+            any_kind f g,
             subst (λ (y : Binder). IsSameBinder p y g.binder) (sym fa)
                 (subst (λ (y : Binder). IsSameBinder p (binders.Bound i) y) (sym gb) inside.1),
           )

@@ -3,6 +3,7 @@ pub mod Using
 pub mod AlikeItems
 pub mod Applied
 pub mod AlikeModels
+pub mod AlikeShapes
 pub mod Before
 pub mod AlikeTexts
 pub mod Named

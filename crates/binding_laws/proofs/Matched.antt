@@ -138,6 +138,7 @@ module _ (ps : List Predefined) (m w : ReadModel) (k l : ℕ) (rs qs : List Inpu
         record {
           slots = outer_slots (length names) ++ (used_part ++ own_part);
           inputs = pairs_of rs qs ++ own_inputs k l count;
+          kinds = false;
         };
     functions = pairs_of fs gs;
   }
@@ -233,14 +234,14 @@ module _ (ps : List Predefined) (m w : ReadModel) (k l : ℕ) (rs qs : List Inpu
         → IsNameOfGroup (outer_namings ps) m.items k j → seen_input m i ≡ seen_input m j → i ≡ j
     told_left i j h g e =
         let is = same_seen ps m m well well i j h.name h.kind e h.input g.name g.kind g.input in
-        input_apart ps m well i j h.name h.kind h.kind h.input is.input
+        input_apart ps m well i j h.name h.kind g.kind h.input is.input
         (well.apart i.item j.item is.number is.left is.right)
 
     told_right : (i j : Input) → IsNameOfGroup (outer_namings ps) w.items l i
         → IsNameOfGroup (outer_namings ps) w.items l j → seen_input w i ≡ seen_input w j → i ≡ j
     told_right i j h g e =
         let is = same_seen ps w w other other i j h.name h.kind e h.input g.name g.kind g.input in
-        input_apart ps w other i j h.name h.kind h.kind h.input is.input
+        input_apart ps w other i j h.name h.kind g.kind h.input is.input
         (other.apart i.item j.item is.number is.left is.right)
 
     used_one : (a b c d : ℕ) → IsUsedPair a b → IsUsedPair c d → (a ≡ c) ↔ (b ≡ d)

@@ -325,14 +325,6 @@ module _ (names : List Naming) (items : List Item) where
       same_input i j (ap (λ (m : Naming). m.binder) same)
 
   -- and one kind
-  pub input_kind : (i : Input) (x : List ℕ) (kind other : Kind) → IsInput i x kind
-      → IsInput i x other → kind ≡ other
-  input_kind i x kind other h g =
-      let left = input_told i x kind h (suc i.item) (omega arith) in
-      let right = input_told i x other g (suc i.item) (omega arith) in
-      let same : record { name = x; kind = kind; binder = binders.Bound i } ≡ record { name = x; kind = other; binder = binders.Bound i } = same_Some _ _ (sym left ∙ right) in
-      ap (λ (m : Naming). m.kind) same
-
   -- ---- functions
 
   pub record IsFunction (i : ℕ) (x : List ℕ) : Type 0 where

@@ -11,7 +11,7 @@ use Rattle.binding_kinds.specs.declared.scope.Input.{Input}
 use Rattle.binding_kinds.specs.declared.scope.Used.{Used}
 use Rattle.binding_kinds.specs.Value.{Naming, Bound, BareItem, Group, Check, Mute, Defined, bare_item}
 use Rattle.binding_kinds.specs.Outermost.{naming_of}
-use Rattle.binding_kinds.specs.Senses.{Sense, kind_in}
+use Rattle.binding_kinds.specs.Senses.{Sense}
 use Rattle.binding_kinds.specs.Faults.{IsFaultOfItem, names_after}
 use Rattle.binding_graph.specs.declared.resolved.Body.{Body}
 use Rattle.binding_graph.specs.declared.resolved.ResolvedItem.{ResolvedItem}
@@ -20,16 +20,15 @@ use Rattle.binding_graph.specs.declared.resolved.Role.TheVariants as roles
 use Rattle.binding_graph.specs.Resolved.{AreBodies, IsGroupRole, IsResolvedIn}
 use Rattle.binding_graph.specs.Usages.{Usage, with_values}
 use Rattle.binding_laws.specs.ItemLaws.{Scope, scope_with_names, first_scope}
-use Rattle.binding_laws.specs.Reread.{ReadModel, HasNumber, outer_namings, IsReadModel, SeenName, seen_body, bodies_of, seen_at}
+use Rattle.binding_laws.specs.Reread.{ReadModel, HasNumber, outer_namings, IsReadModel, bodies_of, seen_at}
 use Rattle.binding_laws.proofs.AlikeModels.{item_at}
 use Rattle.binding_laws.proofs.Lists.{each_reverse}
 use Rattle.binding_laws.proofs.Told.{told}
-use Rattle.binding_laws.proofs.Added.{kind_seen}
 use Rattle.binding_laws.proofs.Placed.{sees, next_names, own_names, IsInput}
 use Rattle.binding_laws.proofs.Named.{HasNames}
 use Rattle.binding_laws.proofs.Sound.{sound_term, sound_group, sound_body}
 use Rattle.binding_laws.proofs.Whole.{IsOuter, HasCounts, counts_at, no_fault_at}
-use Rattle.binding_laws.proofs.Known.{known_at, known_outermost, recursive_kind, group_apart}
+use Rattle.binding_laws.proofs.Known.{group_apart}
 
 -- ---- lists of one length
 
@@ -65,26 +64,21 @@ outer_names ps slot n h =
 -- ---- the bodies of a group
 
 module _ (ss : List Sense) (us : List Usage) (names : List Naming) (from : ℕ) where
-  abbrev as_seen : Bound → SeenName
-  as_seen b = record { name = b.name; kind = kind_in ss names b.body }
-
   bodies_seen : (bs : List Bound) (rs : List Body) (vs : List Used) (p : ℕ) (b : Bound)
       → AreBodies ss us names from vs bs rs → slice_get bs p ≡ Some b
-      → option_map seen_body (slice_get rs p) ≡ Some (as_seen b)
+      → option_map (λ r. r.name) (slice_get rs p) ≡ Some b.name
   bodies_seen [] rs vs p b h e = absurd (none-some b e)
   bodies_seen (c ∷ bs) [] vs p b h e = absurd h
   bodies_seen (c ∷ bs) (r ∷ rs) vs zero b h e =
       let same : c ≡ b = same_Some c b e in
       let name : r.name ≡ c.name = h.0 in
-      let kind : r.code.kind ≡ kind_in ss names c.body = h.1.0 in
-      let here : seen_body r ≡ as_seen c = λ i. record { name = name i; kind = kind i } in
-      ap (λ (s : SeenName). Some s) (here ∙ ap as_seen same)
+      ap (λ (s : List ℕ). Some s) (name ∙ ap (λ (d : Bound). d.name) same)
   bodies_seen (c ∷ bs) (r ∷ rs) vs (suc p) b h e =
       bodies_seen bs rs (with_values us names [] from c.body vs) p b h.2 e
 
   role_seen : (recursive : Bool) (bs : List Bound) (role : Role) (p : ℕ) (b : Bound)
       → IsGroupRole ss us names from recursive bs role → slice_get bs p ≡ Some b
-      → option_map seen_body (slice_get (bodies_of role) p) ≡ Some (as_seen b)
+      → option_map (λ r. r.name) (slice_get (bodies_of role) p) ≡ Some b.name
   role_seen recursive bs (roles.Group r bodies) p b h e = bodies_seen bs bodies.items [] p b h.1 e
   role_seen recursive bs (roles.Check c) p b h e = absurd h
   role_seen recursive bs roles.Silent p b h e = absurd h
@@ -165,56 +159,41 @@ module _ (ps : List Predefined) (m : ReadModel) (well : IsReadModel (outer_namin
   -- ---- inputs
 
   -- what others see of the input
-  pub record IsSeenAs (i : Input) (x : List ℕ) (kind : Kind) : Type 0 where
+  pub record IsSeenAs (i : Input) (x : List ℕ) : Type 0 where
     pub number : ℕ
     pub has_number : HasNumber m i.item number
-    pub seen : seen_at (slice_get m.resolved i.item) i.position
-        ≡ Some (record { name = x; kind = kind })
+    pub seen : seen_at (slice_get m.resolved i.item) i.position ≡ Some x
 
   group_seen : (k : ℕ) (recursive : Bool) (bs : List Bound) (r : ResolvedItem) (p : ℕ) (b : Bound)
       → (own : List Naming)
-      → own ≡ names_after (seen_by k).senses (seen_by k).names k (Group recursive bs)
-      → ((i : ℕ) (l : ModelFault)
-      → IsFaultOfItem (seen_by k).senses (seen_by k).names k (Group recursive bs) i l → ⊥)
       → IsResolvedIn (seen_by k).senses (seen_by k).usages (seen_by k).names own
       (length (seen_by k).names) (Group recursive bs) r → slice_get bs p ≡ Some b
-      → option_map seen_body (slice_get (bodies_of r.role) p)
-      ≡ Some (record {
-        name = b.name;
-        kind = kind_seen (seen_by k).senses (seen_by k).names recursive b;
-      })
-  group_seen k true bs r p b own is none h e =
+      → option_map (λ c. c.name) (slice_get (bodies_of r.role) p) ≡ Some b.name
+  group_seen k true bs r p b own h e =
       let s = seen_by k in
-      let known = known_at (first_scope (outer_namings ps)) 0 m.items k (record { sound = tt; known = known_outermost ps }) well.no_fault in
-      let kind = ap (λ (ns : List Naming). kind_in s.senses ns b.body) is ∙ recursive_kind s k bs p b known none e in
       role_seen s.senses s.usages own (length s.names) true bs r.role p b h.0 e
-      ∙ (λ d. Some (record { name = b.name; kind = kind d }))
-  group_seen k false bs r p b own is none h e =
+  group_seen k false bs r p b own h e =
       let s = seen_by k in
       role_seen s.senses s.usages s.names (length s.names) false bs r.role p b h.0 e
 
   pub input_seen : (i : Input) (x : List ℕ) (kind : Kind) → IsInput (outer_namings ps) m.items i x kind
-      → IsSeenAs i x kind
+      → IsSeenAs i x
   input_seen i x kind h =
       let s = seen_by i.item in
       let number = beside m.items m.numbers i.item h.item well.numbered h.there in
       let resolved = beside m.items m.resolved i.item h.item well.whole h.there in
       let is = resolved_at i.item h.item resolved.0 h.there resolved.1 in
-      let own : (seen_by (suc i.item)).names ≡ names_after s.senses s.names i.item (Group h.recursive h.bounds) = sym (own_is i.item h.item h.there) ∙ ap (names_after s.senses s.names i.item) h.clause in
-      let none : (j : ℕ) (l : ModelFault) → IsFaultOfItem s.senses s.names i.item (Group h.recursive h.bounds) j l → ⊥ =
-      λ j l f. faultless i.item h.item h.there j l
-      (subst (λ (c : BareItem). IsFaultOfItem s.senses s.names i.item c j l) (sym h.clause) f) in
       let group : IsResolvedIn s.senses s.usages s.names (seen_by (suc i.item)).names (length s.names) (Group h.recursive h.bounds) resolved.0 =
       subst
       (λ (c : BareItem). IsResolvedIn s.senses s.usages s.names (seen_by (suc i.item)).names
       (length s.names) c resolved.0) h.clause is in
-      let seen = group_seen i.item h.recursive h.bounds resolved.0 i.position h.bound (seen_by (suc i.item)).names own none group h.has_bound in
+      let seen = group_seen i.item h.recursive h.bounds resolved.0 i.position h.bound (seen_by (suc i.item)).names group h.has_bound in
       record {
         number = number.0;
         has_number = number.1;
         seen =
             ap (λ (o : Option ResolvedItem). seen_at o i.position) resolved.1
-            ∙ (seen ∙ (λ d. Some (record { name = h.name d; kind = h.is_kind d })));
+            ∙ (seen ∙ (λ d. Some (h.name d)));
       }
 
   -- two names of an item that are spelt alike are one

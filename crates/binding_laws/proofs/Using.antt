@@ -255,7 +255,7 @@ module _ (p : Pairing) (from start : ℕ) (pairing : IsPairing p from start) whe
         at_first true own = λ i. sources.Own (own refl i)
         at_first false own = outer
 
-    source_same : (f g : Found) → IsSameFound p f g → source_of vs from f ≡ source_of ws start g
+    pub source_same : (f g : Found) → IsSameFound p f g → source_of vs from f ≡ source_of ws start g
     source_same f g k =
         source_by (nat_le from f.slot) (nat_le start g.slot) (f.slot - from) (g.slot - start)
         (source_of_binder vs f.slot f.binder) (source_of_binder ws g.slot g.binder)

@@ -26,7 +26,7 @@ module _ (ps : List Predefined) (m : ReadModel) (sound : IsReadModel (outer_nami
   input_visible : (k : ℕ) (i : Input) → IsNameOfGroup (outer_namings ps) m.items k i → IsSeenInput m i
   input_visible k i h =
       let is = input_seen ps m sound i h.name h.kind h.input in
-      record { number = is.number; name = record { name = h.name; kind = h.kind }; seen = λ d. (is.has_number d, is.seen d) }
+      record { number = is.number; name = h.name; seen = λ d. (is.has_number d, is.seen d) }
 
   function_visible : (f : ℕ)
       → IsKeptFunction (outer_namings ps) m.items (outer_names ps) Anything Anywhere f

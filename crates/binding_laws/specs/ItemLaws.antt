@@ -31,10 +31,12 @@ pub record Scope : Type 0 where
   pub usages : List Usage
   pub names : List Naming
 
--- which slots of one model stand for those of another, and which names of items
+-- which slots of one model stand for those of another, and which names of items; and whether kinds
+-- count: names that stand for each other have one kind then
 pub record Pairing : Type 0 where
   pub slots : List (ℕ × ℕ)
   pub inputs : List (Input × Input)
+  pub kinds : Bool
 
 -- no slot stands for two; names of the item itself, from these slots on, stand for those at the
 -- same positions
@@ -51,10 +53,16 @@ IsSameBinder p (binders.Bound i) (binders.Bound j) = Contains p.inputs (i, j)
 IsSameBinder p (binders.Applicable f) (binders.Applicable g) = Unit {0}
 IsSameBinder p _ _ = ⊥
 
--- the names have one kind, and stand for the same
+-- where kinds count, they are one
+abbrev pub IsSameKind : Bool → Kind → Kind → Type 0
+IsSameKind true k l = k ≡ l
+IsSameKind false k l = Unit {0}
+
+-- the names stand for the same, and have one kind where kinds count
 abbrev pub IsSameFound : Pairing → Found → Found → Type 0
 IsSameFound p f g =
-    Contains p.slots (f.slot, g.slot) × (f.kind ≡ g.kind) × IsSameBinder p f.binder g.binder
+    Contains p.slots (f.slot, g.slot) × IsSameKind p.kinds f.kind g.kind
+    × IsSameBinder p f.binder g.binder
 
 abbrev pub IsSameName : Pairing → Option Found → Option Found → Type 0
 IsSameName p None None = Unit {0}
@@ -82,7 +90,7 @@ IsSameFormula p _ _ = ⊥
 -- two functions are the same to those who apply them
 pub record IsSameSense (p : Pairing) (s o : Sense) : Type 0 where
   pub arity : s.arity ≡ o.arity
-  pub kind_with : (kinds : List Kind) → length kinds ≡ s.arity
+  pub kind_with : p.kinds ≡ true → (kinds : List Kind) → length kinds ≡ s.arity
       → s.kind_with kinds ≡ o.kind_with kinds
   pub formula : IsSameFormula p s.formula o.formula
 
@@ -147,11 +155,11 @@ HasSameNamesIn p s o own other (Check w e) = HasSameNames p s o [] e
 HasSameNamesIn p s o own other Mute = Unit {0}
 HasSameNamesIn p s o own other (Defined n ps b) = HasSameNames p s o ps b
 
--- two items are resolved to the same, and the names that they use stand for each other, in the same
--- order
+-- two items are resolved to the same where kinds count, and the names that they use stand for each
+-- other, in the same order
 abbrev pub DoTheSame : Pairing → ResolvedItem → ResolvedItem → Type 0
 DoTheSame p r q =
-    (role_content r.role ≡ role_content q.role)
+    (p.kinds ≡ true → role_content r.role ≡ role_content q.role)
     × AllZip (λ i j. Contains p.inputs (i, j)) r.inputs.items q.inputs.items
 
 -- the item is resolved in this scope, where bodies of a recursive group see these names, and those

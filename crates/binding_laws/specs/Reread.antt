@@ -1,11 +1,11 @@
 -- Laws of items that are read again: after an edit of its model an item that says what it said does
--- what it did, if the names of other items that it uses and the functions that it applies are what
--- they were, as other items see them (`items_are_read_again`). Read `ItemLaws` first.
+-- what it did, kinds left out, if the names of other items that it uses and the functions that it
+-- applies are what they were, as other items see them (`items_are_read_again`). Read `ItemLaws`
+-- first.
 use Rattle.std.specs.Prelude.{◌≡◌, ℕ, ◌<◌, List, [], length, map, reverse, slice_get, option_map, Option, Some, None}
 use Rattle.std.specs.List.{AllByRecursion as Each}
 use Rattle.text_values.specs.declared.model.Item.{Item}
 use Rattle.text_values.specs.declared.predefined.Predefined.{Predefined}
-use Rattle.binding_kinds.specs.declared.kinds.Kind.{Kind}
 use Rattle.binding_kinds.specs.declared.scope.Input.{Input}
 use Rattle.binding_kinds.specs.Value.{Naming, BareItem, bare_item}
 use Rattle.binding_kinds.specs.Outermost.{naming_of}
@@ -16,6 +16,7 @@ use Rattle.binding_graph.specs.declared.resolved.Role.{Role}
 use Rattle.binding_graph.specs.declared.resolved.Role.TheVariants as roles
 use Rattle.binding_graph.specs.Contents.{role_content}
 use Rattle.binding_graph.specs.Resolved.{AreResolved, AreLabelledAs}
+use Rattle.binding_shapes.specs.Shapes.{role_shape}
 use Rattle.binding_laws.specs.ItemLaws.{SayTheSame}
 
 -- ---- models
@@ -60,26 +61,18 @@ pub record IsItemOf (m : ReadModel) (number index : ℕ) (x : Item) (r : Resolve
 
 -- ---- what an item uses, as other items see it
 
--- a name of an item: how it is spelt, and of which kind its value is
-pub record SeenName : Type 0 where
-  pub name : List ℕ
-  pub kind : Kind
-
-abbrev pub seen_body : Body → SeenName
-seen_body b = record { name = b.name; kind = b.code.kind }
-
 abbrev pub bodies_of : Role → List Body
 bodies_of (roles.Group recursive bodies) = bodies.items
 bodies_of (roles.Check c) = []
 bodies_of roles.Silent = []
 
--- the name at that position of an item
-abbrev pub seen_at : Option ResolvedItem → ℕ → Option SeenName
+-- the name at that position of an item, as it is spelt
+abbrev pub seen_at : Option ResolvedItem → ℕ → Option (List ℕ)
 seen_at None position = None
-seen_at (Some r) position = option_map seen_body (slice_get (bodies_of r.role) position)
+seen_at (Some r) position = option_map (λ b. b.name) (slice_get (bodies_of r.role) position)
 
 -- a name of another item, by the number of its item
-abbrev pub seen_input : ReadModel → Input → Option ℕ × Option SeenName
+abbrev pub seen_input : ReadModel → Input → Option ℕ × Option (List ℕ)
 seen_input m i = (slice_get m.numbers i.item, seen_at (slice_get m.resolved i.item) i.position)
 
 -- a function, by the number of its item, with its text
@@ -93,10 +86,10 @@ pub record UseTheSame (m w : ReadModel) (r q : ResolvedItem) : Type 0 where
 
 -- ---- laws
 
--- the input has a number, a spelling and a kind
+-- the input has a number and a spelling
 pub record IsSeenInput (m : ReadModel) (i : Input) : Type 0 where
   pub number : ℕ
-  pub name : SeenName
+  pub name : List ℕ
   pub seen : seen_input m i ≡ (Some number, Some name)
 
 -- the function has a number and a text
@@ -113,10 +106,10 @@ UsesAreSeen =
     → Each (IsSeenInput m) r.inputs.items × Each (IsSeenFunction m) r.functions.items
 
 -- an item of one number and one text that uses the same in two models of one order does the same in
--- both
+-- both, whatever the kinds of the names that it uses are in either
 abbrev pub ItemsAreReadAgain : Type 0
 ItemsAreReadAgain =
     (ps : List Predefined) (m w : ReadModel) (number k l : ℕ) (x y : Item) (r q : ResolvedItem)
     → IsReadModel (outer_namings ps) m → IsReadModel (outer_namings ps) w → AreInOneOrder m w
     → IsItemOf m number k x r → IsItemOf w number l y q → SayTheSame x y → UseTheSame m w r q
-    → role_content r.role ≡ role_content q.role
+    → role_shape (role_content r.role) ≡ role_shape (role_content q.role)

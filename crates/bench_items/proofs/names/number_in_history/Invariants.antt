@@ -4,5 +4,5 @@ use Rattle.bench_items.proofs.names.number_in_history.Given as goal
 
 abbrev pub invariant-loop-index : goal.invariant-loop-index
 invariant-loop-index l =
-    number_in_history l.history (record { name = l.name; kind = l.kind })
-    ≡ l.index + number_in_history (drop l.index l.history) (record { name = l.name; kind = l.kind })
+    number_in_history l.history l.name
+    ≡ l.index + number_in_history (drop l.index l.history) l.name

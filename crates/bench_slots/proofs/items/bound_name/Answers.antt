@@ -1,19 +1,15 @@
-use Rattle.std.proofs.Common.{ℕ, List, get_or, ap, sym, ◌∙◌, arith}
-use Rattle.binding_kinds.specs.declared.kinds.Kind.{Kind}
+use Rattle.std.proofs.Common.{get_or, ap, sym, ◌∙◌, arith}
 use Rattle.binding_graph.specs.declared.resolved.Role.{Role}
 use Rattle.bench_items.specs.Items.{role_content}
-use Rattle.bench_items.specs.Naming.{SeenName, seen_names_in}
+use Rattle.bench_items.specs.Naming.{seen_names_in}
 use Rattle.bench_slots.specs.Slots.{no_name}
 use Rattle.bench_slots.proofs.Finding.{body_name_at}
 use Rattle.bench_slots.proofs.items.bound_name.Goals as goal
 
-abbrev spelt : Kind → List ℕ → SeenName
-spelt kind name = record { name = name; kind = kind }
-
 pub returns-then-position-len : goal.returns-then-position-len
 returns-then-position-len c =
     let bodies = c.in-Group.bodies in
-    ap (spelt c.index-body.result.now.code.kind) c.as_bytes.ensures
+    c.as_bytes.ensures
     ∙ body_name_at bodies.items c.args.position c.index-body.result.now
     (omega (arith, c.if-position-len.true, c.len.ensures, bodies.ok.0)) c.index-body.ensures
     ∙ ap (λ (r : Role). get_or (seen_names_in (role_content r)) c.args.position no_name)

@@ -1,9 +1,12 @@
 use Rattle.std.proofs.Common.{map}
+use Rattle.binding_shapes.specs.Shapes.{role_shape}
+use Rattle.bench_items.specs.Items.{role_content}
 use Rattle.bench_values.proofs.Making.{answers_over}
 use Rattle.bench_values.proofs.run.check_answers.Goals as goal
 
 pub returns : goal.returns
 returns c = λ over.
-    answers_over c.args.item.now.role (map (λ v. v.now) c.args.values.now) c.args.space.now
-    c.deref.result.now c.in_ok-inputs.inputs.items c.eval_check.result over
-    c.deref.ensures.value c.in_ok-inputs.ensures c.eval_check.ensures
+    answers_over c.in_ok-item.item.role (role_shape (role_content c.args.role.now))
+    (map (λ v. v.now) c.args.values.now) c.args.space.now c.deref-2.result.now
+    c.in_ok-inputs.inputs.items c.deref.result.now c.eval_check.result over c.deref-2.ensures.value
+    c.deref.ensures.value c.in_ok-inputs.ensures c.in_ok-item.ensures c.eval_check.ensures

@@ -1,6 +1,6 @@
 use Rattle.std.proofs.Common.{arith, rules, tests}
 use Rattle.text_values.specs.TestValue.{thread_steps}
-use Rattle.bench_values.proofs.Compared.{same_more, same_through, same_here}
+use Rattle.binding_shapes.proofs.Compared.{same_more, same_through, same_here}
 use Rattle.bench_values.proofs.same.same_threads.Goals as goal
 
 pub returns-then-not-same_thread : goal.returns-then-not-same_thread

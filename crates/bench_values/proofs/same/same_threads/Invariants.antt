@@ -1,5 +1,5 @@
 use Rattle.text_values.specs.TestValue.{thread_steps}
-use Rattle.bench_values.proofs.Compared.{AreSameTo}
+use Rattle.binding_shapes.proofs.Compared.{AreSameTo}
 use Rattle.bench_values.proofs.same.same_threads.Given as goal
 
 abbrev pub invariant-loop-index : goal.invariant-loop-index
