@@ -1,4 +1,5 @@
--- What a worker notes of its turns, and when it goes on. Read after Tallies.
+-- What a worker notes of its turns, and when it goes on. Contracts inside the crate cite it. Read
+-- after Tallies.
 use Rattle.std.specs.Prelude.{Bool, true, false, not}
 use Rattle.memo_core.specs.declared.claims.Finish.{Finish}
 use Rattle.desk.specs.declared.fault.DeskFault.{DeskFault}

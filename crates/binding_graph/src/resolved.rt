@@ -31,7 +31,7 @@ pub enum Step {
     /// The set that a name stands for.
     PushSet(Source),
     /// `_`, all events of the execution.
-    PushAllEvents,
+    PushEverything,
     /// `{}`, the empty set.
     PushNoEvents,
     /// Two sets to one.
@@ -44,10 +44,10 @@ pub enum Step {
     PushNoPairs,
     /// Two relations to one.
     BlendRelations(Blend),
-    /// Two relations to their composition.
-    Compose,
+    /// Two relations to their sequence.
+    SequenceRelations,
     /// Two sets to their product.
-    Multiply,
+    ProductOfSets,
     /// A set to the identity on it.
     IdentityOn,
     /// A relation to a closure of it, or to its inverse.

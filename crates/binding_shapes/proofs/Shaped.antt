@@ -31,15 +31,15 @@ shapes_to xs ys same = shapes_are xs ∙ (same ∙ sym (shapes_are ys))
 step_by_shape : (ks : List Kind) (s : Step) (st : LoweringState)
     → step_with ks (shape_of_step s) st ≡ step_with ks s st
 step_by_shape ks (steps.PushSet source) st = refl
-step_by_shape ks steps.PushAllEvents st = refl
+step_by_shape ks steps.PushEverything st = refl
 step_by_shape ks steps.PushNoEvents st = refl
 step_by_shape ks (steps.BlendSets how) st = refl
 step_by_shape ks steps.ComplementSet st = refl
 step_by_shape ks (steps.PushRelation source) st = refl
 step_by_shape ks steps.PushNoPairs st = refl
 step_by_shape ks (steps.BlendRelations how) st = refl
-step_by_shape ks steps.Compose st = refl
-step_by_shape ks steps.Multiply st = refl
+step_by_shape ks steps.SequenceRelations st = refl
+step_by_shape ks steps.ProductOfSets st = refl
 step_by_shape ks steps.IdentityOn st = refl
 step_by_shape ks (steps.Close how) st = refl
 step_by_shape ks steps.ComplementRelation st = refl

@@ -33,14 +33,14 @@ abbrev pub shape_of_infix : Infix → Step
 shape_of_infix infixes.Union = steps.BlendRelations blends.Union
 shape_of_infix infixes.Intersection = steps.BlendRelations blends.Intersection
 shape_of_infix infixes.Difference = steps.BlendRelations blends.Difference
-shape_of_infix infixes.Sequence = steps.Compose
-shape_of_infix infixes.Product = steps.Multiply
+shape_of_infix infixes.Sequence = steps.SequenceRelations
+shape_of_infix infixes.Product = steps.ProductOfSets
 
 -- the steps of an expression without kinds, and then the rest
 abbrev pub shape_steps : List Used → ℕ → Formula → List Step → List Step
 shape_steps us from (Value f) rest = steps.PushRelation (source_of us from f) ∷ rest
 shape_steps us from (Parameter i) rest = steps.PushNoPairs ∷ rest
-shape_steps us from Everything rest = steps.PushAllEvents ∷ rest
+shape_steps us from Everything rest = steps.PushEverything ∷ rest
 shape_steps us from NoPairs rest = steps.PushNoPairs ∷ rest
 shape_steps us from NoEvents rest = steps.PushNoEvents ∷ rest
 shape_steps us from (Joined op a b) rest =
@@ -100,13 +100,13 @@ shape_joined infixes.Difference OfAny _ s t a b A B k l h f g = absurd k
 shape_joined infixes.Difference OfSet OfAny s t a b A B k l h f g = absurd l
 shape_joined infixes.Difference OfRelation OfAny s t a b A B k l h f g = absurd l
 shape_joined infixes.Sequence OfRelation OfRelation s t a b A B k l h f g =
-    shape_two (rel_code a) (rel_code b) A B f g steps.Compose
+    shape_two (rel_code a) (rel_code b) A B f g steps.SequenceRelations
 shape_joined infixes.Sequence OfSet _ s t a b A B k l h f g = cc
 shape_joined infixes.Sequence OfRelation OfSet s t a b A B k l h f g = cc
 shape_joined infixes.Sequence OfAny _ s t a b A B k l h f g = absurd k
 shape_joined infixes.Sequence OfRelation OfAny s t a b A B k l h f g = absurd l
 shape_joined infixes.Product OfSet OfSet s t a b A B k l h f g =
-    shape_two (set_code s) (set_code t) A B f g steps.Multiply
+    shape_two (set_code s) (set_code t) A B f g steps.ProductOfSets
 shape_joined infixes.Product OfRelation _ s t a b A B k l h f g = cc
 shape_joined infixes.Product OfSet OfRelation s t a b A B k l h f g = cc
 shape_joined infixes.Product OfAny _ s t a b A B k l h f g = absurd k

@@ -17,15 +17,15 @@ use Rattle.binding_graph.specs.Lowering.{LoweringState, top, below, with_step, w
 -- a step that has one form for sets and one for relations has the latter
 abbrev pub shape_of_step : Step → Step
 shape_of_step (steps.PushSet source) = steps.PushRelation source
-shape_of_step steps.PushAllEvents = steps.PushAllEvents
+shape_of_step steps.PushEverything = steps.PushEverything
 shape_of_step steps.PushNoEvents = steps.PushNoEvents
 shape_of_step (steps.BlendSets how) = steps.BlendRelations how
 shape_of_step steps.ComplementSet = steps.ComplementRelation
 shape_of_step (steps.PushRelation source) = steps.PushRelation source
 shape_of_step steps.PushNoPairs = steps.PushNoPairs
 shape_of_step (steps.BlendRelations how) = steps.BlendRelations how
-shape_of_step steps.Compose = steps.Compose
-shape_of_step steps.Multiply = steps.Multiply
+shape_of_step steps.SequenceRelations = steps.SequenceRelations
+shape_of_step steps.ProductOfSets = steps.ProductOfSets
 shape_of_step steps.IdentityOn = steps.IdentityOn
 shape_of_step (steps.Close how) = steps.Close how
 shape_of_step steps.ComplementRelation = steps.ComplementRelation
@@ -64,17 +64,17 @@ with_complement st =
 -- one step more, in the form of the kinds of its operands
 abbrev pub step_with : List Kind → Step → LoweringState → LoweringState
 step_with ks (steps.PushSet source) st = with_source ks source st
-step_with ks steps.PushAllEvents st = with_step st.kinds st.steps OfSet steps.PushAllEvents
+step_with ks steps.PushEverything st = with_step st.kinds st.steps OfSet steps.PushEverything
 step_with ks steps.PushNoEvents st = with_step st.kinds st.steps OfSet steps.PushNoEvents
 step_with ks (steps.BlendSets how) st = with_blend how st
 step_with ks steps.ComplementSet st = with_complement st
 step_with ks (steps.PushRelation source) st = with_source ks source st
 step_with ks steps.PushNoPairs st = with_step st.kinds st.steps OfRelation steps.PushNoPairs
 step_with ks (steps.BlendRelations how) st = with_blend how st
-step_with ks steps.Compose st =
-    with_step (below (below st.kinds)) st.steps OfRelation steps.Compose
-step_with ks steps.Multiply st =
-    with_step (below (below st.kinds)) st.steps OfRelation steps.Multiply
+step_with ks steps.SequenceRelations st =
+    with_step (below (below st.kinds)) st.steps OfRelation steps.SequenceRelations
+step_with ks steps.ProductOfSets st =
+    with_step (below (below st.kinds)) st.steps OfRelation steps.ProductOfSets
 step_with ks steps.IdentityOn st = with_step (below st.kinds) st.steps OfRelation steps.IdentityOn
 step_with ks (steps.Close how) st = with_step (below st.kinds) st.steps OfRelation (steps.Close how)
 step_with ks steps.ComplementRelation st = with_complement st

@@ -139,15 +139,15 @@ impl Kinding {
     {
         match step {
             Step::PushSet(source) => self.put_source(kinds, source),
-            Step::PushAllEvents => self.put(Kind::OfSet, step),
+            Step::PushEverything => self.put(Kind::OfSet, step),
             Step::PushNoEvents => self.put(Kind::OfSet, step),
             Step::BlendSets(how) => self.put_blend(how),
             Step::ComplementSet => self.put_complement(),
             Step::PushRelation(source) => self.put_source(kinds, source),
             Step::PushNoPairs => self.put(Kind::OfRelation, step),
             Step::BlendRelations(how) => self.put_blend(how),
-            Step::Compose => self.put_pair(step),
-            Step::Multiply => self.put_pair(step),
+            Step::SequenceRelations => self.put_pair(step),
+            Step::ProductOfSets => self.put_pair(step),
             Step::IdentityOn => self.put_relation(step),
             Step::Close(_) => self.put_relation(step),
             Step::ComplementRelation => self.put_complement(),

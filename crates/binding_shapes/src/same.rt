@@ -43,8 +43,8 @@ fn same_step(this: Step, that: Step) -> bool
             Step::PushSet(other) => same_source(part, other),
             _ => false,
         },
-        Step::PushAllEvents => match that {
-            Step::PushAllEvents => true,
+        Step::PushEverything => match that {
+            Step::PushEverything => true,
             _ => false,
         },
         Step::PushNoEvents => match that {
@@ -71,12 +71,12 @@ fn same_step(this: Step, that: Step) -> bool
             Step::BlendRelations(other) => part == other,
             _ => false,
         },
-        Step::Compose => match that {
-            Step::Compose => true,
+        Step::SequenceRelations => match that {
+            Step::SequenceRelations => true,
             _ => false,
         },
-        Step::Multiply => match that {
-            Step::Multiply => true,
+        Step::ProductOfSets => match that {
+            Step::ProductOfSets => true,
             _ => false,
         },
         Step::IdentityOn => match that {

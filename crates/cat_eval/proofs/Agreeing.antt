@@ -9,7 +9,7 @@ use Rattle.binding_graph.specs.declared.resolved.Source.{Source}
 use Rattle.binding_graph.specs.declared.resolved.Source.TheVariants as sources
 use Rattle.binding_graph.specs.declared.resolved.Step.{Step}
 use Rattle.binding_graph.specs.declared.resolved.Step.TheVariants as steps
-use Rattle.binding_graph.specs.Trees.{SetTree, SetName, AllEvents, NoEvent, BlendSets, ComplementSet, RelTree, RelName, NoPair, BlendRelations, Compose, Multiply, IdentityOn, Close, ComplementRelation, set_code, rel_code}
+use Rattle.binding_graph.specs.Trees.{SetTree, SetName, AllEvents, NoEvent, BlendSets, ComplementSet, RelTree, RelName, NoPair, BlendRelations, SequenceRelations, ProductOfSets, IdentityOn, Close, ComplementRelation, set_code, rel_code}
 use Rattle.cat_eval.specs.Least.{IsLeast, body}
 use Rattle.cat_eval.specs.Meaning.{MeansSet, MeansRelation}
 use Rattle.cat_eval.specs.Named.{WithOwn, OwnPairs}
@@ -31,23 +31,23 @@ module _ (P : Source → Type 0) where
   OfRelation (RelName source) = P source
   OfRelation NoPair = Unit {0}
   OfRelation (BlendRelations how e f) = OfRelation e × OfRelation f
-  OfRelation (Compose e f) = OfRelation e × OfRelation f
-  OfRelation (Multiply s t) = OfSet s × OfSet t
+  OfRelation (SequenceRelations e f) = OfRelation e × OfRelation f
+  OfRelation (ProductOfSets s t) = OfSet s × OfSet t
   OfRelation (IdentityOn s) = OfSet s
   OfRelation (Close how e) = OfRelation e
   OfRelation (ComplementRelation e) = OfRelation e
 
   abbrev pub OfStep : Step → Type 0
   OfStep (steps.PushSet source) = P source
-  OfStep steps.PushAllEvents = Unit {0}
+  OfStep steps.PushEverything = Unit {0}
   OfStep steps.PushNoEvents = Unit {0}
   OfStep (steps.BlendSets how) = Unit {0}
   OfStep steps.ComplementSet = Unit {0}
   OfStep (steps.PushRelation source) = P source
   OfStep steps.PushNoPairs = Unit {0}
   OfStep (steps.BlendRelations how) = Unit {0}
-  OfStep steps.Compose = Unit {0}
-  OfStep steps.Multiply = Unit {0}
+  OfStep steps.SequenceRelations = Unit {0}
+  OfStep steps.ProductOfSets = Unit {0}
   OfStep steps.IdentityOn = Unit {0}
   OfStep (steps.Close how) = Unit {0}
   OfStep steps.ComplementRelation = Unit {0}
@@ -77,13 +77,13 @@ module _ (P : Source → Type 0) where
       let one = relation_parts e (rel_code f (steps.BlendRelations how ∷ rest)) h in
       let two = relation_parts f (steps.BlendRelations how ∷ rest) one.1 in
       ((one.0, two.0), two.1.1)
-  relation_parts (Compose e f) rest h =
-      let one = relation_parts e (rel_code f (steps.Compose ∷ rest)) h in
-      let two = relation_parts f (steps.Compose ∷ rest) one.1 in
+  relation_parts (SequenceRelations e f) rest h =
+      let one = relation_parts e (rel_code f (steps.SequenceRelations ∷ rest)) h in
+      let two = relation_parts f (steps.SequenceRelations ∷ rest) one.1 in
       ((one.0, two.0), two.1.1)
-  relation_parts (Multiply s t) rest h =
-      let one = set_parts s (set_code t (steps.Multiply ∷ rest)) h in
-      let two = set_parts t (steps.Multiply ∷ rest) one.1 in
+  relation_parts (ProductOfSets s t) rest h =
+      let one = set_parts s (set_code t (steps.ProductOfSets ∷ rest)) h in
+      let two = set_parts t (steps.ProductOfSets ∷ rest) one.1 in
       ((one.0, two.0), two.1.1)
   relation_parts (IdentityOn s) rest h =
       let one = set_parts s (steps.IdentityOn ∷ rest) h in
@@ -108,15 +108,15 @@ module _ (P : Source → Type 0) where
         → ((name : Predefined) → Contains (step_names x) name → P (sources.Predefined name))
         → OfStep x
     of_step (steps.PushSet source) named = of_source source named
-    of_step steps.PushAllEvents named = tt
+    of_step steps.PushEverything named = tt
     of_step steps.PushNoEvents named = tt
     of_step (steps.BlendSets how) named = tt
     of_step steps.ComplementSet named = tt
     of_step (steps.PushRelation source) named = of_source source named
     of_step steps.PushNoPairs named = tt
     of_step (steps.BlendRelations how) named = tt
-    of_step steps.Compose named = tt
-    of_step steps.Multiply named = tt
+    of_step steps.SequenceRelations named = tt
+    of_step steps.ProductOfSets named = tt
     of_step steps.IdentityOn named = tt
     of_step (steps.Close how) named = tt
     of_step steps.ComplementRelation named = tt
@@ -184,8 +184,8 @@ module _ (n : ℕ) (sets others : Source → ℕ → Type 0) (rels further : Sou
   relation_agrees NoPair h = λ a b. ((λ x. x), (λ x. x))
   relation_agrees (BlendRelations how e f) h =
       same_blend how _ _ _ _ (relation_agrees e h.0) (relation_agrees f h.1)
-  relation_agrees (Compose e f) h = same_then _ _ _ _ (relation_agrees e h.0) (relation_agrees f h.1)
-  relation_agrees (Multiply s t) h = same_cross _ _ _ _ (set_agrees s h.0) (set_agrees t h.1)
+  relation_agrees (SequenceRelations e f) h = same_then _ _ _ _ (relation_agrees e h.0) (relation_agrees f h.1)
+  relation_agrees (ProductOfSets s t) h = same_cross _ _ _ _ (set_agrees s h.0) (set_agrees t h.1)
   relation_agrees (IdentityOn s) h = same_on _ _ (set_agrees s h)
   relation_agrees (Close how e) h = same_close how n _ _ (relation_agrees e h)
   relation_agrees (ComplementRelation e) h = same_turn n _ _ (relation_agrees e h)

@@ -25,7 +25,7 @@ use Rattle.binding_graph.specs.declared.resolved.CheckCode.{CheckCode}
 use Rattle.binding_graph.specs.declared.resolved.Source.{Source}
 use Rattle.binding_graph.specs.declared.resolved.Source.TheVariants as sources
 use Rattle.binding_graph.specs.declared.resolved.Step.{Step}
-use Rattle.binding_graph.specs.Trees.{SetTree, SetName, AllEvents, NoEvent, BlendSets, ComplementSet, RelTree, RelName, NoPair, BlendRelations, Compose, Multiply, IdentityOn, Close, ComplementRelation, set_code, rel_code}
+use Rattle.binding_graph.specs.Trees.{SetTree, SetName, AllEvents, NoEvent, BlendSets, ComplementSet, RelTree, RelName, NoPair, BlendRelations, SequenceRelations, ProductOfSets, IdentityOn, Close, ComplementRelation, set_code, rel_code}
 use Rattle.cat_eval.specs.declared.column.Column.{Column}
 use Rattle.cat_eval.specs.declared.column.Column.TheVariants as columns
 use Rattle.cat_eval.specs.Checks.{Holds, IsEmptySet}
@@ -238,8 +238,8 @@ module _ (n : ℕ) (sets : Source → ℕ → Type 0) (rels : Source → ℕ →
   told_relation (RelName source) = told_rels source
   told_relation NoPair = no_pairs
   told_relation (BlendRelations how e f) = blended how _ _ (told_relation e) (told_relation f)
-  told_relation (Compose e f) = composed _ _ (told_relation e) (told_relation f)
-  told_relation (Multiply s t) = products _ _ (told_set s) (told_set t)
+  told_relation (SequenceRelations e f) = composed _ _ (told_relation e) (told_relation f)
+  told_relation (ProductOfSets s t) = products _ _ (told_set s) (told_set t)
   told_relation (IdentityOn s) = on_set _ (told_set s)
   told_relation (Close how e) = closed how n _ (told_relation e)
   told_relation (ComplementRelation e) = others n _ (told_relation e)

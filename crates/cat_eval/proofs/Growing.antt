@@ -9,7 +9,7 @@ use Rattle.binding_graph.specs.declared.resolved.Blend.TheVariants as blends
 use Rattle.binding_graph.specs.declared.resolved.Body.{Body}
 use Rattle.binding_graph.specs.declared.resolved.Step.{Step}
 use Rattle.binding_graph.specs.declared.resolved.Step.TheVariants as steps
-use Rattle.binding_graph.specs.Trees.{SetTree, SetName, AllEvents, NoEvent, BlendSets, ComplementSet, RelTree, RelName, NoPair, BlendRelations, Compose, Multiply, IdentityOn, Close, ComplementRelation, set_code, rel_code}
+use Rattle.binding_graph.specs.Trees.{SetTree, SetName, AllEvents, NoEvent, BlendSets, ComplementSet, RelTree, RelName, NoPair, BlendRelations, SequenceRelations, ProductOfSets, IdentityOn, Close, ComplementRelation, set_code, rel_code}
 use Rattle.cat_eval.specs.Meaning.{MeansRelation}
 use Rattle.cat_eval.specs.Named.{OwnPairs, WithOwn}
 use Rattle.cat_eval.specs.Least.{AreMonotone, SolvesAt, IsLeast, body}
@@ -25,8 +25,8 @@ Mentions y (RelName (sources.Input x)) = ⊥
 Mentions y (RelName (sources.Own x)) = x ≡ y
 Mentions y NoPair = ⊥
 Mentions y (BlendRelations how e f) = Mentions y e ⊎ Mentions y f
-Mentions y (Compose e f) = Mentions y e ⊎ Mentions y f
-Mentions y (Multiply s t) = ⊥
+Mentions y (SequenceRelations e f) = Mentions y e ⊎ Mentions y f
+Mentions y (ProductOfSets s t) = ⊥
 Mentions y (IdentityOn s) = ⊥
 Mentions y (Close how e) = Mentions y e
 Mentions y (ComplementRelation e) = Mentions y e
@@ -42,8 +42,8 @@ mentions_cases y (RelName (sources.Input x)) = inr (λ h. h)
 mentions_cases y (RelName (sources.Own x)) = cases_eq x y
 mentions_cases y NoPair = inr (λ h. h)
 mentions_cases y (BlendRelations how e f) = either (mentions_cases y e) (mentions_cases y f)
-mentions_cases y (Compose e f) = either (mentions_cases y e) (mentions_cases y f)
-mentions_cases y (Multiply s t) = inr (λ h. h)
+mentions_cases y (SequenceRelations e f) = either (mentions_cases y e) (mentions_cases y f)
+mentions_cases y (ProductOfSets s t) = inr (λ h. h)
 mentions_cases y (IdentityOn s) = inr (λ h. h)
 mentions_cases y (Close how e) = mentions_cases y e
 mentions_cases y (ComplementRelation e) = mentions_cases y e
@@ -55,9 +55,9 @@ holds_mentioned names y (RelName (sources.Own x)) u b = subst (λ (z : ℕ). IsA
 holds_mentioned names y NoPair u b = absurd u
 holds_mentioned names y (BlendRelations how e f) (inl u) b = inl (holds_mentioned names y e u b)
 holds_mentioned names y (BlendRelations how e f) (inr u) b = inr (holds_mentioned names y f u b)
-holds_mentioned names y (Compose e f) (inl u) b = inl (holds_mentioned names y e u b)
-holds_mentioned names y (Compose e f) (inr u) b = inr (holds_mentioned names y f u b)
-holds_mentioned names y (Multiply s t) u b = absurd u
+holds_mentioned names y (SequenceRelations e f) (inl u) b = inl (holds_mentioned names y e u b)
+holds_mentioned names y (SequenceRelations e f) (inr u) b = inr (holds_mentioned names y f u b)
+holds_mentioned names y (ProductOfSets s t) u b = absurd u
 holds_mentioned names y (IdentityOn s) u b = absurd u
 holds_mentioned names y (Close how e) u b = holds_mentioned names y e u b
 holds_mentioned names y (ComplementRelation e) u b = holds_mentioned names y e u b
@@ -70,9 +70,9 @@ holds_wider m n wider (RelName (sources.Own x)) u = wider x u
 holds_wider m n wider NoPair u = absurd u
 holds_wider m n wider (BlendRelations how e f) u =
     elim u [ inl h ↦ inl (holds_wider m n wider e h) | inr h ↦ inr (holds_wider m n wider f h) ]
-holds_wider m n wider (Compose e f) u =
+holds_wider m n wider (SequenceRelations e f) u =
     elim u [ inl h ↦ inl (holds_wider m n wider e h) | inr h ↦ inr (holds_wider m n wider f h) ]
-holds_wider m n wider (Multiply s t) u = absurd u
+holds_wider m n wider (ProductOfSets s t) u = absurd u
 holds_wider m n wider (IdentityOn s) u = absurd u
 holds_wider m n wider (Close how e) u = holds_wider m n wider e u
 holds_wider m n wider (ComplementRelation e) u = holds_wider m n wider e u
@@ -83,8 +83,8 @@ holds_none (RelName (sources.Input x)) u = u
 holds_none (RelName (sources.Own x)) u = among_none x u
 holds_none NoPair u = u
 holds_none (BlendRelations how e f) u = elim u [ inl h ↦ holds_none e h | inr h ↦ holds_none f h ]
-holds_none (Compose e f) u = elim u [ inl h ↦ holds_none e h | inr h ↦ holds_none f h ]
-holds_none (Multiply s t) u = u
+holds_none (SequenceRelations e f) u = elim u [ inl h ↦ holds_none e h | inr h ↦ holds_none f h ]
+holds_none (ProductOfSets s t) u = u
 holds_none (IdentityOn s) u = u
 holds_none (Close how e) u = holds_none e u
 holds_none (ComplementRelation e) u = holds_none e u
@@ -115,11 +115,11 @@ past names NoPair rest u = later names _ rest u
 past names (BlendRelations how e f) rest u =
     past names e (rel_code f (steps.BlendRelations how ∷ rest)) (past names f
     (steps.BlendRelations how ∷ rest) (later names _ rest u))
-past names (Compose e f) rest u =
-    past names e (rel_code f (steps.Compose ∷ rest))
-    (past names f (steps.Compose ∷ rest) (later names _ rest u))
-past names (Multiply s t) rest u =
-    set_past names s (set_code t (steps.Multiply ∷ rest)) (set_past names t (steps.Multiply ∷ rest)
+past names (SequenceRelations e f) rest u =
+    past names e (rel_code f (steps.SequenceRelations ∷ rest))
+    (past names f (steps.SequenceRelations ∷ rest) (later names _ rest u))
+past names (ProductOfSets s t) rest u =
+    set_past names s (set_code t (steps.ProductOfSets ∷ rest)) (set_past names t (steps.ProductOfSets ∷ rest)
     (later names _ rest u))
 past names (IdentityOn s) rest u = set_past names s (steps.IdentityOn ∷ rest) (later names _ rest u)
 past names (Close how e) rest u = past names e (steps.Close how ∷ rest) (later names _ rest u)
@@ -135,10 +135,10 @@ holds_uses names (BlendRelations how e f) rest (inl u) =
 holds_uses names (BlendRelations how e f) rest (inr u) =
     past names e (rel_code f (steps.BlendRelations how ∷ rest))
     (holds_uses names f (steps.BlendRelations how ∷ rest) u)
-holds_uses names (Compose e f) rest (inl u) = holds_uses names e (rel_code f (steps.Compose ∷ rest)) u
-holds_uses names (Compose e f) rest (inr u) =
-    past names e (rel_code f (steps.Compose ∷ rest)) (holds_uses names f (steps.Compose ∷ rest) u)
-holds_uses names (Multiply s t) rest u = absurd u
+holds_uses names (SequenceRelations e f) rest (inl u) = holds_uses names e (rel_code f (steps.SequenceRelations ∷ rest)) u
+holds_uses names (SequenceRelations e f) rest (inr u) =
+    past names e (rel_code f (steps.SequenceRelations ∷ rest)) (holds_uses names f (steps.SequenceRelations ∷ rest) u)
+holds_uses names (ProductOfSets s t) rest u = absurd u
 holds_uses names (IdentityOn s) rest u = absurd u
 holds_uses names (Close how e) rest u = holds_uses names e (steps.Close how ∷ rest) u
 holds_uses names (ComplementRelation e) rest u = holds_uses names e (steps.ComplementRelation ∷ rest) u
@@ -166,11 +166,11 @@ module _ (n : ℕ) (sets : Source → ℕ → Type 0) (outer : Source → ℕ �
       let g = agree R S e (λ y u. same y (inl u)) a b in
       let h = agree R S f (λ y u. same y (inr u)) a b in
       ((λ m. (g.0 m.0, (λ k. m.1 (h.1 k)))), (λ m. (g.1 m.0, (λ k. m.1 (h.0 k)))))
-  agree R S (Compose e f) same a b =
+  agree R S (SequenceRelations e f) same a b =
       let g = agree R S e (λ y u. same y (inl u)) in
       let h = agree R S f (λ y u. same y (inr u)) in
       ((λ (c, m, k). (c, (g a c).0 m, (h c b).0 k)), (λ (c, m, k). (c, (g a c).1 m, (h c b).1 k)))
-  agree R S (Multiply s t) same a b = ((λ m. m), (λ m. m))
+  agree R S (ProductOfSets s t) same a b = ((λ m. m), (λ m. m))
   agree R S (IdentityOn s) same a b = ((λ m. m), (λ m. m))
   agree R S (Close how e) same a b =
       let g = agree R S e same in

@@ -4,7 +4,7 @@ use Rattle.text_values.specs.declared.model.Postfix.TheVariants as postfix
 use Rattle.binding_graph.specs.declared.resolved.Blend.TheVariants as blends
 use Rattle.binding_graph.specs.declared.resolved.Source.{Source}
 use Rattle.binding_graph.specs.declared.resolved.Source.TheVariants as sources
-use Rattle.binding_graph.specs.Trees.{RelTree, RelName, NoPair, BlendRelations, Compose, Multiply, IdentityOn, Close, ComplementRelation}
+use Rattle.binding_graph.specs.Trees.{RelTree, RelName, NoPair, BlendRelations, SequenceRelations, ProductOfSets, IdentityOn, Close, ComplementRelation}
 use Rattle.text_values.specs.declared.model.Postfix.{Postfix}
 use Rattle.cat_eval.specs.Meaning.{MeansRelation, Closed}
 use Rattle.cat_eval.specs.Named.{WithOwn}
@@ -35,8 +35,8 @@ module _ (n : ℕ) (sets : Source → ℕ → Type 0) (outer : Source → ℕ �
       (fixed R S e f.0 a b m.0, fixed R S g f.1 a b m.1)
   fixed R S (BlendRelations blends.Difference e g) f a b m =
       (fixed R S e f.0 a b m.0, (λ k. m.1 (fixed S R g f.1 a b k)))
-  fixed R S (Compose e g) f a b (c, m, k) = (c, fixed R S e f.0 a c m, fixed R S g f.1 c b k)
-  fixed R S (Multiply s t) f a b m = m
+  fixed R S (SequenceRelations e g) f a b (c, m, k) = (c, fixed R S e f.0 a c m, fixed R S g f.1 c b k)
+  fixed R S (ProductOfSets s t) f a b m = m
   fixed R S (IdentityOn s) f a b m = m
   fixed R S (Close how e) f a b m = closed_wider how n _ _ (fixed R S e f) a b m
   fixed R S (ComplementRelation e) f a b m = (m.0, m.1, (λ k. m.2 (fixed S R e f a b k)))
@@ -57,9 +57,9 @@ module _ (n : ℕ) (sets : Source → ℕ → Type 0) (outer : Source → ℕ �
       (monotone R S wider e f.0 a b m.0, monotone R S wider g f.1 a b m.1)
   monotone R S wider (BlendRelations blends.Difference e g) f a b m =
       (monotone R S wider e f.0 a b m.0, (λ k. m.1 (fixed S R g f.1 a b k)))
-  monotone R S wider (Compose e g) f a b (c, m, k) =
+  monotone R S wider (SequenceRelations e g) f a b (c, m, k) =
       (c, monotone R S wider e f.0 a c m, monotone R S wider g f.1 c b k)
-  monotone R S wider (Multiply s t) f a b m = m
+  monotone R S wider (ProductOfSets s t) f a b m = m
   monotone R S wider (IdentityOn s) f a b m = m
   monotone R S wider (Close how e) f a b m = closed_wider how n _ _ (monotone R S wider e f) a b m
   monotone R S wider (ComplementRelation e) f a b m = (m.0, m.1, (λ k. m.2 (fixed S R e f a b k)))

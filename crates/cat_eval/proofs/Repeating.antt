@@ -12,7 +12,7 @@ use Rattle.binding_graph.specs.declared.resolved.CheckCode.{CheckCode}
 use Rattle.binding_graph.specs.declared.resolved.Source.{Source}
 use Rattle.binding_graph.specs.declared.resolved.Source.TheVariants as sources
 use Rattle.binding_graph.specs.declared.resolved.Step.{Step}
-use Rattle.binding_graph.specs.Trees.{SetTree, SetName, AllEvents, NoEvent, BlendSets, ComplementSet, RelTree, RelName, NoPair, BlendRelations, Compose, Multiply, IdentityOn, Close, ComplementRelation}
+use Rattle.binding_graph.specs.Trees.{SetTree, SetName, AllEvents, NoEvent, BlendSets, ComplementSet, RelTree, RelName, NoPair, BlendRelations, SequenceRelations, ProductOfSets, IdentityOn, Close, ComplementRelation}
 use Rattle.cat_eval.specs.declared.column.Column.{Column}
 use Rattle.cat_eval.specs.declared.column.Column.TheVariants as columns
 use Rattle.cat_eval.specs.Columns.{HasColumnValue}
@@ -62,8 +62,8 @@ module _ (P : Source → Type 0) (each : (source : Source) → P source) where
   every_relation (RelName source) = each source
   every_relation NoPair = tt
   every_relation (BlendRelations how e f) = (every_relation e, every_relation f)
-  every_relation (Compose e f) = (every_relation e, every_relation f)
-  every_relation (Multiply s t) = (every_set s, every_set t)
+  every_relation (SequenceRelations e f) = (every_relation e, every_relation f)
+  every_relation (ProductOfSets s t) = (every_set s, every_set t)
   every_relation (IdentityOn s) = every_set s
   every_relation (Close how e) = every_relation e
   every_relation (ComplementRelation e) = every_relation e

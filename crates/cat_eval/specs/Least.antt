@@ -4,7 +4,7 @@ use Rattle.bit_relations.specs.Relation.{Relation, IsRegular, no_slot}
 use Rattle.binding_graph.specs.declared.resolved.Blend.TheVariants as blends
 use Rattle.binding_graph.specs.declared.resolved.Source.{Source}
 use Rattle.binding_graph.specs.declared.resolved.Source.TheVariants as sources
-use Rattle.binding_graph.specs.Trees.{RelTree, RelName, NoPair, BlendRelations, Compose, Multiply, IdentityOn, Close, ComplementRelation}
+use Rattle.binding_graph.specs.Trees.{RelTree, RelName, NoPair, BlendRelations, SequenceRelations, ProductOfSets, IdentityOn, Close, ComplementRelation}
 use Rattle.cat_eval.specs.Meaning.{MeansRelation}
 use Rattle.cat_eval.specs.Named.{OwnPairs, WithOwn}
 
@@ -19,8 +19,8 @@ abbrev pub HasNoOwnName : RelTree → Type 0
 HasNoOwnName (RelName source) = IsNotOwn source
 HasNoOwnName NoPair = Unit {0}
 HasNoOwnName (BlendRelations how e f) = HasNoOwnName e × HasNoOwnName f
-HasNoOwnName (Compose e f) = HasNoOwnName e × HasNoOwnName f
-HasNoOwnName (Multiply s t) = Unit {0}
+HasNoOwnName (SequenceRelations e f) = HasNoOwnName e × HasNoOwnName f
+HasNoOwnName (ProductOfSets s t) = Unit {0}
 HasNoOwnName (IdentityOn s) = Unit {0}
 HasNoOwnName (Close how e) = HasNoOwnName e
 HasNoOwnName (ComplementRelation e) = HasNoOwnName e
@@ -32,8 +32,8 @@ IsMonotone NoPair = Unit {0}
 IsMonotone (BlendRelations blends.Union e f) = IsMonotone e × IsMonotone f
 IsMonotone (BlendRelations blends.Intersection e f) = IsMonotone e × IsMonotone f
 IsMonotone (BlendRelations blends.Difference e f) = IsMonotone e × HasNoOwnName f
-IsMonotone (Compose e f) = IsMonotone e × IsMonotone f
-IsMonotone (Multiply s t) = Unit {0}
+IsMonotone (SequenceRelations e f) = IsMonotone e × IsMonotone f
+IsMonotone (ProductOfSets s t) = Unit {0}
 IsMonotone (IdentityOn s) = Unit {0}
 IsMonotone (Close how e) = IsMonotone e
 IsMonotone (ComplementRelation e) = HasNoOwnName e

@@ -39,15 +39,15 @@ source_passes test (sources.Own position) = false
 
 abbrev pub step_passes : (Predefined → Bool) → Step → Bool
 step_passes test (steps.PushSet source) = source_passes test source
-step_passes test steps.PushAllEvents = false
+step_passes test steps.PushEverything = false
 step_passes test steps.PushNoEvents = false
 step_passes test (steps.BlendSets how) = false
 step_passes test steps.ComplementSet = false
 step_passes test (steps.PushRelation source) = source_passes test source
 step_passes test steps.PushNoPairs = false
 step_passes test (steps.BlendRelations how) = false
-step_passes test steps.Compose = false
-step_passes test steps.Multiply = false
+step_passes test steps.SequenceRelations = false
+step_passes test steps.ProductOfSets = false
 step_passes test steps.IdentityOn = false
 step_passes test (steps.Close how) = false
 step_passes test steps.ComplementRelation = false
@@ -84,15 +84,15 @@ source_names (sources.Own position) = []
 
 abbrev pub step_names : Step → List Predefined
 step_names (steps.PushSet source) = source_names source
-step_names steps.PushAllEvents = []
+step_names steps.PushEverything = []
 step_names steps.PushNoEvents = []
 step_names (steps.BlendSets how) = []
 step_names steps.ComplementSet = []
 step_names (steps.PushRelation source) = source_names source
 step_names steps.PushNoPairs = []
 step_names (steps.BlendRelations how) = []
-step_names steps.Compose = []
-step_names steps.Multiply = []
+step_names steps.SequenceRelations = []
+step_names steps.ProductOfSets = []
 step_names steps.IdentityOn = []
 step_names (steps.Close how) = []
 step_names steps.ComplementRelation = []

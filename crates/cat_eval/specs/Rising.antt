@@ -3,7 +3,7 @@ use Rattle.std.specs.Prelude.{ℕ, ◌≡◌, ◌<◌, ◌≤◌, ◌⊎◌, ◌
 use Rattle.bit_relations.specs.Relation.{Relation, IsRelation, room_of, no_slot}
 use Rattle.binding_graph.specs.declared.resolved.Source.{Source}
 use Rattle.binding_graph.specs.declared.resolved.Body.{Body}
-use Rattle.binding_graph.specs.Trees.{RelTree, RelName, NoPair, BlendRelations, Compose, Multiply, IdentityOn, Close, ComplementRelation, rel_code}
+use Rattle.binding_graph.specs.Trees.{RelTree, RelName, NoPair, BlendRelations, SequenceRelations, ProductOfSets, IdentityOn, Close, ComplementRelation, rel_code}
 use Rattle.cat_eval.specs.Meaning.{MeansRelation}
 use Rattle.cat_eval.specs.Named.{OwnPairs, WithOwn}
 use Rattle.cat_eval.specs.Least.{SolvesAt, IsClosedUnder, AreRelationsOn, body}
@@ -29,8 +29,8 @@ abbrev pub HoldsOne : ℕ → RelTree → Type 0
 HoldsOne names (RelName source) = StandsForOne names source
 HoldsOne names NoPair = ⊥
 HoldsOne names (BlendRelations how e f) = HoldsOne names e ⊎ HoldsOne names f
-HoldsOne names (Compose e f) = HoldsOne names e ⊎ HoldsOne names f
-HoldsOne names (Multiply s t) = ⊥
+HoldsOne names (SequenceRelations e f) = HoldsOne names e ⊎ HoldsOne names f
+HoldsOne names (ProductOfSets s t) = ⊥
 HoldsOne names (IdentityOn s) = ⊥
 HoldsOne names (Close how e) = HoldsOne names e
 HoldsOne names (ComplementRelation e) = HoldsOne names e

@@ -27,15 +27,15 @@ StandsForOne names (sources.Own position) = IsAmong names position
 -- the step uses one of these names of the group
 abbrev pub UsesOne : ℕ → Step → Type 0
 UsesOne names (steps.PushSet source) = StandsForOne names source
-UsesOne names steps.PushAllEvents = ⊥
+UsesOne names steps.PushEverything = ⊥
 UsesOne names steps.PushNoEvents = ⊥
 UsesOne names (steps.BlendSets how) = ⊥
 UsesOne names steps.ComplementSet = ⊥
 UsesOne names (steps.PushRelation source) = StandsForOne names source
 UsesOne names steps.PushNoPairs = ⊥
 UsesOne names (steps.BlendRelations how) = ⊥
-UsesOne names steps.Compose = ⊥
-UsesOne names steps.Multiply = ⊥
+UsesOne names steps.SequenceRelations = ⊥
+UsesOne names steps.ProductOfSets = ⊥
 UsesOne names steps.IdentityOn = ⊥
 UsesOne names (steps.Close how) = ⊥
 UsesOne names steps.ComplementRelation = ⊥

@@ -37,14 +37,14 @@ fn uses(step: Step, names: u64) -> bool
             Source::Own(position) => has_name(names, position),
             Source::Predefined(_) | Source::Input(_) => false,
         },
-        Step::PushAllEvents
+        Step::PushEverything
         | Step::PushNoEvents
         | Step::BlendSets(_)
         | Step::ComplementSet
         | Step::PushNoPairs
         | Step::BlendRelations(_)
-        | Step::Compose
-        | Step::Multiply
+        | Step::SequenceRelations
+        | Step::ProductOfSets
         | Step::IdentityOn
         | Step::Close(_)
         | Step::ComplementRelation => false,

@@ -8,7 +8,7 @@ use Rattle.meaning.specs.Executions.{Event}
 abbrev pub IsDecided : Type 0 → Type 0
 IsDecided P = P ⊎ (P → ⊥)
 
--- The relation with the pairs of a list has no cycle, or it has one.
+-- The relation with the pairs of a list has no cycle, or it is not so that it has none.
 abbrev pub CyclesAreDecided : Type 0
 CyclesAreDecided =
     (pairs : List (Event × Event)) → IsDecided (IsAcyclic (λ a b. Contains pairs (a, b)))

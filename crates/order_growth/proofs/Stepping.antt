@@ -5,7 +5,7 @@ use Rattle.binding_graph.proofs.Labels.{zip_push}
 use Rattle.binding_graph.specs.declared.resolved.Body.{Body}
 use Rattle.binding_graph.specs.declared.resolved.Step.{Step}
 use Rattle.binding_graph.specs.declared.resolved.Step.TheVariants as steps
-use Rattle.binding_graph.specs.Trees.{SetTree, SetName, AllEvents, NoEvent, BlendSets, ComplementSet, RelTree, RelName, NoPair, BlendRelations, Compose, Multiply, IdentityOn, Close, ComplementRelation, set_code, rel_code}
+use Rattle.binding_graph.specs.Trees.{SetTree, SetName, AllEvents, NoEvent, BlendSets, ComplementSet, RelTree, RelName, NoPair, BlendRelations, SequenceRelations, ProductOfSets, IdentityOn, Close, ComplementRelation, set_code, rel_code}
 use Rattle.order_growth.specs.declared.growth.Growth.{Growth}
 use Rattle.order_growth.specs.declared.growth.Growth.TheVariants.{Stays, Grows, Unknown}
 use Rattle.order_growth.specs.Growth.{growth_of, growth_of_both, growth_of_all, source_growth, IsGrowthOf, AreGrowthsOf}
@@ -34,12 +34,12 @@ tree_leaves inputs NoPair rest gs = refl
 tree_leaves inputs (BlendRelations how e f) rest gs =
     tree_leaves inputs e (rel_code f (steps.BlendRelations how ∷ rest)) gs
     ∙ tree_leaves inputs f (steps.BlendRelations how ∷ rest) (growth_of (source_growth inputs) e ∷ gs)
-tree_leaves inputs (Compose e f) rest gs =
-    tree_leaves inputs e (rel_code f (steps.Compose ∷ rest)) gs
-    ∙ tree_leaves inputs f (steps.Compose ∷ rest) (growth_of (source_growth inputs) e ∷ gs)
-tree_leaves inputs (Multiply s t) rest gs =
-    set_leaves inputs s (set_code t (steps.Multiply ∷ rest)) gs
-    ∙ set_leaves inputs t (steps.Multiply ∷ rest) gs
+tree_leaves inputs (SequenceRelations e f) rest gs =
+    tree_leaves inputs e (rel_code f (steps.SequenceRelations ∷ rest)) gs
+    ∙ tree_leaves inputs f (steps.SequenceRelations ∷ rest) (growth_of (source_growth inputs) e ∷ gs)
+tree_leaves inputs (ProductOfSets s t) rest gs =
+    set_leaves inputs s (set_code t (steps.ProductOfSets ∷ rest)) gs
+    ∙ set_leaves inputs t (steps.ProductOfSets ∷ rest) gs
 tree_leaves inputs (IdentityOn s) rest gs = set_leaves inputs s (steps.IdentityOn ∷ rest) gs
 tree_leaves inputs (Close how e) rest gs = tree_leaves inputs e (steps.Close how ∷ rest) gs
 tree_leaves inputs (ComplementRelation e) rest gs =

@@ -4,7 +4,7 @@ use Rattle.bit_relations.specs.Pairs.{Union, Inter, Minus, Complement, Composite
 use Rattle.binding_graph.specs.declared.resolved.Blend.{Blend}
 use Rattle.binding_graph.specs.declared.resolved.Blend.TheVariants as blends
 use Rattle.binding_graph.specs.declared.resolved.Source.{Source}
-use Rattle.binding_graph.specs.Trees.{SetTree, SetName, AllEvents, NoEvent, BlendSets, ComplementSet, RelTree, RelName, NoPair, BlendRelations, Compose, Multiply, IdentityOn, Close, ComplementRelation}
+use Rattle.binding_graph.specs.Trees.{SetTree, SetName, AllEvents, NoEvent, BlendSets, ComplementSet, RelTree, RelName, NoPair, BlendRelations, SequenceRelations, ProductOfSets, IdentityOn, Close, ComplementRelation}
 use Rattle.cat_eval.specs.Meaning.{MeansSet, MeansRelation, Blended, Closed}
 use Rattle.cat_eval.proofs.Monotone.{closed_wider}
 use Rattle.cat_eval.proofs.Same.{Same, SameSet, same_sets, same_others, same_turn, same_cross, same_on}
@@ -100,10 +100,10 @@ module _ (n : ℕ) (sets others : Source → ℕ → Type 0) (rels further : Sou
   tree_grown NoPair = λ a b. ((λ x. x), (λ x. x))
   tree_grown (BlendRelations how e f) =
       blended_grown how (growth_of named e) (growth_of named f) _ _ _ _ (tree_grown e) (tree_grown f)
-  tree_grown (Compose e f) =
+  tree_grown (SequenceRelations e f) =
       two_grown Composite composite_wider (growth_of named e) (growth_of named f) _ _ _ _
       (tree_grown e) (tree_grown f)
-  tree_grown (Multiply s t) = same_cross _ _ _ _ (set_same s) (set_same t)
+  tree_grown (ProductOfSets s t) = same_cross _ _ _ _ (set_same s) (set_same t)
   tree_grown (IdentityOn s) = same_on _ _ (set_same s)
   tree_grown (Close how e) =
       one_grown (Closed how n) (closed_wider how n) (growth_of named e) _ _ (tree_grown e)

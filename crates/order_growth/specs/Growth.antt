@@ -9,7 +9,7 @@ use Rattle.binding_graph.specs.declared.resolved.Body.{Body}
 use Rattle.binding_graph.specs.declared.resolved.Source.{Source}
 use Rattle.binding_graph.specs.declared.resolved.Source.TheVariants as sources
 use Rattle.binding_graph.specs.declared.resolved.Step.{Step}
-use Rattle.binding_graph.specs.Trees.{RelTree, RelName, NoPair, BlendRelations, Compose, Multiply, IdentityOn, Close, ComplementRelation, rel_code}
+use Rattle.binding_graph.specs.Trees.{RelTree, RelName, NoPair, BlendRelations, SequenceRelations, ProductOfSets, IdentityOn, Close, ComplementRelation, rel_code}
 use Rattle.cat_eval.specs.Needs.{is_changing_name}
 use Rattle.order_growth.specs.declared.growth.Growth.{Growth}
 use Rattle.order_growth.specs.declared.growth.Growth.TheVariants.{Stays, Grows, Unknown}
@@ -54,8 +54,8 @@ growth_of named (RelName source) = named source
 growth_of named NoPair = Stays
 growth_of named (BlendRelations how e f) =
     growth_of_blend how (growth_of named e) (growth_of named f)
-growth_of named (Compose e f) = growth_of_both (growth_of named e) (growth_of named f)
-growth_of named (Multiply s t) = Stays
+growth_of named (SequenceRelations e f) = growth_of_both (growth_of named e) (growth_of named f)
+growth_of named (ProductOfSets s t) = Stays
 growth_of named (IdentityOn s) = Stays
 growth_of named (Close how e) = growth_of named e
 growth_of named (ComplementRelation e) = growth_of_complement (growth_of named e)

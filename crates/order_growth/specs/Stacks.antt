@@ -17,7 +17,7 @@ below_top (g ∷ gs) = gs
 -- what the step leaves of the stack
 abbrev pub growths_after : List Growth → Step → List Growth → List Growth
 growths_after inputs (steps.PushSet source) gs = gs
-growths_after inputs steps.PushAllEvents gs = gs
+growths_after inputs steps.PushEverything gs = gs
 growths_after inputs steps.PushNoEvents gs = gs
 growths_after inputs (steps.BlendSets how) gs = gs
 growths_after inputs steps.ComplementSet gs = gs
@@ -25,9 +25,9 @@ growths_after inputs (steps.PushRelation source) gs = source_growth inputs sourc
 growths_after inputs steps.PushNoPairs gs = Stays ∷ gs
 growths_after inputs (steps.BlendRelations how) gs =
     growth_of_blend how (top_of (below_top gs)) (top_of gs) ∷ below_top (below_top gs)
-growths_after inputs steps.Compose gs =
+growths_after inputs steps.SequenceRelations gs =
     growth_of_both (top_of (below_top gs)) (top_of gs) ∷ below_top (below_top gs)
-growths_after inputs steps.Multiply gs = Stays ∷ gs
+growths_after inputs steps.ProductOfSets gs = Stays ∷ gs
 growths_after inputs steps.IdentityOn gs = Stays ∷ gs
 growths_after inputs (steps.Close how) gs = gs
 growths_after inputs steps.ComplementRelation gs = growth_of_complement (top_of gs) ∷ below_top gs

@@ -108,13 +108,13 @@ fn apply(step: Step, inputs: &[Growth], stack: &mut Vec<Growth>) -> Result<(), A
 {
     match step {
         Step::PushRelation(source) => push(source_growth(source, inputs), stack),
-        Step::PushNoPairs | Step::Multiply | Step::IdentityOn => push(Growth::Stays, stack),
+        Step::PushNoPairs | Step::ProductOfSets | Step::IdentityOn => push(Growth::Stays, stack),
         Step::BlendRelations(how) => {
             let right = take_top(stack);
             let left = take_top(stack);
             push(growth_of_blend(how, left, right), stack)
         }
-        Step::Compose => {
+        Step::SequenceRelations => {
             let right = take_top(stack);
             let left = take_top(stack);
             push(growth_of_both(left, right), stack)
@@ -124,7 +124,7 @@ fn apply(step: Step, inputs: &[Growth], stack: &mut Vec<Growth>) -> Result<(), A
             push(growth_of_complement(growth), stack)
         }
         Step::PushSet(_)
-        | Step::PushAllEvents
+        | Step::PushEverything
         | Step::PushNoEvents
         | Step::BlendSets(_)
         | Step::ComplementSet

@@ -54,10 +54,12 @@ abbrev pub IsBlamed : BenchTexts → Command → List ℕ → Type 0
 IsBlamed t (commands.Asked request text) word = word ≡ blamed_word t request
 IsBlamed t (commands.Refused rule) word = Unit {0}
 
-abbrev pub text_behind : Command → List ℕ
-text_behind (commands.Asked request text) = text
-text_behind (commands.Refused rule) = []
+-- the text of a request; a refused line has none
+abbrev pub command_text : Command → List ℕ
+command_text (commands.Asked request text) = text
+command_text (commands.Refused rule) = []
 
-abbrev pub model_changed : Command → Option (List ℕ)
-model_changed (commands.Asked request text) = changed_model request
-model_changed (commands.Refused rule) = None
+-- the model that a command puts or changes
+abbrev pub command_model : Command → Option (List ℕ)
+command_model (commands.Asked request text) = changed_model request
+command_model (commands.Refused rule) = None

@@ -9,7 +9,7 @@ ghost use Rattle.bench_texts.specs.BenchTexts.{no_texts};
 ghost use Rattle.command_answers.specs.Answer.{AreReadsCounted, AreWritesCounted};
 ghost use Rattle.session_script.specs.Written.{WritesPrefix};
 ghost use Rattle.session_views.specs.Knowing.{KnowsTexts};
-ghost use Rattle.session_run.specs.Blamed.{changed_model, model_changed, text_behind, IsBlamed};
+ghost use Rattle.session_run.specs.Blamed.{changed_model, command_model, command_text, IsBlamed};
 ghost use Rattle.session_run.specs.Sessions.{IsSession, IsReplied, IsReplyStopped, IsTurnFault};
 
 use crate::blamed::blamed_word;
@@ -96,8 +96,8 @@ fn heard_of(
     command: &Command,
 ) -> Result<Heard, AllocError>
     ensures blamed { IfOk result (λ h. IsBlamed (texts_of texts.now) command.now h.blamed.items) }
-    ensures text { IfOk result (λ h. h.text.items ≡ text_behind command.now) }
-    ensures model { IfOk result (λ h. h.model ≡ model_changed command.now) }
+    ensures text { IfOk result (λ h. h.text.items ≡ command_text command.now) }
+    ensures model { IfOk result (λ h. h.model ≡ command_model command.now) }
 {
     let line = script.command_line();
     match command {

@@ -14,7 +14,7 @@ use Rattle.text_values.specs.declared.model.Postfix.TheVariants as postfix
 use Rattle.binding_graph.specs.declared.resolved.Blend.{Blend}
 use Rattle.binding_graph.specs.declared.resolved.Blend.TheVariants as blends
 use Rattle.binding_graph.specs.declared.resolved.Source.{Source}
-use Rattle.binding_graph.specs.Trees.{SetTree, SetName, AllEvents, NoEvent, BlendSets, ComplementSet, RelTree, RelName, NoPair, BlendRelations, Compose, Multiply, IdentityOn, Close, ComplementRelation}
+use Rattle.binding_graph.specs.Trees.{SetTree, SetName, AllEvents, NoEvent, BlendSets, ComplementSet, RelTree, RelName, NoPair, BlendRelations, SequenceRelations, ProductOfSets, IdentityOn, Close, ComplementRelation}
 use Rattle.cat_eval.specs.Meaning.{MeansSet, MeansRelation, BlendedSets, Blended, Closed, Others}
 
 -- it can be told which events the set has, all of which are below n
@@ -149,8 +149,8 @@ module _ (n : ℕ) where
     told_relation (RelName source) = told_rels source
     told_relation NoPair = no_pairs
     told_relation (BlendRelations how e f) = blended how _ _ (told_relation e) (told_relation f)
-    told_relation (Compose e f) = composed _ _ (told_relation e) (told_relation f)
-    told_relation (Multiply s t) = products _ _ (told_set s) (told_set t)
+    told_relation (SequenceRelations e f) = composed _ _ (told_relation e) (told_relation f)
+    told_relation (ProductOfSets s t) = products _ _ (told_set s) (told_set t)
     told_relation (IdentityOn s) = on_set _ (told_set s)
     told_relation (Close how e) = closed how _ (told_relation e)
     told_relation (ComplementRelation e) = others _ (told_relation e)

@@ -6,7 +6,7 @@ use Rattle.binding_graph.specs.declared.resolved.Blend.TheVariants as blends
 use Rattle.binding_graph.specs.declared.resolved.Source.{Source}
 use Rattle.binding_graph.specs.declared.resolved.Step.{Step}
 use Rattle.binding_graph.specs.declared.resolved.Step.TheVariants as steps
-use Rattle.binding_graph.specs.Trees.{SetTree, SetName, AllEvents, NoEvent, BlendSets, ComplementSet, RelTree, RelName, NoPair, BlendRelations, Compose, Multiply, IdentityOn, Close, ComplementRelation, set_code, rel_code}
+use Rattle.binding_graph.specs.Trees.{SetTree, SetName, AllEvents, NoEvent, BlendSets, ComplementSet, RelTree, RelName, NoPair, BlendRelations, SequenceRelations, ProductOfSets, IdentityOn, Close, ComplementRelation, set_code, rel_code}
 use Rattle.why_labels.specs.Operands.{union_names, IsUnionOf}
 use Rattle.why_witness.specs.Pending.{without_next, next_twice, next_inside}
 use Rattle.why_labels.specs.Scanning.{source_where, is_operand, open_from, names_from}
@@ -44,11 +44,11 @@ rel_open (BlendRelations blends.Difference x y) rest b bs e =
     rel_open x (rel_code y (steps.BlendRelations blends.Difference ∷ rest)) false bs
     (rel_open y (steps.BlendRelations blends.Difference ∷ rest) false (false ∷ bs)
     (ap (λ (l : List Bool). next_twice (next_inside l)) e))
-rel_open (Compose x y) rest b bs e =
-    rel_open x (rel_code y (steps.Compose ∷ rest)) false bs (rel_open y (steps.Compose ∷ rest) false
+rel_open (SequenceRelations x y) rest b bs e =
+    rel_open x (rel_code y (steps.SequenceRelations ∷ rest)) false bs (rel_open y (steps.SequenceRelations ∷ rest) false
     (false ∷ bs) (ap (λ (l : List Bool). next_twice (next_inside l)) e))
-rel_open (Multiply s t) rest b bs e =
-    set_open s (set_code t (steps.Multiply ∷ rest)) ∙ set_open t (steps.Multiply ∷ rest)
+rel_open (ProductOfSets s t) rest b bs e =
+    set_open s (set_code t (steps.ProductOfSets ∷ rest)) ∙ set_open t (steps.ProductOfSets ∷ rest)
     ∙ ap without_next e
 rel_open (IdentityOn s) rest b bs e = set_open s (steps.IdentityOn ∷ rest) ∙ ap without_next e
 rel_open (Close how x) rest b bs e = rel_open x (steps.Close how ∷ rest) false bs (ap next_inside e)
@@ -76,13 +76,13 @@ inner_names (BlendRelations blends.Difference x y) rest bs e =
     inner_names x (rel_code y (steps.BlendRelations blends.Difference ∷ rest)) bs
     (rel_open y (steps.BlendRelations blends.Difference ∷ rest) false (false ∷ bs) one)
     ∙ inner_names y (steps.BlendRelations blends.Difference ∷ rest) (false ∷ bs) one
-inner_names (Compose x y) rest bs e =
-    let one : open_from (steps.Compose ∷ rest) ≡ false ∷ false ∷ bs = ap (λ (l : List Bool). next_twice (next_inside l)) e in
-    inner_names x (rel_code y (steps.Compose ∷ rest)) bs
-    (rel_open y (steps.Compose ∷ rest) false (false ∷ bs) one)
-    ∙ inner_names y (steps.Compose ∷ rest) (false ∷ bs) one
-inner_names (Multiply s t) rest bs e =
-    set_names s (set_code t (steps.Multiply ∷ rest)) ∙ set_names t (steps.Multiply ∷ rest)
+inner_names (SequenceRelations x y) rest bs e =
+    let one : open_from (steps.SequenceRelations ∷ rest) ≡ false ∷ false ∷ bs = ap (λ (l : List Bool). next_twice (next_inside l)) e in
+    inner_names x (rel_code y (steps.SequenceRelations ∷ rest)) bs
+    (rel_open y (steps.SequenceRelations ∷ rest) false (false ∷ bs) one)
+    ∙ inner_names y (steps.SequenceRelations ∷ rest) (false ∷ bs) one
+inner_names (ProductOfSets s t) rest bs e =
+    set_names s (set_code t (steps.ProductOfSets ∷ rest)) ∙ set_names t (steps.ProductOfSets ∷ rest)
 inner_names (IdentityOn s) rest bs e = set_names s (steps.IdentityOn ∷ rest)
 inner_names (Close how x) rest bs e = inner_names x (steps.Close how ∷ rest) bs (ap next_inside e)
 inner_names (ComplementRelation x) rest bs e =
@@ -110,13 +110,13 @@ outer_names (BlendRelations blends.Difference x y) rest bs e =
     inner_names x (rel_code y (steps.BlendRelations blends.Difference ∷ rest)) bs
     (rel_open y (steps.BlendRelations blends.Difference ∷ rest) false (false ∷ bs) one)
     ∙ inner_names y (steps.BlendRelations blends.Difference ∷ rest) (false ∷ bs) one
-outer_names (Compose x y) rest bs e =
-    let one : open_from (steps.Compose ∷ rest) ≡ false ∷ false ∷ bs = ap (λ (l : List Bool). next_twice (next_inside l)) e in
-    inner_names x (rel_code y (steps.Compose ∷ rest)) bs
-    (rel_open y (steps.Compose ∷ rest) false (false ∷ bs) one)
-    ∙ inner_names y (steps.Compose ∷ rest) (false ∷ bs) one
-outer_names (Multiply s t) rest bs e =
-    set_names s (set_code t (steps.Multiply ∷ rest)) ∙ set_names t (steps.Multiply ∷ rest)
+outer_names (SequenceRelations x y) rest bs e =
+    let one : open_from (steps.SequenceRelations ∷ rest) ≡ false ∷ false ∷ bs = ap (λ (l : List Bool). next_twice (next_inside l)) e in
+    inner_names x (rel_code y (steps.SequenceRelations ∷ rest)) bs
+    (rel_open y (steps.SequenceRelations ∷ rest) false (false ∷ bs) one)
+    ∙ inner_names y (steps.SequenceRelations ∷ rest) (false ∷ bs) one
+outer_names (ProductOfSets s t) rest bs e =
+    set_names s (set_code t (steps.ProductOfSets ∷ rest)) ∙ set_names t (steps.ProductOfSets ∷ rest)
 outer_names (IdentityOn s) rest bs e = set_names s (steps.IdentityOn ∷ rest)
 outer_names (Close how x) rest bs e = inner_names x (steps.Close how ∷ rest) bs (ap next_inside e)
 outer_names (ComplementRelation x) rest bs e =

@@ -11,7 +11,7 @@ use Rattle.why_witness.specs.Pending.{without_next, next_twice, next_inside}
 -- of the relations that are still to come, the next first, whether each is an operand of the union
 abbrev pub open_after : Step → List Bool → List Bool
 open_after (steps.PushSet source) bs = bs
-open_after steps.PushAllEvents bs = bs
+open_after steps.PushEverything bs = bs
 open_after steps.PushNoEvents bs = bs
 open_after (steps.BlendSets how) bs = bs
 open_after steps.ComplementSet bs = bs
@@ -20,8 +20,8 @@ open_after steps.PushNoPairs bs = without_next bs
 open_after (steps.BlendRelations blends.Union) bs = next_twice bs
 open_after (steps.BlendRelations blends.Intersection) bs = next_twice (next_inside bs)
 open_after (steps.BlendRelations blends.Difference) bs = next_twice (next_inside bs)
-open_after steps.Compose bs = next_twice (next_inside bs)
-open_after steps.Multiply bs = without_next bs
+open_after steps.SequenceRelations bs = next_twice (next_inside bs)
+open_after steps.ProductOfSets bs = without_next bs
 open_after steps.IdentityOn bs = without_next bs
 open_after (steps.Close how) bs = next_inside bs
 open_after steps.ComplementRelation bs = next_inside bs

@@ -50,12 +50,12 @@ fn open_before(pending: &mut Vec<bool>, step: Step) -> Result<(), AllocError>
         ≡ open_after step (reverse pending.old.items)) }
 {
     match step {
-        Step::PushRelation(_) | Step::PushNoPairs | Step::Multiply | Step::IdentityOn => {
+        Step::PushRelation(_) | Step::PushNoPairs | Step::ProductOfSets | Step::IdentityOn => {
             drop_next(pending);
             Ok(())
         }
         Step::BlendRelations(Blend::Union) => push_twice(pending),
-        Step::BlendRelations(_) | Step::Compose => close_both(pending),
+        Step::BlendRelations(_) | Step::SequenceRelations => close_both(pending),
         Step::Close(_) | Step::ComplementRelation => close_next(pending),
         _ => Ok(()),
     }

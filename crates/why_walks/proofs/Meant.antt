@@ -10,7 +10,7 @@ use Rattle.binding_kinds.specs.declared.kinds.Kind.{Kind}
 use Rattle.binding_kinds.specs.declared.kinds.Kind.TheVariants as kinds
 use Rattle.binding_graph.specs.declared.resolved.Code.{Code}
 use Rattle.binding_graph.specs.declared.resolved.Source.{Source}
-use Rattle.binding_graph.specs.Trees.{RelTree, RelName, NoPair, BlendRelations, Compose, Multiply, IdentityOn, Close, ComplementRelation, rel_code}
+use Rattle.binding_graph.specs.Trees.{RelTree, RelName, NoPair, BlendRelations, SequenceRelations, ProductOfSets, IdentityOn, Close, ComplementRelation, rel_code}
 use Rattle.candidates.specs.declared.candidate.Space.{Space}
 use Rattle.candidates.specs.Space.{candidates_in, Candidate}
 use Rattle.cat_eval.specs.declared.column.Column.{Column}
@@ -46,9 +46,9 @@ module _ (n : ℕ) (sets : Source → ℕ → Type 0) (rels : Source → ℕ →
   in_turn (RelName source) a b m = (b, m, refl)
   in_turn NoPair a b m = (b, m, refl)
   in_turn (BlendRelations how e f) a b m = (b, m, refl)
-  in_turn (Compose e f) a b m =
+  in_turn (SequenceRelations e f) a b m =
       turns_both (factors_of e) (factors_of f) a m.0 b (in_turn e a m.0 m.1) (in_turn f m.0 b m.2)
-  in_turn (Multiply s t) a b m = (b, m, refl)
+  in_turn (ProductOfSets s t) a b m = (b, m, refl)
   in_turn (IdentityOn s) a b m = (b, m, refl)
   in_turn (Close how e) a b m = (b, m, refl)
   in_turn (ComplementRelation e) a b m = (b, m, refl)
@@ -69,8 +69,8 @@ module _ (n : ℕ) (sets : Source → ℕ → Type 0) (rels : Source → ℕ →
     run (RelName source) to a b m = (a ∷ [], (refl, to a b m))
     run NoPair to a b m = (a ∷ [], (refl, to a b m))
     run (BlendRelations how e f) to a b m = (a ∷ [], (refl, to a b m))
-    run (Compose e f) to a b m = (a ∷ [], (refl, to a b m))
-    run (Multiply s t) to a b m = (a ∷ [], (refl, to a b m))
+    run (SequenceRelations e f) to a b m = (a ∷ [], (refl, to a b m))
+    run (ProductOfSets s t) to a b m = (a ∷ [], (refl, to a b m))
     run (IdentityOn s) to a b m = (a ∷ [], (refl, to a b m))
     run (Close postfix.Transitive e) to a b m = path (MeansRelation n sets rels e) to a b m
     run (Close postfix.Reflexive e) to a b (inl same) = ([], inl (refl, same.1))

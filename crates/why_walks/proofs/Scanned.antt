@@ -3,7 +3,7 @@ use Rattle.std.proofs.Common.{◌≡◌, ◌∙◌, ◌++◌, List, [], ◌∷�
 use Rattle.std.proofs.lemmas.List.{append-nil, map-append, reverse-append}
 use Rattle.binding_graph.specs.declared.resolved.Step.{Step}
 use Rattle.binding_graph.specs.declared.resolved.Step.TheVariants as steps
-use Rattle.binding_graph.specs.Trees.{SetTree, SetName, AllEvents, NoEvent, BlendSets, ComplementSet, RelTree, RelName, NoPair, BlendRelations, Compose, Multiply, IdentityOn, Close, ComplementRelation, set_code, rel_code}
+use Rattle.binding_graph.specs.Trees.{SetTree, SetName, AllEvents, NoEvent, BlendSets, ComplementSet, RelTree, RelName, NoPair, BlendRelations, SequenceRelations, ProductOfSets, IdentityOn, Close, ComplementRelation, set_code, rel_code}
 use Rattle.text_values.specs.declared.model.Postfix.{Postfix}
 use Rattle.text_values.specs.declared.model.Postfix.TheVariants as postfix
 use Rattle.why_walks.specs.declared.factor.Factor.{Factor}
@@ -31,11 +31,11 @@ rel_pending (BlendRelations how x y) rest b bs e =
     rel_pending x (rel_code y (steps.BlendRelations how ∷ rest)) false bs (rel_pending y
     (steps.BlendRelations how ∷ rest) false (false ∷ bs)
     (ap (λ (l : List Bool). next_twice (next_inside l)) e))
-rel_pending (Compose x y) rest b bs e =
-    rel_pending x (rel_code y (steps.Compose ∷ rest)) b bs (rel_pending y (steps.Compose ∷ rest) b
+rel_pending (SequenceRelations x y) rest b bs e =
+    rel_pending x (rel_code y (steps.SequenceRelations ∷ rest)) b bs (rel_pending y (steps.SequenceRelations ∷ rest) b
     (b ∷ bs) (ap next_twice e))
-rel_pending (Multiply s t) rest b bs e =
-    set_pending s (set_code t (steps.Multiply ∷ rest)) ∙ set_pending t (steps.Multiply ∷ rest)
+rel_pending (ProductOfSets s t) rest b bs e =
+    set_pending s (set_code t (steps.ProductOfSets ∷ rest)) ∙ set_pending t (steps.ProductOfSets ∷ rest)
     ∙ ap without_next e
 rel_pending (IdentityOn s) rest b bs e = set_pending s (steps.IdentityOn ∷ rest) ∙ ap without_next e
 rel_pending (Close how x) rest b bs e =
@@ -48,7 +48,7 @@ set_parts : (s : SetTree) (rest : List Step) (r : Repeats) (xs : List Step) (ps 
     → parts_from rest ≡ record { repeats = r; steps = xs } ∷ ps
     → parts_from (set_code s rest) ≡ record { repeats = r; steps = set_code s xs } ∷ ps
 set_parts (SetName source) rest r xs ps e = ap (with_step (steps.PushSet source)) e
-set_parts AllEvents rest r xs ps e = ap (with_step steps.PushAllEvents) e
+set_parts AllEvents rest r xs ps e = ap (with_step steps.PushEverything) e
 set_parts NoEvent rest r xs ps e = ap (with_step steps.PushNoEvents) e
 set_parts (BlendSets how a b) rest r xs ps e =
     set_parts a (set_code b (steps.BlendSets how ∷ rest)) r (set_code b (steps.BlendSets how ∷ xs))
@@ -80,16 +80,16 @@ inner_parts (BlendRelations how x y) rest bs r xs ps e p =
     (inner_parts y (steps.BlendRelations how ∷ rest) (false ∷ bs) r (steps.BlendRelations how ∷ xs)
     ps one (inside (steps.BlendRelations how) rest bs
     (record { repeats = r; steps = xs } ∷ ps) refl e p))
-inner_parts (Compose x y) rest bs r xs ps e p =
-    let one : pending_from (steps.Compose ∷ rest) ≡ false ∷ false ∷ bs = ap next_twice e in
-    inner_parts x (rel_code y (steps.Compose ∷ rest)) bs r (rel_code y (steps.Compose ∷ xs)) ps
-    (rel_pending y (steps.Compose ∷ rest) false (false ∷ bs) one)
-    (inner_parts y (steps.Compose ∷ rest) (false ∷ bs) r (steps.Compose ∷ xs) ps one
-    (inside steps.Compose rest bs (record { repeats = r; steps = xs } ∷ ps) refl e p))
-inner_parts (Multiply s t) rest bs r xs ps e p =
-    set_parts s (set_code t (steps.Multiply ∷ rest)) r (set_code t (steps.Multiply ∷ xs)) ps
-    (set_parts t (steps.Multiply ∷ rest) r (steps.Multiply ∷ xs) ps
-    (inside steps.Multiply rest bs (record { repeats = r; steps = xs } ∷ ps) refl e p))
+inner_parts (SequenceRelations x y) rest bs r xs ps e p =
+    let one : pending_from (steps.SequenceRelations ∷ rest) ≡ false ∷ false ∷ bs = ap next_twice e in
+    inner_parts x (rel_code y (steps.SequenceRelations ∷ rest)) bs r (rel_code y (steps.SequenceRelations ∷ xs)) ps
+    (rel_pending y (steps.SequenceRelations ∷ rest) false (false ∷ bs) one)
+    (inner_parts y (steps.SequenceRelations ∷ rest) (false ∷ bs) r (steps.SequenceRelations ∷ xs) ps one
+    (inside steps.SequenceRelations rest bs (record { repeats = r; steps = xs } ∷ ps) refl e p))
+inner_parts (ProductOfSets s t) rest bs r xs ps e p =
+    set_parts s (set_code t (steps.ProductOfSets ∷ rest)) r (set_code t (steps.ProductOfSets ∷ xs)) ps
+    (set_parts t (steps.ProductOfSets ∷ rest) r (steps.ProductOfSets ∷ xs) ps
+    (inside steps.ProductOfSets rest bs (record { repeats = r; steps = xs } ∷ ps) refl e p))
 inner_parts (IdentityOn s) rest bs r xs ps e p =
     set_parts s (steps.IdentityOn ∷ rest) r (steps.IdentityOn ∷ xs) ps
     (inside steps.IdentityOn rest bs (record { repeats = r; steps = xs } ∷ ps) refl e p)
@@ -136,11 +136,11 @@ outer_parts (BlendRelations how x y) rest bs e =
     (inner_parts y (steps.BlendRelations how ∷ rest) (false ∷ bs) repeats.Once
     (steps.BlendRelations how ∷ []) (parts_from rest) one
     (ends (steps.BlendRelations how) rest bs refl e))
-outer_parts (Compose x y) rest bs e =
-    let one : pending_from (steps.Compose ∷ rest) ≡ true ∷ true ∷ bs = ap next_twice e in
-    let left = outer_parts x (rel_code y (steps.Compose ∷ rest)) bs (rel_pending y (steps.Compose ∷ rest) true (true ∷ bs) one) in
-    let right = outer_parts y (steps.Compose ∷ rest) (true ∷ bs) one in
-    let skip : parts_from (steps.Compose ∷ rest) ≡ parts_from rest = ends steps.Compose rest bs refl e in
+outer_parts (SequenceRelations x y) rest bs e =
+    let one : pending_from (steps.SequenceRelations ∷ rest) ≡ true ∷ true ∷ bs = ap next_twice e in
+    let left = outer_parts x (rel_code y (steps.SequenceRelations ∷ rest)) bs (rel_pending y (steps.SequenceRelations ∷ rest) true (true ∷ bs) one) in
+    let right = outer_parts y (steps.SequenceRelations ∷ rest) (true ∷ bs) one in
+    let skip : parts_from (steps.SequenceRelations ∷ rest) ≡ parts_from rest = ends steps.SequenceRelations rest bs refl e in
     left
     ∙ ap (λ (l : List FactorSteps). map tree_part (factors_of x) ++ l) (right
     ∙ ap (λ (l : List FactorSteps). map tree_part (factors_of y) ++ l) skip)
@@ -148,10 +148,10 @@ outer_parts (Compose x y) rest bs e =
     (parts_from rest))
     ∙ ap (λ (l : List FactorSteps). l ++ parts_from rest)
     (sym (map-append tree_part (factors_of x) (factors_of y)))
-outer_parts (Multiply s t) rest bs e =
-    set_parts s (set_code t (steps.Multiply ∷ rest)) repeats.Once (set_code t (steps.Multiply ∷ []))
-    (parts_from rest) (set_parts t (steps.Multiply ∷ rest) repeats.Once (steps.Multiply ∷ [])
-    (parts_from rest) (ends steps.Multiply rest bs refl e))
+outer_parts (ProductOfSets s t) rest bs e =
+    set_parts s (set_code t (steps.ProductOfSets ∷ rest)) repeats.Once (set_code t (steps.ProductOfSets ∷ []))
+    (parts_from rest) (set_parts t (steps.ProductOfSets ∷ rest) repeats.Once (steps.ProductOfSets ∷ [])
+    (parts_from rest) (ends steps.ProductOfSets rest bs refl e))
 outer_parts (IdentityOn s) rest bs e =
     set_parts s (steps.IdentityOn ∷ rest) repeats.Once (steps.IdentityOn ∷ []) (parts_from rest)
     (ends steps.IdentityOn rest bs refl e)

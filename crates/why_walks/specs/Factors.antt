@@ -1,7 +1,7 @@
 -- The factors of a composition.
 use Rattle.std.specs.Prelude.{◌≡◌, ◌++◌, List, [], ◌∷◌, reverse, map}
 use Rattle.binding_graph.specs.declared.resolved.Step.{Step}
-use Rattle.binding_graph.specs.Trees.{RelTree, Compose, Close, rel_code}
+use Rattle.binding_graph.specs.Trees.{RelTree, SequenceRelations, Close, rel_code}
 use Rattle.text_values.specs.declared.model.Postfix.TheVariants as postfix
 use Rattle.why_walks.specs.declared.factor.Factor.{Factor}
 use Rattle.why_walks.specs.declared.factor.Repeats.{Repeats}
@@ -9,7 +9,7 @@ use Rattle.why_walks.specs.declared.factor.Repeats.TheVariants as repeats
 
 -- the operands of the compositions that the expression is made of, from left to right
 abbrev pub factors_of : RelTree → List RelTree
-factors_of (Compose e f) = factors_of e ++ factors_of f
+factors_of (SequenceRelations e f) = factors_of e ++ factors_of f
 factors_of e = e ∷ []
 
 -- how often a factor takes the steps of its relation, and that relation

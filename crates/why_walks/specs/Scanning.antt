@@ -13,8 +13,8 @@ abbrev pub pending_after : Step → List Bool → List Bool
 pending_after (steps.PushRelation source) bs = without_next bs
 pending_after steps.PushNoPairs bs = without_next bs
 pending_after (steps.BlendRelations how) bs = next_twice (next_inside bs)
-pending_after steps.Compose bs = next_twice bs
-pending_after steps.Multiply bs = without_next bs
+pending_after steps.SequenceRelations bs = next_twice bs
+pending_after steps.ProductOfSets bs = without_next bs
 pending_after steps.IdentityOn bs = without_next bs
 pending_after (steps.Close how) bs = next_inside bs
 pending_after steps.ComplementRelation bs = next_inside bs
@@ -27,7 +27,7 @@ is_next_factor (b ∷ bs) = b
 -- the step makes a relation
 abbrev pub makes_relation : Step → Bool
 makes_relation (steps.PushSet source) = false
-makes_relation steps.PushAllEvents = false
+makes_relation steps.PushEverything = false
 makes_relation steps.PushNoEvents = false
 makes_relation (steps.BlendSets how) = false
 makes_relation steps.ComplementSet = false
@@ -47,7 +47,7 @@ with_step step (p ∷ ps) = record { repeats = p.repeats; steps = step ∷ p.ste
 
 -- a relation that is a factor: its last step, or a composition of further factors
 abbrev pub with_last : Step → List FactorSteps → List FactorSteps
-with_last steps.Compose ps = ps
+with_last steps.SequenceRelations ps = ps
 with_last step ps = last_of step ∷ ps
 
 abbrev pub with_relation : Bool → Step → List FactorSteps → List FactorSteps

@@ -47,12 +47,12 @@ fn pending_before(pending: &mut Vec<bool>, step: Step) -> Result<(), AllocError>
         ≡ pending_after step (reverse pending.old.items)) }
 {
     match step {
-        Step::PushRelation(_) | Step::PushNoPairs | Step::Multiply | Step::IdentityOn => {
+        Step::PushRelation(_) | Step::PushNoPairs | Step::ProductOfSets | Step::IdentityOn => {
             drop_next(pending);
             Ok(())
         }
         Step::BlendRelations(_) => close_both(pending),
-        Step::Compose => push_twice(pending),
+        Step::SequenceRelations => push_twice(pending),
         Step::Close(_) | Step::ComplementRelation => close_next(pending),
         _ => Ok(()),
     }
@@ -63,7 +63,7 @@ fn makes_relation(step: Step) -> bool
 {
     match step {
         Step::PushSet(_)
-        | Step::PushAllEvents
+        | Step::PushEverything
         | Step::PushNoEvents
         | Step::BlendSets(_)
         | Step::ComplementSet => false,
@@ -116,7 +116,7 @@ fn add_last(alloc: Global, factors: &mut Vec<Factor>, step: Step) -> Result<(), 
         ≡ with_last step (parts_in factors.old.items)) }
 {
     match step {
-        Step::Compose => Ok(()),
+        Step::SequenceRelations => Ok(()),
         _ => {
             factors.push(last_of(alloc, step)?)?;
             Ok(())
