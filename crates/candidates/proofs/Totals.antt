@@ -6,6 +6,7 @@ use Rattle.run_combinations.specs.Orders.{all_orders, stores_of, is_thread_store
 use Rattle.std.specs.declared.alloc.AllocError.{AllocError}
 use Rattle.std.specs.declared.alloc.Global.{Global}
 use Rattle.std.proofs.lemmas.Bool.{or_cases, or_parts}
+use Rattle.std.proofs.lemmas.List.{length-append, length-map}
 use Rattle.text_values.specs.declared.test.Test.{Test}
 use Rattle.ppc_semantics.specs.declared.fault.EvalRefusal.{EvalRefusal}
 use Rattle.candidates.specs.declared.fault.SpaceFault.{SpaceFault}
@@ -18,11 +19,14 @@ use Rattle.run_combinations.specs.Keys.{IsKeyed, bit_of}
 use Rattle.run_combinations.specs.Layouts.{AreServedRuns, IsLaidOut}
 use Rattle.candidates.specs.declared.candidate.Space.{Space}
 use Rattle.run_combinations.specs.ReadChoices.{AreReadChoices, IsReadChoice, accesses_in}
-use Rattle.run_combinations.specs.Lists.{tuples}
+use Rattle.run_combinations.specs.Lists.{lists_of, tuples}
 use Rattle.run_combinations.specs.Search.{PrefixLists, Tally, PrefixFits, AllPrefixesFit, tally_with, with_run, combinations, TalliesAll, none, more, AreTooMuch, now, later, no_tally, tally, initial_prefix, all_combinations, location_count}
-use Rattle.run_combinations.specs.Combinations.{CombinationLists, combination_lists, ordered}
+use Rattle.run_combinations.specs.Combinations.{CombinationLists, candidates_of, combination_lists, ordered}
 use Rattle.run_combinations.specs.Candidates.{AreCombinations, nothing_left, with_read_choices, without, candidate_total, HasFaultedCandidate, AreCandidates, AreTooMany, AreFaulted, AreSmall}
-use Rattle.candidates.specs.TestSpaces.{IsAnswerTo, HasKeyedLayout, IsLayoutFault, IsTestSpace, IsTestRefusal}
+use Rattle.candidates.specs.declared.space_parts.SpaceParts.{SpaceParts}
+use Rattle.candidates.specs.Parts.{IsWholeOf, AreCounted}
+use Rattle.candidates.specs.Space.{candidates_in}
+use Rattle.candidates.specs.TestSpaces.{AreLayoutParts, HasKeyedLayout, IsAnswerTo, IsLayoutFault, IsTestSpace, IsTestRefusal}
 use Rattle.candidates.specs.Faults.{space_fault_of}
 use Rattle.ppc_semantics.specs.declared.fault.DomainFault.{DomainFault}
 use Rattle.ppc_semantics.specs.declared.fault.DomainFault.TheVariants as domain_faults
@@ -34,6 +38,7 @@ use Rattle.run_combinations.specs.declared.part.Part.{Part}
 use Rattle.run_combinations.specs.declared.search.Found.{Found}
 use Rattle.run_combinations.proofs.Counting.{numbers_above}
 use Rattle.run_combinations.proofs.Filters.{IsFiltered-unique}
+use Rattle.run_combinations.proofs.Pairs.{length-candidates}
 use Rattle.run_combinations.proofs.Searching.{going_on, small_front, small_rest}
 
 -- what was found of combinations, one after another
@@ -313,22 +318,97 @@ pub ready : (t : Test) (p : Program) (values : List Value) (l : Layout) → IsPr
 ready t p values l h d r =
     ((p, values, r.0, h, d, r.1, r.2), bit_of values, p.initial.items, r.3, r.2.initial)
 
--- what the space of a layout says of the test
-abbrev pub Answers : Layout → Result (Result Space EvalRefusal) AllocError → Type 0
+-- what the parts of a layout say of the test
+abbrev pub Answers : Layout → Result (Result SpaceParts EvalRefusal) AllocError → Type 0
 Answers l r =
     (key : ℕ → Value → Option (ℕ × ℕ)) (initial : List Value) → IsKeyed key l
     → l.initial.items ≡ initial_stores 0 initial → IfOk r (λ a. IsAnswerTo l a)
 
-told : (t : Test) (l : Layout) (r : Result (Result Space EvalRefusal) AllocError)
-    (a : Result Space EvalRefusal) → r ≡ Ok a → HasKeyedLayout t l → Answers l r → IsAnswerTo l a
+told : (t : Test) (l : Layout) (r : Result (Result SpaceParts EvalRefusal) AllocError)
+    (a : Result SpaceParts EvalRefusal) → r ≡ Ok a → HasKeyedLayout t l → Answers l r
+    → IsAnswerTo l a
 told t l r a e h f =
-    subst (λ (x : Result (Result Space EvalRefusal) AllocError). IfOk x (λ b. IsAnswerTo l b)) e
+    subst (λ (x : Result (Result SpaceParts EvalRefusal) AllocError). IfOk x (λ b. IsAnswerTo l b)) e
     (f h.1 h.2 h.3 h.4)
 
-pub space_told : (t : Test) (l : Layout) (r : Result (Result Space EvalRefusal) AllocError)
-    (s : Space) → r ≡ Ok (Ok s) → HasKeyedLayout t l → Answers l r → IsTestSpace t s
-space_told t l r s e h f = (l, h.0, told t l r (Ok s) e h f)
+pub parts_told : (t : Test) (l : Layout) (r : Result (Result SpaceParts EvalRefusal) AllocError)
+    (p : SpaceParts) → r ≡ Ok (Ok p) → HasKeyedLayout t l → Answers l r → (s : Space)
+    → IsWholeOf p s → IsTestSpace t s
+parts_told t l r p e h f s whole = (l, h.0, (told t l r (Ok p) e h f).0 s whole)
 
-pub refusal_told : (t : Test) (l : Layout) (r : Result (Result Space EvalRefusal) AllocError)
+pub count_told : (t : Test) (l : Layout) (r : Result (Result SpaceParts EvalRefusal) AllocError)
+    (p : SpaceParts) → r ≡ Ok (Ok p) → HasKeyedLayout t l → Answers l r → AreCounted p
+count_told t l r p e h f = (told t l r (Ok p) e h f).1
+
+pub refusal_told : (t : Test) (l : Layout) (r : Result (Result SpaceParts EvalRefusal) AllocError)
     (x : EvalRefusal) → r ≡ Ok (Err x) → HasKeyedLayout t l → Answers l r → IsTestRefusal t (Refused x)
 refusal_told t l r x e h f = inr (l, h.0, told t l r (Err x) e h f)
+
+-- the combinations that were found, with all orders
+whole_ordered : (l : Layout) (f : Found) (p : SpaceParts) (s : Space)
+    → p.combinations ≡ f.combinations → p.location_count ≡ length l.initial.items → IsWholeOf p s
+    → map combination_lists s.combinations.items
+    ≡ map (λ c. ordered (location_count l) (combination_lists c)) f.combinations.items
+whole_ordered l f p s combinations many whole =
+    whole.combinations
+    ∙ ap (λ (n : ℕ). map (λ c. ordered (min n 128) (combination_lists c)) p.combinations.items) many
+    ∙ ap
+    (λ (cs : Vec Combination Global). map (λ c. ordered (location_count l) (combination_lists c)) cs.items)
+    combinations
+
+whole_searched : (l : Layout) (o : Option Found) (f : Found) (p : SpaceParts) → o ≡ Some f
+    → f.is_faulted ≡ false → IsSearched l o → p.combinations ≡ f.combinations
+    → p.locations ≡ l.locations → p.location_count ≡ length l.initial.items
+    → map (λ v. v.items) p.registers.items
+    ≡ map (λ t. map (λ q. q.registers) t.parts.items) l.threads.items
+    → AreLayoutParts l p
+whole_searched l o f p e b h combinations locations many registers s whole = (
+  all_searched l o f s.combinations.items e b h (whole_ordered l f p s combinations many whole),
+  (
+    ap (λ (rs : Vec (Vec (List Value) Global) Global). map (λ v. v.items) rs.items) whole.registers
+        ∙ registers,
+    whole.locations ∙ locations,
+  ),
+)
+
+-- the candidates of combinations are as many as those of their lists
+candidates_counted : (cs : List Combination)
+    → length (candidates_in cs) ≡ candidate_total (map combination_lists cs)
+candidates_counted [] = refl
+candidates_counted (c ∷ cs) =
+    let own : List (Combination × (List ℕ × List ℕ)) = map (λ t. (c, t)) (candidates_of c) in
+    let both : length (own ++ candidates_in cs) ≡ length own + length (candidates_in cs) = length-append own (candidates_in cs) in
+    let one : length own ≡ length (candidates_of c) = length-map (candidates_of c) (λ t. (c, t)) in
+    let reads : length (lists_of c.reads_from.items) ≡ length c.reads_from.items = length-map c.reads_from.items (λ v. v.items) in
+    let many : length (candidates_of c) ≡ length (lists_of c.reads_from.items) * length c.orders =
+    length-candidates c ∙ ap (λ (n : ℕ). n * length c.orders) (sym reads) in
+    let rest : length (candidates_in cs) ≡ candidate_total (map combination_lists cs) = candidates_counted cs in
+    both ∙ ap (λ (n : ℕ). n + length (candidates_in cs)) (one ∙ many)
+    ∙ ap (λ (n : ℕ). length (lists_of c.reads_from.items) * length c.orders + n) rest
+
+count_searched : (l : Layout) (o : Option Found) (f : Found) (p : SpaceParts) → o ≡ Some f
+    → f.is_faulted ≡ false → IsSearched l o → p.combinations ≡ f.combinations
+    → p.location_count ≡ length l.initial.items → p.count ≡ f.count → AreCounted p
+count_searched l o f p e b h combinations many count s whole =
+    let n = location_count l in
+    let sum : Sum n (all_combinations l) no_tally (tally f) =
+    summed n (all_combinations l) no_tally (tally f) (some_searched l o f e h).0 in
+    let all : map combination_lists s.combinations.items ≡ sum.all =
+    whole_ordered l f p s combinations many whole ∙ seen_ordered n f.combinations.items
+    ∙ (sum.kept b).0 in
+    let total : f.count ≡ 0 + candidate_total sum.all = sum.count in
+    let found : length (candidates_in s.combinations.items) ≡ candidate_total sum.all =
+    candidates_counted s.combinations.items ∙ ap (λ (cs : List CombinationLists). candidate_total cs) all in
+    omega (arith, total, found, count)
+
+-- the answer of a search that found combinations without fault
+pub parts_searched : (l : Layout) (o : Option Found) (f : Found) (p : SpaceParts) → o ≡ Some f
+    → f.is_faulted ≡ false → IsSearched l o → p.combinations ≡ f.combinations
+    → p.locations ≡ l.locations → p.location_count ≡ length l.initial.items
+    → map (λ v. v.items) p.registers.items
+    ≡ map (λ t. map (λ q. q.registers) t.parts.items) l.threads.items
+    → p.count ≡ f.count → IsAnswerTo l (Ok p)
+parts_searched l o f p e b h combinations locations many registers count = (
+  whole_searched l o f p e b h combinations locations many registers,
+  count_searched l o f p e b h combinations many count,
+)

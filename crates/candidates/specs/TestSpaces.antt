@@ -18,6 +18,8 @@ use Rattle.run_combinations.specs.Layouts.{AreServedRuns, IsLaidOut}
 use Rattle.run_combinations.specs.Search.{all_combinations, location_count}
 use Rattle.run_combinations.specs.Combinations.{combination_lists}
 use Rattle.candidates.specs.declared.candidate.Space.{Space}
+use Rattle.candidates.specs.declared.space_parts.SpaceParts.{SpaceParts}
+use Rattle.candidates.specs.Parts.{IsWholeOf, AreCounted}
 use Rattle.run_combinations.specs.declared.layout.Layout.{Layout}
 use Rattle.run_combinations.specs.Candidates.{AreCandidates, AreTooMany, AreFaulted}
 
@@ -39,8 +41,12 @@ IsRefusedAs l TooManyCandidates = AreTooMany (location_count l) (all_combination
 IsRefusedAs l AddressFault = AreFaulted (location_count l) (all_combinations l)
 IsRefusedAs l _ = ⊥
 
-abbrev pub IsAnswerTo : Layout → Result Space EvalRefusal → Type 0
-IsAnswerTo l (Ok s) = IsLayoutSpace l s
+-- with all orders they are the space of the layout
+abbrev pub AreLayoutParts : Layout → SpaceParts → Type 0
+AreLayoutParts l p = (s : Space) → IsWholeOf p s → IsLayoutSpace l s
+
+abbrev pub IsAnswerTo : Layout → Result SpaceParts EvalRefusal → Type 0
+IsAnswerTo l (Ok p) = AreLayoutParts l p × AreCounted p
 IsAnswerTo l (Err r) = IsRefusedAs l r
 
 -- what the candidates of the test are made of: the initial stores of its program, and runs of each

@@ -6,15 +6,9 @@
 //! `specs/Laws`, the laws of these (`laws`). The search stands in `run_combinations`.
 #![tactic(auto)]
 
-ghost use Rattle.std.specs.Prelude.{ℕ, ◌≡◌, List, Option, map, IfOk, IfErr};
-ghost use Rattle.thread_runs.specs.declared.value.Value.{Value};
-ghost use Rattle.run_combinations.specs.Keys.{IsKeyed};
+ghost use Rattle.std.specs.Prelude.{IfOk, IfErr};
 ghost use Rattle.candidates.specs.Listed.{ListsExecutions, IsSpaceFault};
-ghost use Rattle.run_combinations.specs.Events.{initial_stores};
-ghost use Rattle.run_combinations.specs.Search.{all_combinations, location_count};
-ghost use Rattle.run_combinations.specs.Combinations.{combination_lists, ordered};
-ghost use Rattle.run_combinations.specs.Candidates.{AreSmall};
-ghost use Rattle.candidates.specs.TestSpaces.{HasEnds, IsAnswerTo, IsLayoutFault, HasKeyedLayout};
+ghost use Rattle.candidates.specs.TestSpaces.{IsLayoutFault, HasKeyedLayout};
 
 mod candidate;
 mod ends;
@@ -22,6 +16,7 @@ mod execution;
 mod fault;
 pub mod laws;
 mod same;
+mod space_parts;
 
 pub use candidate::Space;
 pub use dataflow::Dependencies;
@@ -29,46 +24,13 @@ pub use execution::Execution;
 pub use fault::SpaceFault;
 pub use ppc_semantics::EvalRefusal;
 use ppc_semantics::{domain_of, program};
-pub use run_combinations::{Action, Combination, Event, MAX_CANDIDATES, StoreOrders};
-use run_combinations::{Layout, find_combinations, registers, with_orders};
+use run_combinations::Layout;
+pub use run_combinations::{
+    Action, Combination, Event, MAX_CANDIDATES, StoreOrders, row_count, rows_at,
+};
+pub use space_parts::{SpaceParts, parts};
 use std::alloc::{AllocError, Global};
 use text_values::Test;
-
-/// The space with these combinations.
-fn space_with(
-    alloc: Global,
-    layout: Layout,
-    combinations: Vec<Combination>,
-) -> Result<Space, AllocError>
-    ensures { IfOk result (λ s. (map combination_lists s.combinations.items
-        ≡ map (λ c. ordered (location_count layout) (combination_lists c))
-        combinations.items) × HasEnds layout s) }
-{
-    let combinations = with_orders(alloc, combinations, layout.initial.len())?;
-    let registers = registers(alloc, &layout.threads)?;
-    Ok(Space {
-        locations: layout.locations,
-        registers,
-        combinations,
-    })
-}
-
-/// The space of a layout, or why it has none.
-fn space_of(alloc: Global, layout: Layout) -> Result<Result<Space, EvalRefusal>, AllocError>
-    requires { AreSmall (all_combinations layout) }
-    ensures { (key : ℕ → Value → Option (ℕ × ℕ)) (initial : List Value) → IsKeyed key layout
-        → layout.initial.items ≡ initial_stores 0 initial → IfOk result (λ r. IsAnswerTo layout r) }
-{
-    match find_combinations(alloc, &layout)? {
-        None => Ok(Err(EvalRefusal::TooManyCandidates)),
-        Some(found) => {
-            if found.is_faulted {
-                return Ok(Err(EvalRefusal::AddressFault));
-            }
-            Ok(Ok(space_with(alloc, layout, found.combinations)?))
-        }
-    }
-}
 
 /// What the candidates of a test are made of, or a refusal of its domain.
 fn layout_of(alloc: Global, test: &Test) -> Result<Layout, SpaceFault>
@@ -97,12 +59,11 @@ pub fn space(alloc: Global, test: &Test) -> Result<Space, SpaceFault>
     ensures executions { IfOk result (ListsExecutions test.now) }
     ensures refused { IfErr result (IsSpaceFault test.now) }
 {
-    match layout_of(alloc, test) {
+    match parts(alloc, test) {
         Err(fault) => Err(fault),
-        Ok(layout) => match space_of(alloc, layout) {
+        Ok(parts) => match parts.whole(alloc) {
             Err(fault) => Err(SpaceFault::OutOfMemory(fault)),
-            Ok(Err(refusal)) => Err(SpaceFault::Refused(refusal)),
-            Ok(Ok(space)) => Ok(space),
+            Ok(space) => Ok(space),
         },
     }
 }

@@ -14,7 +14,7 @@ ghost use Rattle.command_answers.specs.Whys.{IsWhyOf};
 use crate::fault::EvalFault;
 use cat_syntax::{CatFault, ModelText, read_model};
 use command_line::{Drawn, Pictures};
-use from_scratch::eval_cell;
+use cut_spaces::eval_cell;
 use litmus_ppc::{LitmusFault, Test, read_test};
 use outcome_texts::outcome_log;
 use std::alloc::{AllocError, Global};

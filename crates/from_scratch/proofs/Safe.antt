@@ -24,7 +24,7 @@ use Rattle.binding_kinds.specs.Functions.{sense_seen, is_at, under_at, is_under_
 use Rattle.binding_kinds.specs.Faults.{with_own, with_all, names_after, senses_after}
 use Rattle.binding_graph.specs.declared.resolved.Blend.TheVariants as blends
 use Rattle.binding_graph.specs.Meaning.{source_of, source_of_binder, rel_tree}
-use Rattle.binding_graph.specs.Trees.{RelTree, RelName, NoPair, BlendRelations, Compose, Multiply, IdentityOn, Close, ComplementRelation}
+use Rattle.binding_graph.specs.Trees.{RelTree, RelName, NoPair, BlendRelations, SequenceRelations, ProductOfSets, IdentityOn, Close, ComplementRelation}
 use Rattle.cat_eval.specs.Least.{IsNotOwn, HasNoOwnName, IsMonotone}
 
 -- the slot of a name is that of a name that is seen
@@ -80,8 +80,8 @@ fixed_rises NoPair h = tt
 fixed_rises (BlendRelations blends.Union e f) h = (fixed_rises e h.0, fixed_rises f h.1)
 fixed_rises (BlendRelations blends.Intersection e f) h = (fixed_rises e h.0, fixed_rises f h.1)
 fixed_rises (BlendRelations blends.Difference e f) h = (fixed_rises e h.0, h.1)
-fixed_rises (Compose e f) h = (fixed_rises e h.0, fixed_rises f h.1)
-fixed_rises (Multiply s t) h = tt
+fixed_rises (SequenceRelations e f) h = (fixed_rises e h.0, fixed_rises f h.1)
+fixed_rises (ProductOfSets s t) h = tt
 fixed_rises (IdentityOn s) h = tt
 fixed_rises (Close how e) h = fixed_rises e h
 fixed_rises (ComplementRelation e) h = h

@@ -13,19 +13,16 @@ ghost use Rattle.verdict.specs.Evaluated.{IsEvaluatedAs};
 ghost use Rattle.verdict.specs.Kept.{of_raised, AreKeptBy};
 ghost use Rattle.from_scratch.specs.Answers.{AreSoundItems};
 ghost use Rattle.from_scratch.specs.Known.{column_of, AreFound, IsAnswered, ColumnsAt, IsGroup, HasAllColumns, HasNoOtherColumns, of_flags, kept_of, flags_of, AreKeptAndFlagged};
-ghost use Rattle.from_scratch.specs.FromScratch.{IsFromScratch};
 ghost use Rattle.from_scratch.specs.Keeping.{IsGone, IsLeftOut, IsAnsweredBut};
-ghost use Rattle.from_scratch.specs.Cell.{IsSaidFromSome, IsCell, IsEvaluationBy, IsEvaluationOver, OfModel};
-ghost use Rattle.from_scratch.specs.Suites.{IsSpaceFor};
+ghost use Rattle.from_scratch.specs.Cell.{IsSaidFromSome, IsEvaluationBy};
 
 use crate::keeping::{Keeping, LastUsers, last_users, let_go_behind};
-use crate::suite::{over_space, space_for};
-use binding_graph::{CheckCode, Input, ResolveFault, Resolved, ResolvedItem, Role, resolve, used};
-use candidates::{EvalRefusal, Space};
+use binding_graph::{CheckCode, Input, Resolved, ResolvedItem, Role, used};
+use candidates::Space;
 use cat_eval::{Column, Evaluator};
 use litmus_printing::print_condition;
 use std::alloc::{AllocError, Global};
-use text_values::{ModelText, Name, Test};
+use text_values::{Name, Test};
 use verdict::{Outcome, OutcomeResult, Raised, Refusal, outcome_kept};
 
 /// A flag: its name, and whether its check holds on each candidate.
@@ -392,7 +389,9 @@ fn raised<'a>(alloc: Global, flags: &'a [FlagAnswer<'a>]) -> Result<Vec<Raised<'
     Ok(raised)
 }
 
-pub(crate) fn evaluated(
+/// What the test says over the space, by an evaluator that has evaluated nothing yet, or items over
+/// this space. Errors: want of memory.
+pub fn evaluated(
     alloc: Global,
     evaluator: &mut Evaluator,
     test: &Test,
@@ -418,7 +417,8 @@ pub(crate) fn evaluated(
     )
 }
 
-pub(crate) fn refused(alloc: Global, test: &Test, refusal: Refusal) -> Result<Outcome, AllocError>
+/// The outcome of a test that is refused. Errors: want of memory.
+pub fn refused(alloc: Global, test: &Test, refusal: Refusal) -> Result<Outcome, AllocError>
     ensures kind { IfOk result (λ o. o.kind ≡ test.now.condition.quantifier) }
     ensures text { IfOk result (λ o. o.condition
         ≡ condition_text test.now.condition.quantifier
@@ -430,43 +430,4 @@ pub(crate) fn refused(alloc: Global, test: &Test, refusal: Refusal) -> Result<Ou
         condition: print_condition(alloc, &test.condition)?,
         result: OutcomeResult::Refused(refusal),
     })
-}
-
-// What the test says over its candidates, by an evaluator of its own.
-#[inline(never)]
-fn over_space_alone(
-    alloc: Global,
-    test: &Test,
-    resolved: &Resolved,
-    space: &Result<Space, EvalRefusal>,
-) -> Result<Outcome, AllocError>
-    requires { IsSpaceFor test.now space.now }
-    ensures cell { IfOk result (λ o. IsCell test.now o) }
-    ensures model { IfOk result (λ o. OfModel (λ _. ⊥) (Unit {0})
-        (λ e. AreSoundItems resolved.now.items.items
-        → IsEvaluationOver resolved.now.items.items test.now e) o.result) }
-{
-    over_space(alloc, &mut Evaluator::new(alloc), test, resolved, space)
-}
-
-fn over_candidates(alloc: Global, test: &Test, resolved: &Resolved) -> Result<Outcome, AllocError>
-    ensures cell { IfOk result (λ o. IsCell test.now o) }
-    ensures model { IfOk result (λ o. OfModel (λ _. ⊥) (Unit {0})
-        (λ e. AreSoundItems resolved.now.items.items
-        → IsEvaluationOver resolved.now.items.items test.now e) o.result) }
-{
-    let space = space_for(alloc, test)?;
-    over_space_alone(alloc, test, resolved, &space)
-}
-
-/// What the test says under the model: a fault of the model first, then a refusal of the test, and
-/// else the evaluation of all its candidates. Errors: want of memory.
-pub fn eval_cell(alloc: Global, test: &Test, model: &ModelText) -> Result<Outcome, AllocError>
-    ensures { IfOk result (IsFromScratch test.now model.now) }
-{
-    match resolve(alloc, model) {
-        Ok(resolved) => over_candidates(alloc, test, &resolved),
-        Err(ResolveFault::Refused(fault)) => refused(alloc, test, Refusal::Model(fault)),
-        Err(ResolveFault::OutOfMemory(e)) => Err(e),
-    }
 }

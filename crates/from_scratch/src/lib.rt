@@ -1,6 +1,6 @@
-//! One test under one model, evaluated from nothing. Read `specs/FromScratch` first: `eval_cell`
-//! gives what it says, and `laws` says of what it is the only answer. `eval_suite` gives it for
-//! many tests under many models: specs/Suites.
+//! One test under one model, evaluated from nothing. Read `specs/FromScratch` first: `eval_cell` of
+//! cut_spaces gives what it says, and `laws` says of what it is the only answer. `eval_suite` there
+//! gives it for many tests under many models: specs/Suites.
 #![tactic(auto)]
 
 mod cell;
@@ -9,5 +9,5 @@ mod keeping;
 pub mod laws;
 mod suite;
 
-pub use cell::{FlagAnswer, ItemAnswers, answers, eval_cell, inputs};
-pub use suite::{eval_row, eval_suite, resolved_models};
+pub use cell::{FlagAnswer, ItemAnswers, answers, evaluated, inputs, refused};
+pub use suite::{each_model, resolved_models};

@@ -8,36 +8,18 @@ ghost use Rattle.cat_eval.specs.Tables.{IsOver};
 ghost use Rattle.from_scratch.specs.Answers.{AreSoundItems};
 ghost use Rattle.from_scratch.specs.Cell.{IsCell, IsEvaluationOver, OfModel};
 ghost use Rattle.from_scratch.specs.FromScratch.{IsFromScratch};
-ghost use Rattle.from_scratch.specs.Suites.{AreOutcomes, AreSuiteRows, IsSpaceFor, IsResolvedAs, AreResolvedAs};
+ghost use Rattle.from_scratch.specs.Suites.{AreOutcomes, IsSpaceFor, IsResolvedAs, AreResolvedAs};
 
 use crate::cell::{evaluated, refused};
 use binding_graph::{ModelFault, ResolveFault, Resolved, resolve};
-use candidates::{EvalRefusal, Space, SpaceFault, space};
+use candidates::{EvalRefusal, Space};
 use cat_eval::Evaluator;
 use std::alloc::{AllocError, Global};
 use text_values::{ModelText, Test};
 use verdict::{Outcome, Refusal};
 
-/// The candidates of a test, or why it has none. Errors: want of memory.
-#[inline(never)]
-pub(crate) fn space_for(
-    alloc: Global,
-    test: &Test,
-) -> Result<Result<Space, EvalRefusal>, AllocError>
-    ensures { IfOk result (IsSpaceFor test.now) }
-{
-    match space(alloc, test) {
-        Ok(space) => Ok(Ok(space)),
-        Err(SpaceFault::Refused(refusal)) => Ok(Err(refusal)),
-        Err(SpaceFault::OutOfMemory(e)) => Err(e),
-    }
-}
-
 /// The items of a model, or its first fault. Errors: want of memory.
-pub(crate) fn items_of(
-    alloc: Global,
-    model: &ModelText,
-) -> Result<Result<Resolved, ModelFault>, AllocError>
+fn items_of(alloc: Global, model: &ModelText) -> Result<Result<Resolved, ModelFault>, AllocError>
     ensures { IfOk result (IsResolvedAs model.now) }
 {
     match resolve(alloc, model) {
@@ -62,7 +44,7 @@ pub fn resolved_models(
 }
 
 /// What the test says over its candidates.
-pub(crate) fn over_space(
+fn over_space(
     alloc: Global,
     evaluator: &mut Evaluator,
     test: &Test,
@@ -103,9 +85,9 @@ fn under_model(
     }
 }
 
-/// What the test says over its space under each model.
+/// What the test says over its space under each model. Errors: want of memory.
 #[inline(never)]
-fn each_model(
+pub fn each_model(
     alloc: Global,
     test: &Test,
     space: &Result<Space, EvalRefusal>,
@@ -121,48 +103,4 @@ fn each_model(
         outcomes.push(under_model(alloc, &mut evaluator, test, space, model)?)?;
     }
     Ok(outcomes)
-}
-
-/// What the test says under each model, whose items are resolved: as `eval_cell` gives it, over
-/// candidates that are made once. Errors: want of memory.
-pub fn eval_row(
-    alloc: Global,
-    test: &Test,
-    models: &[Result<Resolved, ModelFault>],
-) -> Result<Vec<Outcome>, AllocError>
-    ensures { (texts : List (Bor ModelText)) → AreResolvedAs texts models.now
-        → IfOk result (λ v. AreOutcomes texts test.now v.items) }
-{
-    let space = space_for(alloc, test)?;
-    each_model(alloc, test, &space, models)
-}
-
-/// What each test says under each model.
-fn each_test(
-    alloc: Global,
-    tests: &[Test],
-    models: &[Result<Resolved, ModelFault>],
-) -> Result<Vec<Vec<Outcome>>, AllocError>
-    ensures { (texts : List (Bor ModelText)) → AreResolvedAs texts models.now
-        → IfOk result (λ rows. AreSuiteRows texts tests.now rows.items) }
-{
-    let mut rows = Vec::with_capacity(alloc, tests.len())?;
-    for test in tests {
-        rows.push(eval_row(alloc, test, models)?)?;
-    }
-    Ok(rows)
-}
-
-/// What each test says under each model: for each test one outcome a model, as `eval_cell` gives
-/// it. The candidates of a test are made once, and a model is resolved once. Errors: want of
-/// memory.
-pub fn eval_suite(
-    alloc: Global,
-    tests: &[Test],
-    models: &[&ModelText],
-) -> Result<Vec<Vec<Outcome>>, AllocError>
-    ensures { IfOk result (λ rows. AreSuiteRows models.now tests.now rows.items) }
-{
-    let resolved = resolved_models(alloc, models)?;
-    each_test(alloc, tests, &resolved)
 }

@@ -4,8 +4,9 @@ use Rattle.std.specs.Prelude.{filter, Contains}
 use Rattle.std.specs.List.{flat_map}
 use Rattle.run_combinations.specs.Lists.{each_behind}
 use Rattle.run_combinations.specs.Orders.{all_orders}
+use Rattle.run_combinations.specs.Rows.{rows_of}
 use Rattle.run_combinations.specs.declared.combination.Event.{Event}
-use Rattle.kept_orders.specs.Kept.{rows_of, kept_orders, HasRefusedRow}
+use Rattle.kept_orders.specs.Kept.{kept_orders, HasRefusedRow}
 use Rattle.kept_orders.specs.Laws.{OrdersHaveKeptRows}
 use Rattle.kept_orders.specs.Sublists.{LeavesOut, nothing_left, stays, is_left}
 

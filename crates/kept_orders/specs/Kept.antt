@@ -1,13 +1,10 @@
--- The orders of stores whose rows are kept. Read `Orders` of run_combinations first. Read next: Laws.
+-- The orders of stores whose rows are kept. Read `Orders` and `Rows` of run_combinations first. Read
+-- next: Laws.
 use Rattle.std.specs.Prelude.{ℕ, zero, suc, ◌≡◌, ◌<◌, Bool, false, List, [], ◌∷◌, ◌++◌, filter, Contains}
 use Rattle.std.specs.List.{flat_map}
 use Rattle.run_combinations.specs.Lists.{each_behind}
-use Rattle.run_combinations.specs.Orders.{orders_of, stores_of}
+use Rattle.run_combinations.specs.Rows.{rows_of}
 use Rattle.run_combinations.specs.declared.combination.Event.{Event}
-
--- the rows in which the stores of a location can stand
-abbrev pub rows_of : List Event → ℕ → List (List ℕ)
-rows_of events location = orders_of location (stores_of events location)
 
 -- the orders of the stores of the first locations, with one of the kept rows of each. A test says
 -- which rows of a location are kept

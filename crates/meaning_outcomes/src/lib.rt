@@ -6,7 +6,7 @@
 ghost use Rattle.std.specs.Prelude.{IfOk};
 ghost use Rattle.meaning_outcomes.specs.Outcomes.{FromScratchIsMeant, TestsOfWordsAreMeant, OutcomesAreOne, IsMeant};
 
-use from_scratch::eval_cell;
+use cut_spaces::eval_cell;
 use meaning_words::test_is_of_words;
 use std::alloc::{AllocError, Global};
 use text_values::{ModelText, Test};

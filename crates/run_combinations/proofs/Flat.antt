@@ -56,7 +56,7 @@ row_at n (suc count) (suc k) xs lt =
     ∙ ap (λ (i : ℕ). take n (drop i xs)) more
 
 -- the width of orders
-both_wide : (n : ℕ) (xs ys : List (List ℕ)) → HaveWidth n xs → HaveWidth n ys
+pub both_wide : (n : ℕ) (xs ys : List (List ℕ)) → HaveWidth n xs → HaveWidth n ys
     → HaveWidth n (xs ++ ys)
 both_wide n [] ys h k = k
 both_wide n (x ∷ xs) ys h k = (h.0, both_wide n xs ys h.1 k)
@@ -73,7 +73,7 @@ longer : (prefix stores : List ℕ)
 longer prefix [] = tt
 longer prefix (x ∷ xs) = (length-append prefix (x ∷ []), longer prefix xs)
 
-rows_wide : (others : List ℕ) (begin left : ℕ) (prefix : List ℕ) (n : ℕ) → n ≡ length prefix + left
+pub rows_wide : (others : List ℕ) (begin left : ℕ) (prefix : List ℕ) (n : ℕ) → n ≡ length prefix + left
     → HaveWidth n (rows_from others begin left prefix)
 rows_wide others begin zero prefix n e = (omega (arith, e), tt)
 rows_wide others begin (suc left) prefix n e =
@@ -99,7 +99,7 @@ width_more (l ∷ ls) s =
     let rest : width_of (ls ++ s ∷ []) ≡ width_of ls + (1 + length s.1) = width_more ls s in
     omega (arith, rest)
 
-few_stores : (events : List Event) (location : ℕ) → length (stores_of events location) ≤ 128
+pub few_stores : (events : List Event) (location : ℕ) → length (stores_of events location) ≤ 128
 unfolding stores_of
 few_stores events location =
     let few : length (numbers (is_thread_store location) 0 (take 128 events)) ≤ length (take 128 events) = few_numbers (is_thread_store location) 0 (take 128 events) in

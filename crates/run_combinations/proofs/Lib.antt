@@ -18,6 +18,7 @@ pub mod OrderLaws
 pub mod Pairs
 pub mod Parting
 pub mod Pruning
+pub mod Rows
 pub mod Searching
 pub mod Serving
 pub mod Stores

@@ -64,7 +64,7 @@ rows_joined others f (suc n) t =
     (λ g. each_behind (rows others n g) f) (with_new others t) (λ g. rows_joined others f n g)
     ∙ map-flat_map (λ g. f ++ g) (rows others n) (with_new others t)
 
-one_each : (xs : List (List ℕ)) → flat_map (λ x. x ∷ []) xs ≡ xs
+pub one_each : (xs : List (List ℕ)) → flat_map (λ x. x ∷ []) xs ≡ xs
 one_each [] = refl
 one_each (x ∷ xs) = ap (λ l. x ∷ l) (one_each xs)
 
@@ -88,7 +88,7 @@ rows_distinct first others (suc n) =
     (rows_more others n (first ∷ [])))
 
 -- the orders of one location, behind a prefix
-location_orders : (first : ℕ) (others f : List ℕ)
+pub location_orders : (first : ℕ) (others f : List ℕ)
     → rows_from others (length f) (length others) (f ++ first ∷ [])
     ≡ each_behind (orders_of first others) f
 location_orders first others f =

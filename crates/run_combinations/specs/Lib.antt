@@ -9,5 +9,6 @@ pub mod Orders
 pub mod Parts
 pub mod Prefixes
 pub mod Rounds
+pub mod Rows
 pub mod Search
 pub mod ReadChoices

@@ -18,7 +18,7 @@ mod store_orders;
 
 pub use combination::{Action, Combination, Event};
 pub use layout::{Layout, ThreadParts, registers};
-pub use orders::with_orders;
+pub use orders::{row_count, rows_at, with_orders};
 pub use part::Part;
 pub use search::{Found, find_combinations};
 pub use store_orders::StoreOrders;

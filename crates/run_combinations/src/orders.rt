@@ -6,6 +6,8 @@ ghost use Rattle.run_combinations.specs.OrderPrefixes.{store_lists, rows_from, o
 ghost use Rattle.run_combinations.specs.OrderPrefixes as order_prefixes;
 ghost use Rattle.run_combinations.specs.Orders.{is_thread_store, stores_of, all_orders, AreInitialStoresApart};
 ghost use Rattle.run_combinations.specs.Orders as definitions;
+ghost use Rattle.run_combinations.specs.Rows as definition_rows;
+ghost use Rattle.run_combinations.specs.Rows.{row_total};
 ghost use Rattle.run_combinations.specs.Combinations.{combination_lists, ordered};
 
 use crate::combination::{Action, Combination, Event};
@@ -284,4 +286,37 @@ pub fn with_orders(
     let mut prefix = Vec::with_capacity(alloc, MAX_EVENTS)?;
     let made = all_ordered(alloc, combinations, &mut stores, &mut prefix)?;
     Ok(made)
+}
+
+/// The rows in which the stores of a location, by its number, can stand, in lexicographic order:
+/// the initial store first. Errors: want of memory.
+pub fn rows_at(alloc: Global, events: &[Event], location: usize) -> Result<StoreOrders, AllocError>
+    requires { location < 128 }
+    ensures { IfOk result (λ v. v ≡ definition_rows.rows_of events.now location) }
+{
+    let mut others = Vec::new(alloc);
+    find_stores(events, location, &mut others)?;
+    let width = others.len().saturating_add(1);
+    let mut prefix = Vec::with_capacity(alloc, width)?;
+    prefix.push(location as u8)?;
+    let mut stores = Vec::with_capacity(alloc, width)?;
+    add_rows(&others, &[], others.len(), 0, &mut prefix, &mut stores)?;
+    let count = stores.len() / width;
+    Ok(StoreOrders {
+        stores,
+        width,
+        count,
+    })
+}
+
+/// How many rows the stores of the first locations have, of at most 128 of these, or the greatest
+/// number where that is less.
+pub fn row_count(events: &[Event], locations: usize) -> usize
+    ensures { result ≡ min (row_total events.now (min locations 128)) (2 ^ 64 - 1) }
+{
+    let mut count = 0usize;
+    for location in 0..locations.min(MAX_EVENTS) {
+        count = count.saturating_add(rows_of(store_count(events, location)));
+    }
+    count
 }

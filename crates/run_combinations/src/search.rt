@@ -25,7 +25,7 @@ pub struct Found {
     /// In lexicographic order of their runs.
     pub combinations: Vec<Combination>,
     /// How many candidates they have.
-    count: usize,
+    pub count: usize,
     /// Whether some candidate holds a run that stopped at a fault. The later combinations are
     /// counted and not kept then.
     pub is_faulted: bool,

@@ -1,7 +1,10 @@
 //! Orders of stores, in one flat list.
-ghost use Rattle.std.specs.Prelude.{◌≡◌, ◌<◌, [], length, slice_index_or};
+ghost use Rattle.std.specs.Prelude.{◌≡◌, ◌<◌, ◌≤◌, ◌∷◌, ◌++◌, [], length, slice_index_or, All, IfOk, OnOk};
+ghost use Rattle.std.specs.List.{concat, flat_map};
+ghost use Rattle.run_combinations.specs.Lists.{each_behind};
+ghost use Rattle.run_combinations.specs.Rows.{rows_kept};
 
-use std::alloc::Global;
+use std::alloc::{AllocError, Global};
 use std::marker::Model;
 
 /// Orders of the same stores, one after another in one list. Contracts see the list of the orders.
@@ -52,5 +55,65 @@ impl StoreOrders {
     {
         let begin = index * self.width;
         &self.stores[begin..begin + self.width]
+    }
+
+    /// One order, of no store.
+    pub fn of_no_store(alloc: Global) -> StoreOrders
+        ensures { result ≡ [] ∷ [] }
+    {
+        StoreOrders {
+            stores: Vec::new(alloc),
+            width: 0,
+            count: 1,
+        }
+    }
+
+    /// Those of the orders that have `true` at their index. Errors: want of memory.
+    pub fn kept(&self, alloc: Global, answers: &[bool]) -> Result<StoreOrders, AllocError>
+        requires { length self.now ≤ length answers.now }
+        ensures { IfOk result (λ v. v ≡ rows_kept self.now answers.now) }
+    {
+        let mut stores = Vec::with_capacity(alloc, self.width)?;
+        let mut count = 0usize;
+        for index in 0..self.count {
+            if answers[index] {
+                stores.extend_from_slice(self.order(index))?;
+                count += 1;
+            }
+        }
+        Ok(StoreOrders {
+            stores,
+            width: self.width,
+            count,
+        })
+    }
+
+    /// Adds each of the orders, with these stores before it.
+    fn add_behind(&self, front: &[u8], stores: &mut Vec<u8>) -> Result<(), AllocError>
+        ensures { OnOk result (stores.new.items
+            ≡ stores.old.items ++ concat (each_behind self.now front.now)) }
+    {
+        for index in 0..self.count {
+            stores.extend_from_slice(front)?;
+            stores.extend_from_slice(self.order(index))?;
+        }
+        Ok(())
+    }
+
+    /// Each order with each of the rows behind it. Errors: want of memory.
+    pub fn followed_by(&self, alloc: Global, rows: &StoreOrders) -> Result<StoreOrders, AllocError>
+        requires { All (λ row. 0 < length row) rows.now }
+        ensures { IfOk result (λ v. v ≡ flat_map (each_behind rows.now) self.now) }
+    {
+        let width = self.width.saturating_add(rows.width);
+        let mut stores = Vec::with_capacity(alloc, width)?;
+        for index in 0..self.count {
+            rows.add_behind(self.order(index), &mut stores)?;
+        }
+        Ok(StoreOrders {
+            stores,
+            width,
+            count: self.count.saturating_mul(rows.count),
+        })
     }
 }

@@ -9,7 +9,8 @@ ghost use Rattle.session_answers.specs.Rows.{HasOutcomes};
 use crate::progress::{Progress, ProgressListener};
 use crate::rows::TestOutcomes;
 use binding_graph::{ModelFault, Resolved};
-use from_scratch::{eval_row, resolved_models};
+use cut_spaces::eval_row;
+use from_scratch::resolved_models;
 use std::alloc::{AllocError, Global};
 use text_values::{ModelText, Test};
 

@@ -38,7 +38,7 @@ fn step_text(step: Step) -> &'static [u8] {
         Step::PushSet(Source::Predefined(Predefined::Loads)) => b"push set R",
         Step::PushRelation(Source::Predefined(Predefined::ProgramOrder)) => b"push relation po",
         Step::IdentityOn => b"restrict",
-        Step::Compose => b"compose",
+        Step::SequenceRelations => b"compose",
         _ => b"another",
     }
 }

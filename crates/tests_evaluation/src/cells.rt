@@ -3,7 +3,7 @@
 use crate::outcomes::put_counts;
 use cat_syntax::{ModelText, read_model};
 use command_answers::{Drawn, Form, Pictures, ResultFormat, form_of};
-use from_scratch::{eval_cell, eval_suite};
+use cut_spaces::{eval_cell, eval_suite};
 use litmus_ppc::{Quantifier, Test, read_test};
 use std::alloc::{AllocError, Global};
 use text_values::{put_bytes, put_decimal};

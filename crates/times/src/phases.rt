@@ -5,7 +5,8 @@ use binding_graph::{Resolved, Role, Source, Step, resolve};
 use candidates::space;
 use cat_syntax::{ModelText, read_model};
 use command_answers::eval;
-use from_scratch::{answers, eval_cell};
+use cut_spaces::eval_cell;
+use from_scratch::answers;
 use litmus_ppc::{Test, read_test};
 use std::alloc::Global;
 

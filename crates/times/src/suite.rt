@@ -4,7 +4,7 @@ ghost use Rattle.std.specs.Prelude.{◌≤◌, length};
 
 use crate::timing::{Work, forget_memory, show_memory, show_microseconds, time_of};
 use cat_syntax::{ModelText, read_model};
-use from_scratch::{eval_cell, eval_suite};
+use cut_spaces::{eval_cell, eval_suite};
 use litmus_ppc::{Test, read_test};
 use std::alloc::{AllocError, Global};
 use std::rt::{Clock, Files};

@@ -2,7 +2,7 @@
 
 use crate::walk::draw::Drawn;
 use bench_texts::{Edit, Texts};
-use from_scratch::eval_cell;
+use cut_spaces::eval_cell;
 use outcome_texts::outcome_log;
 use std::alloc::{AllocError, Global};
 use std::sync::Arc;

@@ -1,7 +1,7 @@
 use Rattle.std.proofs.Common.{List, Bor, take}
 use Rattle.text_values.specs.declared.model.ModelText.{ModelText}
 use Rattle.from_scratch.specs.Suites.{AreSuiteRows, AreResolvedAs}
-use Rattle.from_scratch.proofs.suite.each_test.Given as goal
+use Rattle.cut_spaces.proofs.cell.each_test.Given as goal
 
 abbrev pub invariant-loop-test : goal.invariant-loop-test
 invariant-loop-test l =

@@ -1,6 +1,6 @@
 use Rattle.from_scratch.specs.Suites.{AreOutcomes}
 use Rattle.from_scratch.proofs.Suiting.{each_more}
-use Rattle.from_scratch.proofs.suite.each_test.Goals as goal
+use Rattle.cut_spaces.proofs.cell.each_test.Goals as goal
 
 pub loop-test-preserved : goal.loop-test-preserved
 loop-test-preserved c = λ texts all.

@@ -1,4 +1,4 @@
-use Rattle.from_scratch.proofs.suite.eval_suite.Goals as goal
+use Rattle.cut_spaces.proofs.cell.eval_suite.Goals as goal
 
 pub returns : goal.returns
 returns c =

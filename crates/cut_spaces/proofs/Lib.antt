@@ -1,0 +1,5 @@
+pub mod Evaluating
+pub mod Orders
+pub mod Refusing
+pub mod Passing
+pub mod Spaces
