@@ -36,4 +36,5 @@ pub mod LeftCells
 pub mod SliceCells
 pub mod Wholes
 pub mod Stamped
+pub mod KeepAll
 pub mod Touching

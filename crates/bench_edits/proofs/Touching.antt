@@ -270,7 +270,7 @@ module _ {G : Type 0} (p q : Parts) (tests : List Test) (models : List NamedMode
         let e = entry a h in
         sym (is_made.made.id_is ∙ ap (test_id _) e.is ∙ ap (λ (x : TestRow). x.id) e.row)
 
-    new_id : (a : TestRow) → slice_get rows to ≡ Some a → a.id ≡ c.new.id
+    pub new_id : (a : TestRow) → slice_get rows to ≡ Some a → a.id ≡ c.new.id
     new_id a h = same_id a h ∙ sym c.raised.id_is
 
     other : (m : ℕ) → (m == row.id) ≡ false → row_of q.table.tests.items m ≡ row_of rows m

@@ -9,3 +9,4 @@ pub mod BenchCells
 pub mod Left
 pub mod Slices
 pub mod Touched
+pub mod Gone

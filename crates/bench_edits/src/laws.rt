@@ -1,6 +1,7 @@
 //! Laws of the parts of the bench after an edit.
 
 ghost use Rattle.bench_values.specs.Givens.{GivenContent};
+ghost use Rattle.bench_edits.specs.Gone.{EditsKeepAll};
 ghost use Rattle.bench_edits.specs.Touched.{EditsTouchOnly};
 ghost use Rattle.bench_edits.specs.Laws.{TestEditsKeepParts, TestEditsGoOn, EditsKeepParts, EditsGoOn, EditsKeepStamps, PartsAreWhole, EditsAreStamped};
 
@@ -43,4 +44,9 @@ pub fn edits_are_stamped()
 /// An edit changes the use, the inputs and the stamps of those nodes alone that it touches.
 pub fn edits_touch_only()
     ensures { EditsTouchOnly GivenContent }
+{}
+
+/// Where no memo has to go with an edit, each that may stay may stay after it.
+pub fn edits_keep_all()
+    ensures { EditsKeepAll }
 {}

@@ -17,6 +17,7 @@ pub mod bench_laws;
 pub mod cell_laws;
 mod commit;
 mod edited;
+mod gone;
 pub mod laws;
 mod models;
 pub mod node_laws;
@@ -27,5 +28,6 @@ mod touched;
 
 pub use commit::commit_parts;
 pub use edited::{EditedParts, ModelParts};
+pub use gone::may_drop;
 pub use prepare::prepare_parts;
 pub use touched::touched_nodes;

@@ -1,5 +1,5 @@
 -- Texts that are the same after an edit is prepared, wherever they lie in memory.
-use Rattle.std.proofs.Common.{◌≡◌, ℕ, Bool, true, false, ◌||◌, if◌then◌else◌, Option, Some, None, List, length, map, refl, subst, sym, ap, ◌∙◌}
+use Rattle.std.proofs.Common.{◌≡◌, ℕ, Bool, true, false, ◌&&◌, ◌||◌, if◌then◌else◌, Option, Some, None, List, length, map, refl, subst, sym, ap, ◌∙◌}
 use Rattle.std.specs.List.{AllZip, AllByRecursion as Each}
 use Rattle.text_values.specs.declared.test.Test.{Test}
 use Rattle.ppc_semantics.specs.Lowering.{AreNamesOf, test_names}
@@ -10,13 +10,16 @@ use Rattle.bench_texts.specs.Edits.{Edit, Applies, IsWanting, has_text, missing_
 use Rattle.bench_texts.proofs.Refusing.{is_wanting}
 use Rattle.bench_texts.specs.Limits.{is_full, is_spent}
 use Rattle.memo_core.specs.declared.keys.Kind.{Kind}
+use Rattle.memo_core.specs.declared.keys.Kind.TheVariants as kinds
+use Rattle.memo_core.specs.declared.keys.Node.{Node}
 use Rattle.bench_nodes.specs.declared.table.ItemRow.{ItemRow}
 use Rattle.bench_nodes.specs.declared.table.ModelRow.{ModelRow}
 use Rattle.bench_nodes.specs.declared.table.TestRow.{TestRow}
+use Rattle.bench_nodes.specs.Nodes.{has_test_row}
 use Rattle.bench_parts.specs.declared.parts.Parts.{Parts}
 use Rattle.bench_parts.specs.Built.{IsBuilt}
 use Rattle.bench_parts.specs.Contents as contents
-use Rattle.bench_parts.specs.States.{IsSamePartsState}
+use Rattle.bench_parts.specs.States.{IsSamePartsState, has_kind, has_model, has_own, keeps}
 use Rattle.bench_parts.proofs.Same as states
 use Rattle.bench_parts.proofs.SameWritten as written
 use Rattle.bench_parts.specs.Written.{IsSameWritten}
@@ -124,6 +127,27 @@ module _ (t u : StampedTexts) (same : AreSameTexts t u) where
         (kinds_are_same t.parts u.parts t.texts.tests.items u.texts.tests.items t.texts.models.items
         same.state s.kinds);
   }
+
+  kind_is : (kind : Kind) (of : ℕ)
+      → has_kind u.parts.table.items.items u.parts.kinds.items kind of
+      ≡ has_kind t.parts.table.items.items t.parts.kinds.items kind of
+  kind_is kind of =
+      ap (λ (is : List ItemRow). has_kind is u.parts.kinds.items kind of) same.state.item_rows
+      ∙ ap (λ (ks : List (Option Kind)). has_kind t.parts.table.items.items ks kind of)
+      same.state.kinds
+
+  own_is : (kind : Kind) (of : ℕ) → has_own u.parts kind of ≡ has_own t.parts kind of
+  own_is kinds.Space of = refl
+  own_is kinds.Group of = kind_is kinds.Group of
+  own_is kinds.Check of = kind_is kinds.Check of
+  own_is kinds.Verdict of = ap (λ (ms : List ModelRow). has_model ms of) same.state.model_rows
+
+  pub same_keeps : (n : Node) → keeps u.parts n ≡ keeps t.parts n
+  same_keeps n =
+      ap (λ (ts : List TestRow). has_test_row ts n.test && has_own u.parts n.kind n.of)
+      same.state.test_rows
+      ∙ ap (λ (own : Bool). has_test_row t.parts.table.tests.items n.test && own)
+      (own_is n.kind n.of)
 
   pub net_is : stamped_net u ≡ stamped_net t
   net_is = states.net_is (stamped_state t) (stamped_state u) same.state

@@ -12,6 +12,7 @@ use Rattle.bench_edits.specs.declared.edited.EditedParts.{EditedParts}
 use Rattle.bench_edits.specs.declared.edited.EditedParts.TheVariants as edited
 use Rattle.bench_edits.specs.Edited as parts
 use Rattle.bench_edits.specs.Laws.{IsEdit}
+use Rattle.bench_edits.specs.Gone.{may_drop}
 use Rattle.bench_edits.specs.Touched.{touched_nodes}
 use Rattle.bench_texts.specs.declared.replacement.Replacement.{Replacement}
 use Rattle.bench_instance.specs.declared.stamped_texts.StampedTexts.{StampedTexts}
@@ -48,8 +49,8 @@ pub record AreSameTexts (t u : StampedTexts) : Type 0 where
   pub state : IsSamePartsState (stamped_state t) (stamped_state u)
 
 -- the edit is accepted, it puts or drops the test or the model that it names, there is room for
--- what it puts, its parts are made of that, and it is known which nodes it touches, and whether it
--- puts or drops a test or a model as a whole
+-- what it puts, its parts are made of that, and it is known which nodes it touches, whether some
+-- memo may have to go, and whether it puts or drops a test or a model as a whole
 pub record IsPrepared (t : StampedTexts) (e : code.Edit) (p : PreparedEdit) (u : StampedTexts)
     : Type 0 where
   pub applies : Applies (texts_of t.texts) false (edit_of e)
@@ -59,6 +60,7 @@ pub record IsPrepared (t : StampedTexts) (e : code.Edit) (p : PreparedEdit) (u :
   pub made : parts.ArePartsMade t.parts t.texts.tests.items t.texts.models.items p.texts.replacement
       p.parts
   pub touched : p.touched.items ≡ touched_nodes t.parts p.parts
+  pub drops : p.may_drop ≡ may_drop t.parts p.parts
   pub whole : p.texts.whole ≡ is_whole (edit_of e)
   pub same : AreSameTexts t u
 

@@ -7,7 +7,7 @@ ghost use Rattle.bench_texts.specs.Held.{texts_of};
 ghost use Rattle.bench_instance.specs.StampedTexts.{AreSoundTexts, stamped_net, verdict_by};
 ghost use Rattle.bench_instance.specs.Edited.{most_used, AreSameTexts, IsPrepared, HasRoomForEdit};
 
-use bench_edits::{EditedParts, commit_parts, prepare_parts, touched_nodes};
+use bench_edits::{EditedParts, commit_parts, may_drop, prepare_parts, touched_nodes};
 use bench_parts::{Parts, is_same, run};
 use bench_texts::{Edit, EditFault, Prepared, Texts as BenchTexts};
 use bench_values::{Given, NodeValue};
@@ -32,12 +32,13 @@ impl Drop for StampedTexts {
     }
 }
 
-/// An edit that was prepared: the text that it puts, the parts, and the nodes that it touches. No
-/// more than `used` nodes are used after it.
+/// An edit that was prepared: the text that it puts, the parts, the nodes that it touches, and
+/// whether some memo may have to go. No more than `used` nodes are used after it.
 pub struct PreparedEdit {
     texts: Prepared,
     parts: EditedParts,
     touched: Vec<Node>,
+    may_drop: bool,
     used: usize,
 }
 
@@ -47,6 +48,7 @@ impl Drop for PreparedEdit {
             texts: _,
             parts: _,
             touched: _,
+            may_drop: _,
             used: _,
         } = self;
     }
@@ -70,6 +72,7 @@ impl PreparedEdit {
             texts,
             parts,
             touched,
+            may_drop: _,
             used: _,
         } = self;
         (texts, parts, touched)
@@ -128,7 +131,7 @@ impl StampedTexts {
 
     // What an edit needs, made beside the texts and their parts, which stay the same. Errors: the
     // first reason to refuse the edit, or want of memory.
-    #[tactic(auto, using(crate::proofs::Preparing::same_state, crate::proofs::Preparing::is_unspent, crate::proofs::Preparing::applies_unspent, crate::proofs::Preparing::is_all_there, crate::proofs::Preparing::is_wanted, bench_edits::proofs::Touching::same_touched))]
+    #[tactic(auto, using(crate::proofs::Preparing::same_state, crate::proofs::Preparing::is_unspent, crate::proofs::Preparing::applies_unspent, crate::proofs::Preparing::is_all_there, crate::proofs::Preparing::is_wanted, bench_edits::proofs::Touching::same_touched, bench_edits::proofs::KeepAll::same_drop))]
     fn prepare_edit(
         &mut self,
         alloc: Global,
@@ -152,11 +155,13 @@ impl StampedTexts {
         ) {
             Ok(parts) => {
                 let used = most_used(&self.parts, &parts);
+                let may_drop = may_drop(&self.parts, &parts);
                 match touched_nodes(alloc, &self.parts, &parts) {
                     Ok(touched) => Ok(PreparedEdit {
                         texts,
                         parts,
                         touched,
+                        may_drop,
                         used,
                     }),
                     Err(error) => Err(EditFault::OutOfMemory(error)),
@@ -200,7 +205,7 @@ impl Texts for StampedTexts {
     ghost use Rattle.bench_instance.specs.StampedTexts.{AreSoundTexts, AreTextsSince, IsNodeThere, stamped_net};
     ghost use Rattle.bench_instance.specs.Edited.{IsEdited, IsPrepared, HasRoomForEdit, IsCommitted};
     ghost use Rattle.bench_instance.specs.Lemmas.Commits.{commits_edit};
-    ghost use Rattle.bench_instance.specs.Lemmas.Touched.{used_kept, users_read, edits_touch};
+    ghost use Rattle.bench_instance.specs.Lemmas.Touched.{used_kept, users_read, edits_touch, edits_keep};
     ghost use Rattle.bench_instance.specs.Lemmas.StampedLaws.{texts_are_sound, since_itself, since_edited, given_stays, valid_edited, used_there, used_closed, users_listed, ranks_fall, goes_on};
 
     ghost is_valid = { AreSoundTexts };
@@ -236,6 +241,8 @@ impl Texts for StampedTexts {
     ghost commits = { IsCommitted };
 
     ghost used_after = { λ p. p.used };
+
+    ghost may_drop = { λ p. p.may_drop };
 
     fn part_stamp(&self, part: u64, of: u64) -> u64 {
         self.parts.table.part_stamp(part, of)
@@ -320,6 +327,10 @@ impl Texts for StampedTexts {
         prepared.used
     }
 
+    fn may_drop(prepared: &PreparedEdit) -> bool {
+        prepared.may_drop
+    }
+
     fn refused_memory(_prepared: &PreparedEdit, error: AllocError) -> EditFault {
         EditFault::OutOfMemory(error)
     }
@@ -350,6 +361,8 @@ impl Texts for StampedTexts {
     ghost used_closed = { used_closed };
 
     ghost used_kept = { used_kept };
+
+    ghost keeps_all = { edits_keep };
 
     ghost users_are = { λ t _. users_listed t };
 

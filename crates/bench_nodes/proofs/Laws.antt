@@ -10,7 +10,7 @@ use Rattle.memo_core.specs.declared.keys.Key.TheVariants.{Part}
 use Rattle.memo_core.specs.declared.keys.Node.{Node}
 use Rattle.memo_core.specs.Graph.{input_nodes}
 use Rattle.memo_core.specs.Names.{kind_number, same_node}
-use Rattle.memo_core.specs.Lemmas.Equality.{same_node_exact, and_true}
+use Rattle.memo_core.specs.Lemmas.Equality.{same_node_exact}
 use Rattle.memo_core.specs.Tests.{has_node}
 use Rattle.memo_core.specs.Laws.{IsUsedClosed, AreUsers, AreReaders, Falls}
 use Rattle.memo_core.specs.Step.{Has}

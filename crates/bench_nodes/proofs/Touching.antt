@@ -1,5 +1,5 @@
 -- An edit touches no node but those of the slots that are named.
-use Rattle.std.proofs.Common.{◌≡◌, ◌⊎◌, inl, inr, ℕ, zero, suc, ◌+◌, ◌-◌, ◌<◌, ◌≤◌, nat_lt, Bool, true, false, ◌==◌, ◌&&◌, ◌||◌, List, [], ◌∷◌, ◌++◌, Option, Some, None, get_or, length, if◌then◌else◌, refl, ap, sym, ◌∙◌, subst, eq-eqb, eqb-true, arith}
+use Rattle.std.proofs.Common.{◌≡◌, ◌⊎◌, inl, inr, ℕ, ◌+◌, ◌-◌, ◌<◌, Bool, true, false, ◌==◌, ◌&&◌, List, [], ◌∷◌, ◌++◌, Option, Some, None, get_or, length, refl, ap, sym, ◌∙◌, subst, eq-eqb, eqb-true, arith}
 use Rattle.std.specs.List.{AllByRecursion as Each}
 use Rattle.std.proofs.lemmas.Bool.{cases_Bool, ltb-true, ne_eqb}
 use Rattle.std.proofs.lemmas.Option.{same_Some}

@@ -1,5 +1,5 @@
 -- The slots that an edit touches: whose use, inputs or stamps it changes. Read it after Nodes.
-use Rattle.std.specs.Prelude.{ℕ, ◌-◌, ◌==◌, ◌≤◌, ◌&&◌, ◌||◌, nat_lt, Bool, true, false, List, [], ◌∷◌, ◌++◌, Option, Some, None, if◌then◌else◌}
+use Rattle.std.specs.Prelude.{ℕ, ◌==◌, ◌&&◌, nat_lt, Bool, true, false, List, [], ◌∷◌, ◌++◌, Option, Some, None, if◌then◌else◌}
 use Rattle.memo_core.specs.declared.keys.Kind.{Kind}
 use Rattle.memo_core.specs.declared.keys.Kind.TheVariants.{Space, Group, Check, Verdict}
 use Rattle.memo_core.specs.declared.keys.Node.{Node}
@@ -13,11 +13,12 @@ use Rattle.bench_nodes.specs.declared.table.SlotKey.{SlotKey}
 use Rattle.bench_nodes.specs.declared.table.SlotKey.TheVariants as slots
 use Rattle.bench_nodes.specs.declared.table.TestRow.{TestRow}
 use Rattle.bench_nodes.specs.declared.touched.NewSlots.{NewSlots}
-use Rattle.bench_nodes.specs.Nodes.{is_slot, has_slot, slot_keys, item_stamp, fault_stamp, stamp_in}
+use Rattle.bench_nodes.specs.Nodes.{has_slot, slot_keys, item_stamp, fault_stamp, stamp_in}
 use Rattle.bench_nodes.specs.Places.{slot_name, node_named}
 
 -- ---- inputs
 
+-- two inputs have the same name
 abbrev pub same_slot_key : SlotKey → SlotKey → Bool
 same_slot_key (slots.Test p) (slots.Test q) = p == q
 same_slot_key (slots.Item m) (slots.Item n) = m == n
@@ -34,21 +35,23 @@ same_slot_keys (k ∷ ks) [] = false
 
 -- ---- an edit of models
 
--- the slots of a table, and the items and models with their stamps
+-- slots, and the items and models with their stamps
 pub record SlotRows : Type 0 where
   pub slots : List Slot
   pub items : List ItemRow
   pub models : List ModelRow
 
+-- before the edit: those of the table
 abbrev pub rows_of : NodeTable → SlotRows
 rows_of t =
     record { slots = t.slots.items; items = t.items.items; models = t.models.items }
 
--- likewise as the code holds the new ones
+-- after it: those that the edit makes
 abbrev pub new_rows : NewSlots → SlotRows
 new_rows n = record { slots = n.slots.now; items = n.items.now; models = n.models.now }
 
--- the item or fault that an input names has the same stamp in both
+-- the item or fault that an input names has the same stamp before the edit and after it; parts of a
+-- test have numbers from 2 on, and an edit of models leaves them as they are
 abbrev pub keeps_stamp : SlotRows → SlotRows → SlotKey → Bool
 keeps_stamp old new (slots.Test part) = nat_lt 1 part
 keeps_stamp old new (slots.Item number) = item_stamp old.items number == item_stamp new.items number
@@ -59,20 +62,20 @@ abbrev pub keep_stamps : SlotRows → SlotRows → List SlotKey → Bool
 keep_stamps old new [] = true
 keep_stamps old new (k ∷ ks) = keeps_stamp old new k && keep_stamps old new ks
 
--- a new slot was there with the same inputs, and these keep their stamps
+-- a slot was there before with the same inputs, and each keeps its stamp
 abbrev pub is_slot_kept : SlotRows → SlotRows → Slot → Bool
 is_slot_kept old new s =
     has_slot old.slots s.kind s.of && same_slot_keys (slot_keys old.slots s.kind s.of) s.inputs.items
     && keep_stamps old new s.inputs.items
 
--- those of these slots that are not kept
+-- the slots after the edit that are not kept
 abbrev pub changed_slots : SlotRows → SlotRows → List Slot → List SlotName
 changed_slots old new [] = []
 changed_slots old new (s ∷ ss) =
     if is_slot_kept old new s then changed_slots old new ss
     else slot_name s ∷ changed_slots old new ss
 
--- the slots that are not among the new ones
+-- the slots before the edit that are not there after it
 abbrev pub gone_slots : List Slot → List Slot → List SlotName
 gone_slots new [] = []
 gone_slots new (s ∷ ss) =
@@ -83,7 +86,7 @@ touched_slots old new = changed_slots old new new.slots ++ gone_slots new.slots 
 
 -- ---- an edit of a test
 
--- a part of the test that an input names has the same stamp in both rows
+-- the part of the test that an input names has the same stamp before the edit and after it
 abbrev pub keeps_part : TestRow → TestRow → SlotKey → Bool
 keeps_part a b (slots.Test part) = stamp_in a part == stamp_in b part
 keeps_part a b (slots.Item number) = true
@@ -100,19 +103,19 @@ same_stamps (x ∷ xs) (y ∷ ys) = (x == y) && same_stamps xs ys
 same_stamps [] (y ∷ ys) = false
 same_stamps (x ∷ xs) [] = false
 
--- initial values, locations and threads have the same stamps
+-- initial values, locations and threads have the same stamps before the edit and after it
 abbrev pub same_space : TestRow → TestRow → Bool
 same_space a b =
     (a.init == b.init) && (a.locations == b.locations) && same_stamps a.threads.items b.threads.items
 
--- the node of a slot of that kind with these inputs keeps its inputs and their stamps
+-- a node of that kind with these inputs keeps its inputs and their stamps
 abbrev pub keeps_inputs : TestRow → TestRow → Kind → List SlotKey → Bool
 keeps_inputs a b Space ks = same_space a b
 keeps_inputs a b Group ks = keep_parts a b ks
 keeps_inputs a b Check ks = keep_parts a b ks
 keeps_inputs a b Verdict ks = keep_parts a b ks
 
--- and the row was there
+-- so it is, and the test was there before
 abbrev pub is_node_kept : Option TestRow → TestRow → Kind → List SlotKey → Bool
 is_node_kept None b kind ks = false
 is_node_kept (Some a) b kind ks = keeps_inputs a b kind ks
@@ -131,11 +134,12 @@ abbrev pub nodes_named : ℕ → List SlotName → List Node
 nodes_named test [] = []
 nodes_named test (n ∷ ns) = node_named test n ∷ nodes_named test ns
 
--- and of each of these tests
+-- the nodes of these slots of each of these tests
 abbrev pub nodes_of_tests : List SlotName → List TestRow → List Node
 nodes_of_tests ns [] = []
 nodes_of_tests ns (t ∷ ts) = nodes_named t.id ns ++ nodes_of_tests ns ts
 
+-- the names of slots
 abbrev pub all_names : List Slot → List SlotName
 all_names [] = []
 all_names (s ∷ ss) = slot_name s ∷ all_names ss

@@ -5,6 +5,7 @@ pub mod BuiltSlots
 pub mod Equality
 pub mod Keeping
 pub mod Numbering
+mod KindsKept
 pub mod Rows
 pub mod Same
 pub mod SpaceParts

@@ -182,6 +182,22 @@ has_own p kinds.Verdict of = has_model p.table.models.items of
 abbrev pub keeps : Parts → Node → Bool
 keeps p n = has_test_row p.table.tests.items n.test && has_own p n.kind n.of
 
+-- the item of that number is among these, as a node of the kind that it is, if it is one
+abbrev pub keeps_kind : List ItemRow → List (Option Kind) → Option Kind → ℕ → Bool
+keeps_kind is ks None number = true
+keeps_kind is ks (Some kind) number = has_kind is ks kind number
+
+-- so it is for each of the first items among the second
+abbrev pub keep_kinds : List ItemRow → List (Option Kind) → List ItemRow → List (Option Kind) → Bool
+keep_kinds [] ks js ls = true
+keep_kinds (i ∷ is) [] js ls = true
+keep_kinds (i ∷ is) (k ∷ ks) js ls = keeps_kind js ls k i.number && keep_kinds is ks js ls
+
+-- each of the first models is among the second
+abbrev pub keep_models : List ModelRow → List ModelRow → Bool
+keep_models [] ns = true
+keep_models (m ∷ ms) ns = has_model ns m.id && keep_models ms ns
+
 -- ---- the same state, wherever it lies in memory
 
 pub record IsSamePartsState (s t : PartsState) : Type 0 where

@@ -5,13 +5,15 @@ use Rattle.memo_core.specs.declared.keys.Key.{Key}
 use Rattle.memo_core.specs.declared.keys.Input.{Input}
 use Rattle.memo_core.specs.declared.keys.Key.TheVariants.{Output}
 use Rattle.memo_core.specs.declared.keys.Output.{Output as Made}
-use Rattle.memo_core.specs.Graph.{Memo, Net, memo_of, output_at, stored_output, stamp_or_zero, named_values, put_memo, IsRestamped, AreAsNow}
+use Rattle.memo_core.specs.Graph.{Memo, Net, memo_of, output_at, stored_output, stamp_or_zero, named_values, put_memo, IsRestamped, AreAsNow, IsSettled}
 use Rattle.memo_core.specs.Right.{IsRight}
 use Rattle.memo_core.specs.Tests.{holds_value, stamped_output, stamped_outputs, changed_names, outputs_of}
 use Rattle.memo_core.specs.declared.claims.Finish.{Finish}
 use Rattle.memo_core.specs.declared.claims.Finish.TheVariants.{Unknown, Stale, Same, Stored}
 use Rattle.memo_engine.specs.Clauses.{TellsChangedNames}
-use Rattle.memo_core.specs.Step.{OpenClaim, MemoState, Return, open_claim, open_claims, return_of, IsCurrent, IsJudgementOf, Accepts, FinishesReturn, names_stamped}
+use Rattle.memo_core.specs.Step.{OpenClaim, MemoState, Return, open_claim, open_claims, without_claim, return_of, IsOut, IsCurrent, IsJudgementOf, Accepts, FinishesReturn, names_stamped}
+use Rattle.memo_core.specs.Run.{IsFreshFrom}
+use Rattle.memo_core.proofs.Progress.{accept_unsettled}
 use Rattle.memo_core.proofs.Counted.{as_now_present}
 use Rattle.memo_core.proofs.Headline.{at_low, store_right}
 use Rattle.std.specs.Ordering.{nat_cmp}
@@ -86,6 +88,46 @@ low_in {V} compute net ms taken node right o e x s v h =
     same_there None = refl
     same_there (Some m) = refl
 
+-- a claim that is found at a return's number is the one that the return answers
+pub claimed : {V G : Type 0} (net : Net G) (ms : List (Memo V)) (cs : List (ℕ × Claim)) (taken : ℕ)
+    (r : Return V G) (k : Claim) → Some k ≡ lookup (is_at (nat_cmp r.claim)) cs → (c : OpenClaim)
+    → IsOut (of_all net ms cs taken) r c → (c ≡ open_claim (r.claim, k)) × (k.node ≡ r.node)
+claimed net ms cs taken r k is c out =
+    let e : c ≡ open_claim (r.claim, k) = some_out c (open_claim (r.claim, k)) (sym out.found ∙ sym (found r.claim cs) ∙ ap (option_map (λ k. open_claim (r.claim, k))) (sym is)) in
+    (e, sym (ap (λ (c : OpenClaim). c.node) e) ∙ out.same)
+  where
+    some_out : (c d : OpenClaim) → Some c ≡ Some d → c ≡ d
+    some_out c d h = cc
+
+-- a return that is due is of a node that is not settled
+pub due_unsettled : {V G : Type 0} (same : V → V → Bool)
+    → ((a b : V) → (same a b ≡ true) ↔ (a ≡ b)) → (net : Net G) (ms : List (Memo V))
+    (cs : List (ℕ × Claim)) (taken claim : ℕ) (node : Node) (given : G) (keys : List Key)
+    (values : List V) (os : List (Made V))
+    → IsJudgementOf (of_all net ms cs taken) (return_of claim node given keys values os) Due
+    → IsFreshFrom ms (open_claims cs) → IsSettled net ms node → ⊥
+due_unsettled {V} {G} same exact net ms cs taken claim node given keys values os due fresh =
+    let old = memo_of node ms in
+    let outputs = stamped_outputs same (outputs_of old) (taken + 1) os in
+    let m : Memo V = record { node = node; inputs = (due.0).inputs; outputs = outputs } in
+    let new : MemoState V G = record {
+      net = net;
+      memos = put_memo m ms;
+      claims = without_claim claim (open_claims cs);
+      taken = taken + 1;
+    } in
+    accept_unsettled (of_all net ms cs taken) new (return_of claim node given keys values os) fresh
+    (record {
+      claim = due.0;
+      out = due.1;
+      current = due.2;
+      of_present = due.3;
+      outputs = outputs;
+      values = named_values-stamped_outputs same exact (outputs_of old) (taken + 1) os;
+      stamps = all_restamped same exact old (taken + 1) os;
+      after = refl;
+    })
+
 module _ {V G : Type 0} (same : V → V → Bool) (exact : (a b : V) → (same a b ≡ true) ↔ (a ≡ b))
     (compute : Node → List Input → List V → List (ℕ × V) → Type 0)
     (net : Net G) (ms : List (Memo V)) (cs : List (ℕ × Claim)) (taken : ℕ)
@@ -111,9 +153,10 @@ module _ {V G : Type 0} (same : V → V → Bool) (exact : (a b : V) → (same a
       (record { net = net; memos = after; claims = open_claims left; taken = taken + 1 }))
       × (changed_names same (outputs_of (memo_of node ms)) os ≡ names_stamped (taken + 1) a.outputs)
   accepted after left e l =
-      let c_is : due.0 ≡ open_claim (claim, k) = some_out due.0 (open_claim (claim, k)) (sym due.1.found ∙ sym (found claim cs) ∙ ap (option_map (λ k. open_claim (claim, k))) (sym is)) in
+      let by = claimed net ms cs taken (return_of claim node given keys values os) k is due.0 due.1 in
+      let c_is : due.0 ≡ open_claim (claim, k) = by.0 in
       let current : IsCurrent (of_all net ms cs taken) (open_claim (claim, k)) = rw c_is at due.2 in
-      let node_is : k.node ≡ node = sym (ap (λ (c : OpenClaim). c.node) c_is) ∙ due.1.same in
+      let node_is : k.node ≡ node = by.1 in
       let stamps = all_restamped same exact (memo_of node ms) (taken + 1) os in
       let values_are : named_values (stamped_outputs same (outputs_of (memo_of node ms)) (taken + 1) os) ≡ named_values os = named_values-stamped_outputs same exact (outputs_of (memo_of node ms)) (taken + 1) os in (
         rw e (store_right compute net ms taken
@@ -140,9 +183,6 @@ module _ {V G : Type 0} (same : V → V → Bool) (exact : (a b : V) → (same a
         names_are same exact (outputs_of (memo_of node ms)) (taken + 1)
             (low_in compute net ms taken node right (memo_of node ms) refl) os,
       )
-    where
-      some_out : (c d : OpenClaim) → Some c ≡ Some d → c ≡ d
-      some_out c d h = cc
 
 pub finishes : {V G : Type 0} (old new : MemoState V G) (r : Return V G) (names : List ℕ) (f : Finish)
     → TellsChangedNames r.node names f → (a : Accepts old r new)

@@ -6,3 +6,5 @@ pub mod WorkLemmas
 pub mod TokenLemmas
 pub mod MarkLemmas
 pub mod UnmarkLemmas
+pub mod KeepLemmas
+pub mod WaitingLemmas

@@ -1,4 +1,4 @@
-use Rattle.std.proofs.Common.{◌≡◌, ℕ, zero, suc, ◌<◌, ◌⊎◌, inl, inr, Bool, true, false, not, ◌&&◌, ◌++◌, List, [], ◌∷◌, Some, option_map, if◌then◌else◌, refl, ap, subst, sym, ◌∙◌, arith, slice_get, length, Option}
+use Rattle.std.proofs.Common.{◌≡◌, ℕ, zero, suc, ◌<◌, ◌⊎◌, inl, inr, Bool, true, false, not, ◌&&◌, ◌||◌, ◌++◌, List, [], ◌∷◌, Some, option_map, if◌then◌else◌, refl, ap, subst, sym, ◌∙◌, arith, slice_get, length, Option}
 use Rattle.std.specs.List.{AllByRecursion as Each}
 use Rattle.std.proofs.lemmas.Bool.{cases_Bool}
 use Rattle.memo_core.specs.declared.keys.Node.{Node}
@@ -7,17 +7,19 @@ use Rattle.memo_core.specs.Names.{same_node}
 use Rattle.memo_core.specs.Graph.{Memo, Net, memo_of, present_inputs, Matches, input_nodes, IsSettled, IsSettledBy}
 use Rattle.memo_core.specs.Views.{MemoEntry, as_memo, as_memos}
 use Rattle.memo_core.specs.declared.claims.Claim.{Claim}
-use Rattle.memo_core.specs.Tests.{is_match, all_nodes, is_out}
+use Rattle.memo_core.specs.Tests.{has_node, is_match, all_nodes, is_out}
 use Rattle.memo_core.specs.Graph.{put_memo}
 use Rattle.memo_core.specs.Step.{Has, IsWork}
 use Rattle.memo_core.specs.Marks.{mark_of, with_mark_at, unmarked_count, is_ready, IsMarkedTo, can_work, IsWorkAt, IsIdle, AreMarked, HasUnmarked}
 use Rattle.memo_core.proofs.Tests.{same_node_exact, same_node_refl}
 use Rattle.memo_core.proofs.Depth.{match_is, all_to, all_from}
-use Rattle.memo_core.proofs.JudgeLemmas.{of_all, true_false}
+use Rattle.memo_core.proofs.JudgeLemmas.{of_all, has_yes, has_is, true_false}
 use Rattle.memo_core.proofs.Theory.{put_other}
 use Rattle.memo_core.proofs.Headline.{settled_stays, same_present}
 use Rattle.memo_engine.proofs.WorkLemmas.{not_out_yes, not_out_is}
 use Rattle.memo_core.proofs.Progress.{one_depth}
+use Rattle.memo_engine.specs.declared.waiting.Waiting.{Waiting}
+use Rattle.memo_engine.specs.Waiting.{IsWholeTo}
 
 pub as_memos-with_mark_at : {V : Type 0} (n : Node) (ks : List (MemoEntry V))
     → as_memos (with_mark_at n ks) ≡ as_memos ks
@@ -74,6 +76,54 @@ ready_parts false true true h = (refl, refl, refl)
 
 ready_whole : (a b c : Bool) → a ≡ false → b ≡ true → c ≡ true → (not a && b && c) ≡ true
 ready_whole a b c p q r = rw (p, q, r) refl
+
+-- work, by its three tests
+work_parts : (a b c : Bool) → (not a && b && not c) ≡ true → (a ≡ false) × (b ≡ true) × (c ≡ false)
+work_parts true b c h = cc
+work_parts false false c h = cc
+work_parts false true true h = cc
+work_parts false true false h = (refl, refl, refl)
+
+module _ {V G : Type 0} (net : Net G) (ks : List (MemoEntry V)) (cs : List (ℕ × Claim)) (n : Node) where
+  pub work_there : can_work net ks cs n ≡ true
+      → (is_match net (as_memos ks) n ≡ false)
+      × Each (λ m. mark_of ks m ≡ true) (input_nodes (net.inputs n))
+      × (is_out n (present_inputs net (as_memos ks) (net.inputs n)) cs ≡ false)
+  work_there h =
+      let q = work_parts (is_match net (as_memos ks) n) (all_nodes (mark_of ks) (net.inputs n)) (is_out n (present_inputs net (as_memos ks) (net.inputs n)) cs) h in
+      (q.0, all_to (mark_of ks) (λ m. mark_of ks m ≡ true) (λ m t. t) (net.inputs n) q.1, q.2)
+
+  pub work_now : is_match net (as_memos ks) n ≡ false
+      → Each (λ m. mark_of ks m ≡ true) (input_nodes (net.inputs n))
+      → is_out n (present_inputs net (as_memos ks) (net.inputs n)) cs ≡ false
+      → can_work net ks cs n ≡ true
+  work_now u e o =
+      let all : all_nodes (mark_of ks) (net.inputs n) ≡ true = all_from (mark_of ks) (λ m. mark_of ks m ≡ true) (λ m t. t) (net.inputs n) e in
+      rw (u, all, o) refl
+
+-- the waiting nodes, by cases
+module _ {V G : Type 0} (net : Net G) (ks : List (MemoEntry V)) (cs : List (ℕ × Claim)) (w : Waiting)
+    (pending : List Node) where
+  abbrev pub Waits : Node → Type 0
+  Waits n = Has w.nodes.items n ⊎ Has pending n
+
+  pub waits : IsWholeTo net ks cs w pending → w.is_whole ≡ true → (n : Node) → Has net.used n
+      → can_work net ks cs n ≡ true → Waits n
+  waits whole is n used work = elim (cases_Bool (has_node n w.nodes.items)) [
+    | inl t ↦ inl (has_yes n w.nodes.items t)
+    | inr f ↦ inr (has_yes n pending (rw f at (whole is n used work)))
+  ]
+
+  pub whole_of : (w.is_whole ≡ true → (n : Node) → Has net.used n → can_work net ks cs n ≡ true
+      → Waits n) → IsWholeTo net ks cs w pending
+  whole_of go is n used work = elim (go is n used work) [
+    | inl there ↦ rw (has_is n w.nodes.items there) refl
+    | inr has ↦ rw (has_is n pending has) (or_true (has_node n w.nodes.items))
+  ]
+    where
+      or_true : (b : Bool) → (b || true) ≡ true
+      or_true true = refl
+      or_true false = refl
 
 module _ {V G : Type 0} (net : Net G) (ks : List (MemoEntry V)) (n : Node) where
   pub ready_there : is_ready net ks n ≡ true
@@ -167,6 +217,24 @@ module _ {V G : Type 0} (net : Net G) (ks : List (MemoEntry V)) (n : Node) where
       ];
     }
 
+    -- and so is what got work by the mark
+    pub marked_whole : (cs : List (ℕ × Claim)) (w : Waiting) → IsWholeTo net ks cs w (n ∷ rest)
+        → IsWholeTo net (with_mark_at n ks) cs w (users n ++ rest)
+    marked_whole cs w whole = whole_of net (with_mark_at n ks) cs w (users n ++ rest) (λ is u has h.
+        (let q = rw (as_memos-with_mark_at n ks) at (work_there net (with_mark_at n ks) cs u h) in
+        elim (split (input_nodes (net.inputs u)) q.1) [
+          | inl all ↦ elim
+              (waits net ks cs w (n ∷ rest) whole is u has (work_now net ks cs u q.0 all q.2)) [
+                | inl there ↦ inl there
+                | inr pends ↦ elim pends [
+                  | inl e ↦ absurd (true_false _ ((match_is net (as_memos ks) n).1 (ready_there now).1)
+                      (subst (λ (x : Node). is_match net (as_memos ks) x ≡ false) (sym e) q.0))
+                  | inr r ↦ inr (has_right (users n) rest u r)
+                ]
+              ]
+          | inr on ↦ inr (has_left (users n) rest u (covers u has on))
+        ]))
+
 -- where nothing is pending, the marks are what is settled
 module _ {V G : Type 0} (net : Net G) (ks : List (MemoEntry V))
     (without_claim : (n : Node) → Has net.used n → Each (Has net.used) (input_nodes (net.inputs n)))
@@ -187,54 +255,70 @@ module _ {V G : Type 0} (net : Net G) (ks : List (MemoEntry V))
       all go (m ∷ ns) h t = (go m h.0 t.0, all go ns h.1 t.1)
 
 -- an accepted return leaves its node pending, and nothing else
-pub put_pending : {V G : Type 0} (net : Net G) (ks next : List (MemoEntry V)) (m : Memo V)
-    → IsMarkedTo net ks [] → as_memos next ≡ put_memo m (as_memos ks)
-    → ((n : Node) → mark_of next n ≡ (if same_node n m.node then false else mark_of ks n))
-    → (IsSettled net (as_memos ks) m.node → ⊥) → IsMarkedTo net next (m.node ∷ [])
-put_pending {V} net ks next m p is flags unsettled = record {
-  used = λ n h. p.used n (sym (other n (not_it n h)) ∙ h);
-  sound = λ n h. elim (cases_Bool (same_node n m.node)) [
-    | inl t ↦ absurd (true_false _ h (flags n ∙ rw t refl))
-    | inr f ↦ (let s = p.sound n (sym (other n f) ∙ h) in
-        rw is (s.0, settled_stays net (as_memos ks) m unsettled s.0 n s.1))
-  ];
-  left = λ n has f match e. elim (cases_Bool (same_node n m.node)) [
-    | inl t ↦ inl (sym (same_node_exact n m.node t))
-    | inr g ↦ absurd (p.left n has (sym (other n g) ∙ f) (matched n g (rw is at match) e)
-        (each_old (input_nodes (net.inputs n)) e))
-  ];
-}
-  where
-    other : (n : Node) → same_node n m.node ≡ false → mark_of next n ≡ mark_of ks n
-    other n f = flags n ∙ rw f refl
+module _ {V G : Type 0} (net : Net G) (ks next : List (MemoEntry V)) (m : Memo V)
+    (p : IsMarkedTo net ks []) (is : as_memos next ≡ put_memo m (as_memos ks))
+    (flags : (n : Node) → mark_of next n ≡ (if same_node n m.node then false else mark_of ks n))
+    (unsettled : IsSettled net (as_memos ks) m.node → ⊥) where
+  other : (n : Node) → same_node n m.node ≡ false → mark_of next n ≡ mark_of ks n
+  other n f = flags n ∙ rw f refl
 
-    not_it : (n : Node) → mark_of next n ≡ true → same_node n m.node ≡ false
-    not_it n h =
-        elim (cases_Bool (same_node n m.node)) [
-          | inl t ↦ absurd
-              (true_false _ h (flags n ∙ rw t refl))
-          | inr g ↦ g
-        ]
+  not_it : (n : Node) → mark_of next n ≡ true → same_node n m.node ≡ false
+  not_it n h =
+      elim (cases_Bool (same_node n m.node)) [
+        | inl t ↦ absurd
+            (true_false _ h (flags n ∙ rw t refl))
+        | inr g ↦ g
+      ]
 
-    each_old : (ns : List Node) → Each (λ m. mark_of next m ≡ true) ns
-        → Each (λ m. mark_of ks m ≡ true) ns
-    each_old [] e = tt
-    each_old (n ∷ ns) e = (sym (other n (not_it n e.0)) ∙ e.0, each_old ns e.1)
+  each_old : (ns : List Node) → Each (λ m. mark_of next m ≡ true) ns
+      → Each (λ m. mark_of ks m ≡ true) ns
+  each_old [] e = tt
+  each_old (n ∷ ns) e = (sym (other n (not_it n e.0)) ∙ e.0, each_old ns e.1)
 
-    all_settled : (ns : List Node) → Each (λ m. mark_of next m ≡ true) ns
-        → Each (IsSettled net (as_memos ks)) ns
-    all_settled [] e = tt
-    all_settled (n ∷ ns) e = (p.sound n (sym (other n (not_it n e.0)) ∙ e.0), all_settled ns e.1)
+  all_settled : (ns : List Node) → Each (λ m. mark_of next m ≡ true) ns
+      → Each (IsSettled net (as_memos ks)) ns
+  all_settled [] e = tt
+  all_settled (n ∷ ns) e = (p.sound n (sym (other n (not_it n e.0)) ∙ e.0), all_settled ns e.1)
 
-    matched : (n : Node) → same_node n m.node ≡ false → Matches net (put_memo m (as_memos ks)) n
-        → Each (λ m. mark_of next m ≡ true) (input_nodes (net.inputs n))
-        → Matches net (as_memos ks) n
-    matched n g match e =
-        let deep = one_depth net (as_memos ks) (input_nodes (net.inputs n)) (all_settled (input_nodes (net.inputs n)) e) in
-        rw (
-          put_other m n (as_memos ks) g,
-          same_present net (as_memos ks) m unsettled deep.0 (net.inputs n) deep.1,
-        ) at match
+  -- another node with marked inputs has the memo and the present inputs that it had
+  memo_same : (n : Node) → same_node n m.node ≡ false
+      → memo_of n (as_memos next) ≡ memo_of n (as_memos ks)
+  memo_same n g = rw is (put_other m n (as_memos ks) g)
+
+  inputs_same : (n : Node) → Each (λ m. mark_of next m ≡ true) (input_nodes (net.inputs n))
+      → present_inputs net (as_memos next) (net.inputs n)
+      ≡ present_inputs net (as_memos ks) (net.inputs n)
+  inputs_same n e =
+      let deep = one_depth net (as_memos ks) (input_nodes (net.inputs n)) (all_settled (input_nodes (net.inputs n)) e) in
+      rw is (same_present net (as_memos ks) m unsettled deep.0 (net.inputs n) deep.1)
+
+  pub put_pending : IsMarkedTo net next (m.node ∷ [])
+  put_pending = record {
+    used = λ n h. p.used n (sym (other n (not_it n h)) ∙ h);
+    sound = λ n h. elim (cases_Bool (same_node n m.node)) [
+      | inl t ↦ absurd (true_false _ h (flags n ∙ rw t refl))
+      | inr f ↦ (let s = p.sound n (sym (other n f) ∙ h) in
+          rw is (s.0, settled_stays net (as_memos ks) m unsettled s.0 n s.1))
+    ];
+    left = λ n has f match e. elim (cases_Bool (same_node n m.node)) [
+      | inl t ↦ inl (sym (same_node_exact n m.node t))
+      | inr g ↦ absurd (p.left n has (sym (other n g) ∙ f)
+          (rw (memo_same n g, inputs_same n e) at match)
+          (each_old (input_nodes (net.inputs n)) e))
+    ];
+  }
+
+  -- and no other node gets work
+  pub put_whole : (cs : List (ℕ × Claim)) (w : Waiting) → IsWholeTo net ks cs w (m.node ∷ [])
+      → IsWholeTo net next cs w (m.node ∷ [])
+  put_whole cs w whole = whole_of net next cs w (m.node ∷ []) (λ is n has work.
+      elim (cases_Bool (same_node n m.node)) [
+        | inl t ↦ inr (inl (sym (same_node_exact n m.node t)))
+        | inr g ↦ (let q = work_there net next cs n work in
+            waits net ks cs w (m.node ∷ []) whole is n has
+            (work_now net ks cs n (rw (memo_same n g, inputs_same n q.1) at q.0)
+            (each_old (input_nodes (net.inputs n)) q.1) (rw (inputs_same n q.1) at q.2)))
+      ])
 
 -- what has an index is there, and what is there has one
 pub has_at : (ns : List Node) (i : ℕ) (n : Node) → slice_get ns i ≡ Some n → Has ns n
@@ -245,7 +329,7 @@ has_at (m ∷ ns) zero n h = inl (some_one m n h)
     some_one m n h = cc
 has_at (m ∷ ns) (suc i) n h = inr (has_at ns i n h)
 
-at_has : (ns : List Node) (n : Node) → Has ns n
+pub at_has : (ns : List Node) (n : Node) → Has ns n
     → (i : ℕ) × (i < length ns) × (slice_get ns i ≡ Some n)
 at_has [] n h = absurd h
 at_has (m ∷ ns) n h = elim h [
@@ -278,23 +362,14 @@ module _ {V G : Type 0} (net : Net G) (ks : List (MemoEntry V))
   to_marked (m ∷ ns) h e =
       (settled_marked net ks without_claim p (e.0).0 m h.0 (e.0).1, to_marked ns h.1 e.1)
 
-  work_parts : (a b c : Bool) → (not a && b && not c) ≡ true
-      → (a ≡ false) × (b ≡ true) × (c ≡ false)
-  work_parts true b c h = cc
-  work_parts false false c h = cc
-  work_parts false true true h = cc
-  work_parts false true false h = (refl, refl, refl)
-
   pub is_work_of : (n : Node) → Has net.used n → can_work net ks cs n ≡ true
       → IsWork (of_all net (as_memos ks) cs taken) n
   is_work_of n has h =
-      let q = work_parts (is_match net (as_memos ks) n) (all_nodes (mark_of ks) (net.inputs n)) (is_out n (present_inputs net (as_memos ks) (net.inputs n)) cs) h in
+      let q = work_there net ks cs n h in
       record {
         used = has;
         unmatched = λ m. true_false _ ((match_is net (as_memos ks) n).1 m) q.0;
-        inputs_settled =
-            to_settled (input_nodes (net.inputs n)) (all_to (mark_of ks) (λ m. mark_of ks m ≡ true)
-            (λ m t. t) (net.inputs n) q.1);
+        inputs_settled = to_settled (input_nodes (net.inputs n)) q.1;
         not_out = not_out_yes n (present_inputs net (as_memos ks) (net.inputs n)) cs q.2;
       }
 
@@ -302,8 +377,8 @@ module _ {V G : Type 0} (net : Net G) (ks : List (MemoEntry V))
       → can_work net ks cs n ≡ true
   can_work_of n w =
       let u : is_match net (as_memos ks) n ≡ false = elim (cases_Bool (is_match net (as_memos ks) n)) [ inl t ↦ absurd (w.unmatched ((match_is net (as_memos ks) n).0 t)) | inr f ↦ f ] in
-      let e : all_nodes (mark_of ks) (net.inputs n) ≡ true = all_from (mark_of ks) (λ m. mark_of ks m ≡ true) (λ m t. t) (net.inputs n) (to_marked (input_nodes (net.inputs n)) (without_claim n w.used) w.inputs_settled) in
-      rw (u, e, not_out_is n (present_inputs net (as_memos ks) (net.inputs n)) cs w.not_out) refl
+      work_now net ks cs n u (to_marked (input_nodes (net.inputs n)) (without_claim n w.used)
+      w.inputs_settled) (not_out_is n (present_inputs net (as_memos ks) (net.inputs n)) cs w.not_out)
 
   pub marked_none : IsIdle net ks cs 0 (length net.used) → (n : Node)
       → IsWork (of_all net (as_memos ks) cs taken) n → ⊥
@@ -331,8 +406,9 @@ module _ {V G : Type 0} (net : Net G) (ks : List (MemoEntry V))
 
 -- a marked node has no work
 pub marked_idle : {V G : Type 0} (net : Net G) (ks : List (MemoEntry V)) (cs : List (ℕ × Claim))
-    (n : Node) → IsMarkedTo net ks [] → mark_of ks n ≡ true → can_work net ks cs n ≡ false
-marked_idle {V} net ks cs n p h = let s = p.sound n h in go s.0 s.1
+    (n : Node) (pending : List Node) → IsMarkedTo net ks pending → mark_of ks n ≡ true
+    → can_work net ks cs n ≡ false
+marked_idle {V} net ks cs n pending p h = let s = p.sound n h in go s.0 s.1
   where
     go : (d : ℕ) → IsSettledBy d net (as_memos ks) n → can_work net ks cs n ≡ false
     go zero s = absurd s

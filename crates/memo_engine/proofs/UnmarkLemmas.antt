@@ -1,5 +1,5 @@
 -- Marks that an edit takes away, and what is right once they are gone.
-use Rattle.std.proofs.Common.{◌≡◌, ℕ, zero, suc, ◌+◌, ◌<◌, ◌⊎◌, inl, inr, Bool, true, false, ◌&&◌, ◌++◌, filter, List, [], ◌∷◌, Option, Some, None, option_map, if◌then◌else◌, refl, ap, subst, sym, ◌∙◌, arith}
+use Rattle.std.proofs.Common.{◌≡◌, ℕ, zero, suc, ◌<◌, ◌⊎◌, inl, inr, Bool, true, false, ◌&&◌, ◌++◌, filter, List, [], ◌∷◌, Some, None, if◌then◌else◌, refl, ap, subst, sym, ◌∙◌, arith}
 use Rattle.std.specs.List.{AllByRecursion as Each}
 use Rattle.std.specs.Map.{lookup, set_value}
 use Rattle.std.proofs.lemmas.Bool.{cases_Bool}
@@ -8,10 +8,10 @@ use Rattle.value_store.specs.Tokens.{TokenShown}
 use Rattle.memo_core.specs.declared.keys.Node.{Node}
 use Rattle.memo_core.specs.declared.keys.Key.{Key}
 use Rattle.memo_core.specs.declared.keys.Key.TheVariants.{Part, Output}
-use Rattle.memo_core.specs.declared.keys.Input.{Input}
 use Rattle.memo_core.specs.declared.table.Kept.{Kept}
+use Rattle.memo_core.specs.declared.claims.Claim.{Claim}
 use Rattle.memo_core.specs.Names.{same_node}
-use Rattle.memo_core.specs.Graph.{Memo, Net, memo_of, at, stamp_or_zero, stored_output, present_inputs, Matches, input_nodes, IsSettled, IsSettledBy}
+use Rattle.memo_core.specs.Graph.{Memo, Net, memo_of, present_inputs, Matches, input_nodes, IsSettled, IsSettledBy}
 use Rattle.memo_core.specs.Right.{IsSamePart}
 use Rattle.memo_core.specs.Views.{MemoEntry, as_memo, as_memos}
 use Rattle.memo_core.specs.Step.{Has}
@@ -21,8 +21,10 @@ use Rattle.memo_core.specs.Marks.{mark_of, with_mark, IsMarkedTo}
 use Rattle.memo_core.specs.Lemmas.Equality.{same_node_exact, same_node_refl}
 use Rattle.memo_core.proofs.JudgeLemmas.{true_false, has_is}
 use Rattle.memo_core.proofs.Theory.{keep_found}
-use Rattle.memo_engine.specs.Unmarked.{without_mark_at, marked_count, HasMarkedInputs, StandsOnMarks, IsClosedTo, IsMarkedBut, HasNoNewMark, LosesMarks}
-use Rattle.memo_engine.proofs.MarkLemmas.{has_left, has_right, settled_marked}
+use Rattle.memo_engine.specs.Unmarked.{without_mark_at, marked_count, HasMarkedInputs, IsClosedTo, IsMarkedBut, HasNoNewMark, LosesMarks}
+use Rattle.memo_engine.specs.declared.waiting.Waiting.{Waiting}
+use Rattle.memo_engine.specs.Waiting.{IsWholeTo}
+use Rattle.memo_engine.proofs.MarkLemmas.{has_left, has_right, settled_marked, work_there, work_now, waits, whole_of}
 
 -- ---- a mark that is taken away
 
@@ -348,3 +350,28 @@ module _ {V G : Type 0} (old new : Net G) (keep : Node → Bool) (before after :
       ]
     ];
   }
+
+  -- an untouched node that has work had it
+  pub whole_but : (cs : List (ℕ × Claim)) (w : Waiting) → IsWholeTo old before cs w []
+      → IsWholeTo new after cs w touched
+  whole_but cs w whole = whole_of new after cs w touched (λ is n used work.
+      elim (only n (inr used)) [
+        | inl has ↦ inr has
+        | inr alike ↦ (let q = work_there new after cs n work in
+            elim (waits old before cs w [] whole is n alike.before (work_now old before cs n
+            (rw (memo_is n alike.after, present_alike n alike) at q.0)
+            (rw alike.inputs at (each_before (input_nodes (new.inputs n)) q.1))
+            (rw (present_alike n alike) at q.2))) [
+              | inl there ↦ inl there
+              | inr none ↦ absurd none
+            ])
+      ])
+
+-- what has work with fewer marks had it
+pub fewer_whole : {V G : Type 0} (net : Net G) (old new : List (MemoEntry V)) (cs : List (ℕ × Claim))
+    (w : Waiting) (pending : List Node) → as_memos new ≡ as_memos old → HasNoNewMark old new
+    → IsWholeTo net old cs w pending → IsWholeTo net new cs w pending
+fewer_whole net old new cs w pending same fewer whole h n used work =
+    let q = rw same at (work_there net new cs n work) in
+    whole h n used
+    (work_now net old cs n q.0 (each_old old new fewer (input_nodes (net.inputs n)) q.1) q.2)

@@ -1,19 +1,23 @@
 //! The calls that change a graph, returns aside, and what it shows.
 
-ghost use Rattle.std.specs.Prelude.{[], filter, ◌≡◌, ◌+◌, ◌<◌, ◌≤◌, leb, ℕ, IsTrue, IsFalse, IfOk, OnOk, OnErr, IfErr, IfSome, IfNone, Err, Some};
+ghost use Rattle.std.specs.Prelude.{[], List, filter, false, ◌≡◌, ◌+◌, ◌<◌, ◌≤◌, leb, ℕ, IsTrue, IsFalse, IfOk, OnOk, OnErr, IfErr, IfSome, IfNone, Err, Some};
 ghost use Rattle.indexmap.specs.IndexMap.{spare};
+ghost use Rattle.memo_core.specs.declared.claims.Claim.{Claim as OutClaim};
 ghost use Rattle.memo_core.specs.declared.keys.Node.{Node};
 ghost use Rattle.memo_core.specs.Laws.{TouchesOnly};
 ghost use Rattle.memo_core.specs.Marks.{IsMarkedTo};
 ghost use Rattle.memo_core.specs.Views.{as_memos, output_tokens};
 ghost use Rattle.memo_core.specs.Step.{Has, Loses, Renews, Edits, IsWork};
 ghost use Rattle.memo_engine.specs.Clauses.{state_of, HasRightMemos, HasFreshClaims, IsMarked, GivesJob, IsSettledIn, IsRefused, ShowsStored, ShowsSolved};
+ghost use Rattle.memo_engine.specs.Kept.{AreKept};
 ghost use Rattle.memo_engine.specs.Told.{IsEditTold, OnNone};
+ghost use Rattle.memo_engine.specs.Waiting.{IsWholeTo};
 
 use crate::graph::{Graph, LAST};
 use crate::job::{Job, job_of};
-use crate::marks::{are_used_marked, is_marked, note_lost, settle_touched};
-use crate::stores::{drop_gone, open_claim};
+use crate::marks::{are_used_marked, is_marked, settle_touched};
+use crate::stores::{drop_left, open_claim};
+use crate::waiting::Waiting;
 use crate::witness::{Nobody, Witness};
 use crate::work::{current_inputs, find_node};
 use indexmap::IndexMap;
@@ -31,12 +35,14 @@ use value_store::{Store, StoreName, Token};
 fn put_in_place<K: StoreName, T: Texts>(
     texts: &mut T,
     memos: &mut Memos<Token<K, T::Value>>,
-    waiting: &mut Vec<Node>,
+    waiting: &mut Waiting,
     prepared: T::Prepared,
     number: u64,
 )
     requires ready { T.is_ready texts.old prepared }
     requires later { T.last texts.old < number }
+    requires kept { T.may_drop prepared ≡ false → (t : T) → T.commits texts.old prepared number t
+        → AreKept (T.keeps t) memos.old.entries }
     ensures commits { T.commits texts.old prepared number texts.new }
     ensures last { T.last texts.new ≤ number }
     ensures memos { as_memos memos.new.entries
@@ -45,13 +51,17 @@ fn put_in_place<K: StoreName, T: Texts>(
         → TouchesOnly (T.net texts.old) (T.net texts.new) (T.touched texts.new)
         → IsMarkedTo (T.net texts.old) memos.old.entries []
         → IsMarkedTo (T.net texts.new) memos.new.entries [] }
+    ensures whole { T.is_valid texts.old → T.is_valid texts.new
+        → TouchesOnly (T.net texts.old) (T.net texts.new) (T.touched texts.new)
+        → (claims : List (ℕ × OutClaim)) → IsMarkedTo (T.net texts.old) memos.old.entries []
+        → IsWholeTo (T.net texts.old) memos.old.entries claims waiting.old []
+        → IsWholeTo (T.net texts.new) memos.new.entries claims waiting.new [] }
     ensures room { spare memos.old ≤ spare memos.new }
 {
+    let drops = T::may_drop(&prepared);
     texts.commit(prepared, number);
-    drop_gone(texts, memos);
-    if waiting.len() > texts.used_count() {
-        waiting.clear();
-    }
+    drop_left(texts, memos, drops);
+    waiting.shorten(texts.used_count());
     settle_touched(texts, memos, waiting);
 }
 
@@ -74,7 +84,7 @@ impl<K: StoreName, T: Texts> Graph<K, T> {
             memos: IndexMap::new(alloc),
             claims: BTreeMap::new(alloc),
             taken: 0,
-            waiting: Vec::new(alloc),
+            waiting: Waiting::new(alloc),
             next: 0,
             store,
         }
@@ -222,9 +232,13 @@ impl<K: StoreName, T: Texts> Graph<K, T> {
         ensures taken { self.new.taken ≡ self.old.taken }
         ensures step { Loses (state_of self.old) claim result (state_of self.new) }
     {
-        let closed = self.claims.remove(&claim);
-        note_lost(&mut self.waiting, &closed);
-        closed.is_some()
+        match self.claims.remove(&claim) {
+            Some(closed) => {
+                self.waiting.note(closed.node);
+                true
+            }
+            None => false,
+        }
     }
 
     /// Empties every memo and closes every claim.
@@ -238,7 +252,7 @@ impl<K: StoreName, T: Texts> Graph<K, T> {
         ensures texts { self.new.texts ≡ self.old.texts }
         ensures step { Renews (state_of self.old) (state_of self.new) }
     {
-        self.waiting.clear();
+        self.waiting.forget();
         self.claims.clear();
         self.memos.clear();
     }

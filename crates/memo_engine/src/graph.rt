@@ -1,10 +1,12 @@
 //! Texts with what is kept of computations on them.
 
-ghost use Rattle.std.specs.Prelude.{◌+◌, ◌<◌, ◌≤◌, ◌^◌, length};
+ghost use Rattle.std.specs.Prelude.{[], ◌+◌, ◌<◌, ◌≤◌, ◌^◌, length};
 ghost use Rattle.indexmap.specs.IndexMap.{spare};
+ghost use Rattle.memo_engine.specs.Kept.{AreKept};
+ghost use Rattle.memo_engine.specs.Waiting.{IsWholeTo};
 
+use crate::waiting::Waiting;
 use memo_core::claims::OpenClaims;
-use memo_core::keys::Node;
 use memo_core::table::Memos;
 use memo_core::texts::Texts;
 use std::alloc::Global;
@@ -25,16 +27,17 @@ pub struct Graph<K: StoreName, T: Texts> {
     pub claims: OpenClaims,
     /// How many numbers are taken.
     pub taken: u64,
-    /// Nodes that may have work, of which a claim looks at the last first. A node that has work
-    /// need not be among them.
-    pub(crate) waiting: Vec<Node>,
-    /// Where among the used nodes the search for work goes on, once none of these has any.
+    /// Nodes that may have work. An edit adds those that it reaches.
+    pub(crate) waiting: Waiting,
+    /// Where among the used nodes the search for work goes on, once no waiting node has any.
     pub(crate) next: usize,
     pub(crate) store: Arc<Store<K, T::Value>, Global>,
     ghost room: { length claims.entries ≤ spare memos },
     ghost small: { length claims.entries < 2 ^ 63 },
     ghost few: { taken + length claims.entries < 2 ^ 64 },
     ghost last: { T.last texts ≤ taken },
+    ghost kept: { AreKept (T.keeps texts) memos.entries },
+    ghost whole: { IsWholeTo (T.net texts) memos.entries claims.entries waiting [] },
 }
 
 impl<K: StoreName, T: Texts> Drop for Graph<K, T> {

@@ -9,5 +9,6 @@ pub mod job;
 pub mod marks;
 mod returns;
 mod stores;
+mod waiting;
 pub mod witness;
 mod work;

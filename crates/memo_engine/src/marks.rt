@@ -1,15 +1,17 @@
 //! Marks: which nodes are settled, kept up by following users. It takes no memory.
 
-ghost use Rattle.std.specs.Prelude.{◌≡◌, IsTrue, IsFalse, length, ◌≤◌, ◌∷◌, [], List, true, false};
+ghost use Rattle.std.specs.Prelude.{◌≡◌, IsTrue, IsFalse, length, ◌≤◌, ◌∷◌, [], List, true, false, ℕ};
 ghost use Rattle.indexmap.specs.IndexMap.{spare};
+ghost use Rattle.memo_core.specs.declared.claims.Claim.{Claim};
 ghost use Rattle.memo_core.specs.declared.keys.Node.{Node as NodeRecord};
 ghost use Rattle.memo_core.specs.Views.{as_memos};
 ghost use Rattle.memo_core.specs.Tests.{all_nodes};
 ghost use Rattle.memo_core.specs.Marks.{mark_of, with_mark_at, unmarked_count, is_ready, IsMarkedTo, AreMarked, HasUnmarked};
 ghost use Rattle.memo_core.specs.Step.{Has};
 ghost use Rattle.memo_engine.specs.Unmarked.{without_mark_at, marked_count, IsClosedTo, IsMarkedBut, HasNoNewMark, LosesMarks};
+ghost use Rattle.memo_engine.specs.Waiting.{IsWholeTo};
 
-use memo_core::claims::Claim;
+use crate::waiting::Waiting;
 use memo_core::keys::{Key, Node};
 use memo_core::table::{Memos, find, matches};
 use memo_core::texts::Texts;
@@ -47,31 +49,19 @@ pub fn inputs_marked<K: StoreName, T: Texts>(
     true
 }
 
-/// Notes a node that may have work, where there is room. It takes no memory.
-fn note(waiting: &mut Vec<Node>, node: Node) {
-    if waiting.len() < waiting.capacity() {
-        match waiting.push(node) {
-            Ok(()) => {}
-            Err(_) => unreachable!(),
-        }
-    }
-}
-
-/// Notes the node of a claim that was closed without a return, if one was.
-pub fn note_lost(waiting: &mut Vec<Node>, closed: &Option<Claim>) {
-    if let Some(claim) = closed {
-        note(waiting, claim.node);
-    }
-}
-
 /// Whether a node is to be marked now. One that has to be computed first, and can be, is noted.
 fn can_mark<K: StoreName, T: Texts>(
     texts: &T,
     memos: &Memos<Token<K, T::Value>>,
-    waiting: &mut Vec<Node>,
+    waiting: &mut Waiting,
     node: Node,
 ) -> bool
-    ensures { result ≡ is_ready (T.net texts.now) memos.now.entries node }
+    ensures ready { result ≡ is_ready (T.net texts.now) memos.now.entries node }
+    ensures whole { (claims : List (ℕ × Claim)) (rest : List NodeRecord) → IsFalse result
+        → IsMarkedTo (T.net texts.now) memos.now.entries (node ∷ rest)
+        → IsWholeTo (T.net texts.now) memos.now.entries claims waiting.old (node ∷ rest)
+        → IsWholeTo (T.net texts.now) memos.now.entries claims waiting.new rest }
+    ensures same { IsTrue result → waiting.new ≡ waiting.old }
 {
     if is_marked(memos, node) {
         return false;
@@ -79,11 +69,11 @@ fn can_mark<K: StoreName, T: Texts>(
     if !inputs_marked(texts, memos, node) {
         return false;
     }
-    let is_matched = matches(texts, memos, node);
-    if !is_matched {
-        note(waiting, node);
+    if matches(texts, memos, node) {
+        return true;
     }
-    is_matched
+    waiting.note(node);
+    false
 }
 
 /// Marks a node's memo.
@@ -98,10 +88,10 @@ fn mark<K: StoreName, V: Drop>(memos: &mut Memos<Token<K, V>>, node: Node)
 
 /// Marks a node where it is to be marked, and then what stands on it; notes what has to be computed
 /// next. It takes no memory.
-pub fn settle<K: StoreName, T: Texts>(
+pub(crate) fn settle<K: StoreName, T: Texts>(
     texts: &T,
     memos: &mut Memos<Token<K, T::Value>>,
-    waiting: &mut Vec<Node>,
+    waiting: &mut Waiting,
     node: Node,
 )
     ensures memos { as_memos memos.new.entries ≡ as_memos memos.old.entries }
@@ -110,6 +100,11 @@ pub fn settle<K: StoreName, T: Texts>(
         → (rest : List NodeRecord)
         → IsMarkedTo (T.net texts.now) memos.old.entries (node ∷ rest)
         → IsMarkedTo (T.net texts.now) memos.new.entries rest }
+    ensures whole { T.is_valid texts.now → Has (T.net texts.now).used node
+        → (claims : List (ℕ × Claim)) (rest : List NodeRecord)
+        → IsMarkedTo (T.net texts.now) memos.old.entries (node ∷ rest)
+        → IsWholeTo (T.net texts.now) memos.old.entries claims waiting.old (node ∷ rest)
+        → IsWholeTo (T.net texts.now) memos.new.entries claims waiting.new rest }
     ensures room { spare memos.new ≡ spare memos.old }
 {
     if !can_mark(texts, memos, waiting, node) {
@@ -169,6 +164,7 @@ pub fn unsettle<K: StoreName, T: Texts>(
 /// memory.
 fn unsettle_touched<K: StoreName, T: Texts>(texts: &T, memos: &mut Memos<Token<K, T::Value>>)
     ensures memos { as_memos memos.new.entries ≡ as_memos memos.old.entries }
+    ensures old { HasNoNewMark memos.old.entries memos.new.entries }
     ensures marks { T.is_valid texts.now
         → IsMarkedBut (T.net texts.now) memos.old.entries (T.touched texts.now)
         → IsMarkedTo (T.net texts.now) memos.new.entries (T.touched texts.now) }
@@ -185,12 +181,16 @@ fn unsettle_touched<K: StoreName, T: Texts>(texts: &T, memos: &mut Memos<Token<K
 fn mark_touched<K: StoreName, T: Texts>(
     texts: &T,
     memos: &mut Memos<Token<K, T::Value>>,
-    waiting: &mut Vec<Node>,
+    waiting: &mut Waiting,
 )
     ensures memos { as_memos memos.new.entries ≡ as_memos memos.old.entries }
     ensures marks { T.is_valid texts.now
         → IsMarkedTo (T.net texts.now) memos.old.entries (T.touched texts.now)
         → IsMarkedTo (T.net texts.now) memos.new.entries [] }
+    ensures whole { T.is_valid texts.now → (claims : List (ℕ × Claim))
+        → IsMarkedTo (T.net texts.now) memos.old.entries (T.touched texts.now)
+        → IsWholeTo (T.net texts.now) memos.old.entries claims waiting.old (T.touched texts.now)
+        → IsWholeTo (T.net texts.now) memos.new.entries claims waiting.new [] }
     ensures room { spare memos.new ≡ spare memos.old }
 {
     let count = texts.touched_count();
@@ -204,15 +204,19 @@ fn mark_touched<K: StoreName, T: Texts>(
 
 /// After an edit: takes away the marks that it made wrong, marks what is settled, and notes what
 /// has to be computed next. It takes no memory.
-pub fn settle_touched<K: StoreName, T: Texts>(
+pub(crate) fn settle_touched<K: StoreName, T: Texts>(
     texts: &T,
     memos: &mut Memos<Token<K, T::Value>>,
-    waiting: &mut Vec<Node>,
+    waiting: &mut Waiting,
 )
     ensures memos { as_memos memos.new.entries ≡ as_memos memos.old.entries }
     ensures marks { T.is_valid texts.now
         → IsMarkedBut (T.net texts.now) memos.old.entries (T.touched texts.now)
         → IsMarkedTo (T.net texts.now) memos.new.entries [] }
+    ensures whole { T.is_valid texts.now → (claims : List (ℕ × Claim))
+        → IsMarkedBut (T.net texts.now) memos.old.entries (T.touched texts.now)
+        → IsWholeTo (T.net texts.now) memos.old.entries claims waiting.old (T.touched texts.now)
+        → IsWholeTo (T.net texts.now) memos.new.entries claims waiting.new [] }
     ensures room { spare memos.new ≡ spare memos.old }
 {
     unsettle_touched(texts, memos);

@@ -1,6 +1,6 @@
 //! Memos are stored and dropped, and outputs get their stamps.
 
-ghost use Rattle.std.specs.Prelude.{◌≡◌, ◌+◌, ◌<◌, ◌≤◌, ◌^◌, OnOk, OnErr, IfErr, ◌++◌, ◌&&◌, filter, if◌then◌else◌, length, vec_len, vec_capacity};
+ghost use Rattle.std.specs.Prelude.{◌≡◌, ◌+◌, ◌<◌, ◌≤◌, ◌^◌, OnOk, OnErr, IfErr, ◌++◌, ◌&&◌, false, filter, if◌then◌else◌, length, vec_len, vec_capacity};
 ghost use Rattle.indexmap.specs.IndexMap.{spare};
 ghost use Rattle.std.specs.BTreeMap.{insert_entry};
 ghost use Rattle.std.specs.Ordering.{nat_cmp};
@@ -10,6 +10,7 @@ ghost use Rattle.memo_core.specs.Marks.{mark_of};
 ghost use Rattle.memo_core.specs.Graph.{put_memo, memo_of, output_at};
 ghost use Rattle.memo_core.specs.Views.{as_memo, as_memos, shown_outputs, shown_output};
 ghost use Rattle.memo_core.specs.Tests.{holds_value, stamped_output, name_if_changed, stamped_outputs, changed_names, outputs_of};
+ghost use Rattle.memo_engine.specs.Kept.{AreKept};
 
 use crate::work::outputs_in;
 use memo_core::claims::{Claim, ClaimFault, OpenClaims};
@@ -152,7 +153,7 @@ pub fn open_claim<K: StoreName, V: Drop>(
 }
 
 /// Drops the memos of nodes that the texts don't keep, and their marks.
-pub fn drop_gone<K: StoreName, T: Texts>(texts: &T, memos: &mut Memos<Token<K, T::Value>>)
+fn drop_gone<K: StoreName, T: Texts>(texts: &T, memos: &mut Memos<Token<K, T::Value>>)
     ensures memos { as_memos memos.new.entries
         ≡ filter (λ m. T.keeps texts.now m.node) (as_memos memos.old.entries) }
     ensures marks { (n : NodeRecord)
@@ -166,4 +167,25 @@ pub fn drop_gone<K: StoreName, T: Texts>(texts: &T, memos: &mut Memos<Token<K, T
             ensures same { texts.exit ≡ texts.entry }
         { texts.keeps(*node) },
     );
+}
+
+/// Drops the memos of nodes that the texts don't keep, and their marks. Where none may have to go
+/// nothing is done.
+#[tactic(auto, using(crate::proofs::KeepLemmas::all_kept, crate::proofs::KeepLemmas::kept_marks))]
+pub fn drop_left<K: StoreName, T: Texts>(
+    texts: &T,
+    memos: &mut Memos<Token<K, T::Value>>,
+    may_drop: bool,
+)
+    requires kept { may_drop ≡ false → AreKept (T.keeps texts.now) memos.old.entries }
+    ensures memos { as_memos memos.new.entries
+        ≡ filter (λ m. T.keeps texts.now m.node) (as_memos memos.old.entries) }
+    ensures marks { (n : NodeRecord)
+        → mark_of memos.new.entries n ≡ (T.keeps texts.now n && mark_of memos.old.entries n) }
+    ensures room { spare memos.old ≤ spare memos.new }
+{
+    if !may_drop {
+        return;
+    }
+    drop_gone(texts, memos);
 }

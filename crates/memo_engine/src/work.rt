@@ -7,8 +7,10 @@ ghost use Rattle.std.specs.List.{AllByRecursion as Each};
 ghost use Rattle.memo_core.specs.Tests.{has_node, is_out, values_at, outputs_of};
 ghost use Rattle.memo_core.specs.Step.{Has};
 ghost use Rattle.memo_core.specs.Marks.{can_work, IsMarkedTo, IsWorkAt, IsIdle};
+ghost use Rattle.memo_engine.specs.Waiting.{IsWholeTo};
 
 use crate::marks::{inputs_marked, is_marked};
+use crate::waiting::Waiting;
 use memo_core::claims::OpenClaims;
 use memo_core::keys::{Input, Key, Node, Output, is_same_node};
 use memo_core::table::{
@@ -108,54 +110,67 @@ fn find_work<K: StoreName, T: Texts>(
     }
 }
 
-/// The last of the nodes that may have work which has some. Those behind it are taken away.
+/// The last of the nodes that may have work which has some, and stays noted. Those behind it are
+/// taken away.
 fn find_waiting<K: StoreName, T: Texts>(
     texts: &T,
     memos: &Memos<Token<K, T::Value>>,
     claims: &OpenClaims,
-    waiting: &mut Vec<Node>,
+    waiting: &mut Waiting,
 ) -> Option<Node>
     requires { IsMarkedTo (T.net texts.now) memos.now.entries [] }
     ensures used { IfSome result (λ n. has_node n (T.net texts.now).used ≡ true) }
     ensures work { IfSome result (λ n. can_work (T.net texts.now) memos.now.entries
         claims.now.entries n ≡ true) }
+    ensures none { IfNone result (waiting.new.nodes.items ≡ []) }
+    ensures whole { IsWholeTo (T.net texts.now) memos.now.entries claims.now.entries waiting.old []
+        → IsWholeTo (T.net texts.now) memos.now.entries claims.now.entries waiting.new [] }
 {
-    while let Some(node) = waiting.last() {
-        let node = *node;
+    while let Some(node) = waiting.nodes.pop() {
         if texts.is_used(node) && has_work(texts, memos, claims, node) {
+            waiting.note(node);
             return Some(node);
         }
-        let _ = waiting.pop();
     }
     None
 }
 
 /// A node that has work, if any has: the last of those that may have some, else the first of the
-/// used ones from an index on, where the next search goes on. A search that nothing follows finds
-/// the same node again.
+/// used ones from an index on, where the next search goes on. Where the waiting nodes are whole,
+/// none is searched for. A search that nothing follows finds the same node again.
 pub fn find_node<K: StoreName, T: Texts>(
     texts: &T,
     memos: &Memos<Token<K, T::Value>>,
     claims: &OpenClaims,
-    waiting: &mut Vec<Node>,
+    waiting: &mut Waiting,
     next: &mut usize,
 ) -> Option<Node>
-    requires { IsMarkedTo (T.net texts.now) memos.now.entries [] }
+    requires marks { IsMarkedTo (T.net texts.now) memos.now.entries [] }
+    requires whole { IsWholeTo (T.net texts.now) memos.now.entries claims.now.entries waiting.old
+        [] }
     ensures used { IfSome result (λ n. Has (T.net texts.now).used n) }
     ensures work { IfSome result (λ n. can_work (T.net texts.now) memos.now.entries
         claims.now.entries n ≡ true) }
     ensures none { IfNone result (IsIdle (T.net texts.now) memos.now.entries claims.now.entries 0
         (length (T.net texts.now).used)) }
+    ensures whole { IsWholeTo (T.net texts.now) memos.now.entries claims.now.entries waiting.new
+        [] }
 {
     if let Some(node) = find_waiting(texts, memos, claims, waiting) {
         return Some(node);
+    }
+    if waiting.is_whole {
+        return None;
     }
     match find_work(texts, memos, claims, *next) {
         Some(at) => {
             *next = at;
             Some(texts.used_at(at))
         }
-        None => None,
+        None => {
+            waiting.is_whole = true;
+            None
+        }
     }
 }
 

@@ -119,6 +119,12 @@ abbrev pub nodes_touched : Option Node → List Node
 nodes_touched None = []
 nodes_touched (Some n) = n ∷ []
 
+-- whether a row goes with a change
+abbrev pub is_removal : Change → Bool
+is_removal (Put name value) = false
+is_removal (Remove name) = true
+is_removal (SetBase value) = false
+
 -- each row's stamp is that of an edit, and no stamp is above the last edit's number
 pub record IsSheetValid (s : Sheet) : Type 0 where
   pub rows : (x stamp v : ℕ) → row_of x s.rows.items ≡ Some (stamp, v)

@@ -43,12 +43,17 @@ fn put_answer(
         let index = index.parse::<usize>().unwrap_or(0);
         return spaces::put_candidate(alloc, answer, test, name, index);
     }
+    if let Some(location) = question.strip_prefix("rows at ") {
+        let location = location.parse::<usize>().unwrap_or(0);
+        return spaces::put_first_rows(alloc, answer, test, location);
+    }
     match question {
         "domain" => runs::put_domain(alloc, answer, test),
         "values" => runs::put_values(alloc, answer, test),
         "last run" => runs::put_last_run(alloc, answer, test),
         "links" => runs::put_links(alloc, answer, test),
         "candidates" => spaces::put_count(alloc, answer, test),
+        "parts" => spaces::put_parts(alloc, answer, test),
         _ => put_bytes(answer, b"no such question"),
     }
 }

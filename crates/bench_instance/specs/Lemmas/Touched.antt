@@ -1,5 +1,5 @@
--- What an edit touches, which nodes stand on a node, and that the memos of used nodes may stay.
-use Rattle.std.proofs.Common.{◌≡◌, ℕ, true}
+-- What an edit touches, which nodes stand on a node, and which memos may stay.
+use Rattle.std.proofs.Common.{◌≡◌, ℕ, true, false, sym, ◌∙◌}
 use Rattle.memo_core.specs.declared.keys.Node.{Node}
 use Rattle.memo_core.specs.Laws.{AreReaders, TouchesOnly}
 use Rattle.memo_core.specs.Step.{Has}
@@ -9,6 +9,7 @@ use Rattle.bench_nodes.proofs.Laws.{users_are_readers}
 use Rattle.bench_parts.specs.States.{given_to_node, is_given, keeps}
 use Rattle.bench_edits.specs.Readings.{readings_of}
 use Rattle.bench_edits.specs.Left.{ArePartsKept}
+use Rattle.bench_edits.proofs.KeepAll.{keeps_all}
 use Rattle.bench_edits.proofs.Kept.{parts_kept}
 use Rattle.bench_edits.proofs.Touching.{slots_alike, edit_touches}
 use Rattle.bench_instance.specs.declared.stamped_texts.StampedTexts.{StampedTexts}
@@ -42,3 +43,11 @@ edits_touch t u w e p number sound prepared put =
     (λ n g. is_given (given_to_node (stamped_state t) n) g)
     (λ n g. is_given (given_to_node (stamped_state w) n) g) p.parts
     (parts_edited t u w e p number prepared put sound))
+
+pub edits_keep : (t u w : StampedTexts) (e : Edit) (p : PreparedEdit) (number : ℕ) → AreSoundTexts t
+    → IsPrepared t e p u → IsCommitted u p number w → p.may_drop ≡ false → (n : Node)
+    → keeps t.parts n ≡ true → keeps w.parts n ≡ true
+edits_keep t u w e p number sound prepared put none =
+    keeps_all t.parts w.parts t.texts.tests.items t.texts.models.items p.texts.replacement number
+    p.parts
+    (parts_edited t u w e p number prepared put sound) (sym prepared.drops ∙ none)

@@ -12,7 +12,7 @@ pub and_true : (a b : Bool) → (a && b) ≡ true → (a ≡ true) × (b ≡ tru
 and_true true b h = (refl, h)
 and_true false b h = cc
 
-kind_exact : (a b : Kind) → kind_number a ≡ kind_number b → a ≡ b
+pub kind_exact : (a b : Kind) → kind_number a ≡ kind_number b → a ≡ b
 kind_exact Space Space h = refl
 kind_exact Group Group h = refl
 kind_exact Check Check h = refl

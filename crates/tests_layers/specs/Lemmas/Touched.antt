@@ -1,6 +1,8 @@
--- What a change touches of a sheet, and that the memos of its nodes may stay.
-use Rattle.std.proofs.Common.{◌≡◌, ◌⊎◌, inl, inr, ℕ, Bool, true, false, not, ◌==◌, List, ◌∷◌, Option, Some, refl, ap, sym, subst, ◌∙◌, eqb-true}
+-- What a change touches of a sheet, and which memos may stay.
+use Rattle.std.proofs.Common.{◌≡◌, ◌⊎◌, inl, inr, ℕ, Bool, true, false, not, ◌==◌, List, [], ◌∷◌, Option, Some, is_some, refl, ap, sym, subst, ◌∙◌, eqb-true}
 use Rattle.std.proofs.lemmas.Bool.{cases_Bool}
+use Rattle.memo_core.specs.declared.keys.Kind.{Kind}
+use Rattle.memo_core.specs.declared.keys.Kind.TheVariants.{Space, Group, Check, Verdict}
 use Rattle.memo_core.specs.declared.keys.Node.{Node}
 use Rattle.memo_core.specs.Graph.{stamp_or_zero}
 use Rattle.memo_core.specs.Laws.{IsUsedAlike, TouchesOnly}
@@ -10,8 +12,8 @@ use Rattle.tests_layers.specs.declared.benches.sheet.Sheet.{Sheet}
 use Rattle.tests_layers.specs.declared.benches.sheet.Change.{Change}
 use Rattle.tests_layers.specs.declared.benches.sheet.Change.TheVariants.{Put, Remove, SetBase}
 use Rattle.tests_layers.specs.declared.benches.sheet.Prepared.{Prepared}
-use Rattle.tests_layers.specs.Rows.{row_of}
-use Rattle.tests_layers.specs.Sheet.{tens, cell_of, cells_of, sheet_net, keeps_memo, rows_after, stamp_after, touched_after, nodes_touched, IsSheetValid, IsChanged, IsSheetPrepared}
+use Rattle.tests_layers.specs.Rows.{row_of, put_row}
+use Rattle.tests_layers.specs.Sheet.{tens, cell_of, cells_of, sheet_net, keeps_memo, is_removal, rows_after, stamp_after, touched_after, nodes_touched, IsSheetValid, IsChanged, IsSheetPrepared}
 use Rattle.tests_layers.specs.Lemmas.CellProofs.{put_other, drop_other, has_cell, cell_row}
 use Rattle.tests_layers.specs.Lemmas.Laws.{prepared_changes}
 
@@ -128,3 +130,45 @@ pub changes_touch : (t u w : Sheet) (e : Change) (p : Prepared) (number : ℕ) �
     → TouchesOnly (sheet_net t) (sheet_net w) (nodes_touched w.touched)
 changes_touch t u w e p number valid h c =
     touches_only t w e number (prepared_changes t u w e p number h c)
+
+-- ---- memos that may stay
+
+put_keeps : (t x v number : ℕ) (rs : List Row) → is_some (row_of t rs) ≡ true
+    → is_some (row_of t (put_row x v number rs)) ≡ true
+put_keeps t x v number [] h = cc
+put_keeps t x v number (r ∷ rs) h = elim (cases_Bool (x == r.name)) [
+  | inl e ↦ rw e (elim (cases_Bool (t == x)) [
+    | inl s ↦ rw s refl
+    | inr f ↦ rw f (
+        let g : (t == r.name) ≡ false = subst (λ (y : ℕ). (t == y) ≡ false) (eqb-true x r.name e) f in
+        rw g at h)
+  ])
+  | inr n ↦ rw n (elim (cases_Bool (t == r.name)) [
+    | inl s ↦ rw s refl
+    | inr f ↦ rw f (put_keeps t x v number rs (rw f at h))
+  ])
+]
+
+rows_keep : (e : Change) (number t : ℕ) (rs : List Row) → is_removal e ≡ false
+    → is_some (row_of t rs) ≡ true → is_some (row_of t (rows_after e number rs)) ≡ true
+rows_keep (Put x v) number t rs none h = put_keeps t x v number rs h
+rows_keep (Remove x) number t rs none h = cc
+rows_keep (SetBase v) number t rs none h = h
+
+kept_by : (k : Kind) (t : ℕ) (rs ss : List Row)
+    → (is_some (row_of t rs) ≡ true → is_some (row_of t ss) ≡ true) → keeps_memo k t rs ≡ true
+    → keeps_memo k t ss ≡ true
+kept_by Space t rs ss f h = refl
+kept_by Group t rs ss f h = h
+kept_by Check t rs ss f h = h
+kept_by Verdict t rs ss f h = f h
+
+pub changes_keep : (t u w : Sheet) (e : Change) (p : Prepared) (number : ℕ) → IsSheetValid t
+    → IsSheetPrepared t e p u → IsChanged u p.change number w → is_removal p.change ≡ false
+    → (n : Node) → keeps_memo n.kind n.test t.rows.items ≡ true
+    → keeps_memo n.kind n.test w.rows.items ≡ true
+changes_keep t u w e p number valid h changed none n is =
+    let c = prepared_changes t u w e p number h changed in
+    kept_by n.kind n.test t.rows.items w.rows.items
+    (λ there. ap (λ (rs : List Row). is_some (row_of n.test rs)) c.rows
+    ∙ rows_keep e number n.test t.rows.items (rw h.change_is at none) there) is

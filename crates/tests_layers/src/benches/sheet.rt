@@ -1,15 +1,18 @@
 //! A sheet: a base number and a number a row. One node keeps the tens of the base, and on it stands
 //! a cell a row, the sum of the row's number and those tens.
 
+ghost use Rattle.std.specs.Prelude.{◌≡◌, []};
+
 use crate::benches::nodes::{TENS, cell, is_cell, result};
 use crate::benches::rows::{Row, find_row, put, remove};
 use memo_core::keys::{Key, Kind, Node, Output, is_same_node};
 use memo_core::texts::Texts;
 use std::alloc::{AllocError, Global};
+use std::cell::Cell;
 use thiserror::Error;
 
-/// The rows, the base with the number of the edit that last changed it, the last edit's number, and
-/// the node that it touched.
+/// The rows, the base with the number of the edit that last changed it, the last edit's number, the
+/// node that it touched, and how often a bench asked for a node.
 #[derive(Drop)]
 pub struct Sheet {
     pub rows: Vec<Row>,
@@ -17,6 +20,36 @@ pub struct Sheet {
     pub base_stamp: u64,
     pub last: u64,
     pub touched: Option<Node>,
+    asked: Cell<u64>,
+}
+
+impl Sheet {
+    /// No rows, and the base 0.
+    pub fn empty(alloc: Global) -> Self
+        ensures rows { result.rows.items ≡ [] }
+        ensures base { result.base ≡ 0 }
+        ensures stamp { result.base_stamp ≡ 0 }
+        ensures last { result.last ≡ 0 }
+    {
+        Sheet {
+            rows: Vec::new(alloc),
+            base: 0,
+            base_stamp: 0,
+            last: 0,
+            touched: None,
+            asked: Cell::new(0),
+        }
+    }
+
+    /// How often a bench asked for a used node, for one that the last edit touched or that stands
+    /// on another, or whether a memo may stay.
+    pub fn asked(&self) -> u64 {
+        self.asked.get()
+    }
+
+    fn count(&self) {
+        self.asked.set(self.asked.get().wrapping_add(1));
+    }
 }
 
 /// An edit of a sheet.
@@ -58,9 +91,9 @@ impl Texts for Sheet {
     type Fault = SheetFault;
 
     ghost use Rattle.std.specs.Prelude.{◌≡◌, ◌==◌, ◌<◌, ◌+◌, length, vec_len, vec_capacity};
-    ghost use Rattle.tests_layers.specs.Sheet.{sheet_net, sheet_makes, is_there, users_of, nodes_touched, rank_of, keeps_memo, IsSheetValid, IsSheetSince, IsChanged, IsSheetRefused, IsSheetPrepared};
+    ghost use Rattle.tests_layers.specs.Sheet.{sheet_net, sheet_makes, is_there, users_of, nodes_touched, is_removal, rank_of, keeps_memo, IsSheetValid, IsSheetSince, IsChanged, IsSheetRefused, IsSheetPrepared};
     ghost use Rattle.tests_layers.specs.Lemmas.Laws.{numbers_exact, sheet_sound, since_same, since_changed, given_again, changes_valid, prepared_changes, all_there, inputs_used, users_listed, users_read, ranks_fall, changes_go_on};
-    ghost use Rattle.tests_layers.specs.Lemmas.Touched.{cells_kept, changes_touch};
+    ghost use Rattle.tests_layers.specs.Lemmas.Touched.{cells_kept, changes_keep, changes_touch};
 
     ghost is_valid = { IsSheetValid };
 
@@ -96,6 +129,8 @@ impl Texts for Sheet {
     ghost commits = { λ s p number new. IsChanged s p.change number new };
 
     ghost used_after = { λ p. p.used };
+
+    ghost may_drop = { λ p. is_removal p.change };
 
     fn part_stamp(&self, part: u64, of: u64) -> u64 {
         if part != 0 {
@@ -136,6 +171,7 @@ impl Texts for Sheet {
     }
 
     fn used_at(&self, i: usize) -> Node {
+        self.count();
         if i == 0 {
             TENS
         } else {
@@ -159,6 +195,7 @@ impl Texts for Sheet {
     }
 
     fn user_at(&self, node: Node, i: usize) -> Node {
+        self.count();
         if is_same_node(node, TENS) {
             cell(self.rows[i].name)
         } else {
@@ -174,6 +211,7 @@ impl Texts for Sheet {
     }
 
     fn touched_at(&self, _i: usize) -> Node {
+        self.count();
         match self.touched {
             Some(node) => node,
             None => unreachable!(),
@@ -229,6 +267,7 @@ impl Texts for Sheet {
     }
 
     fn keeps(&self, node: Node) -> bool {
+        self.count();
         match node.kind {
             Kind::Space => true,
             Kind::Group => false,
@@ -262,6 +301,10 @@ impl Texts for Sheet {
 
     fn used_after(prepared: &Prepared) -> usize {
         prepared.used
+    }
+
+    fn may_drop(prepared: &Prepared) -> bool {
+        matches!(prepared.change, Change::Remove(_))
     }
 
     fn refused_memory(_prepared: &Prepared, _error: AllocError) -> SheetFault {
@@ -309,6 +352,8 @@ impl Texts for Sheet {
     ghost used_closed = { λ s _ n. inputs_used s.rows.items n };
 
     ghost used_kept = { λ s _ n. cells_kept s.rows.items n };
+
+    ghost keeps_all = { changes_keep };
 
     ghost users_are = { λ s _. users_listed s };
 

@@ -29,13 +29,7 @@ impl CellTexts for Sheet {
     ghost same_edit = { λ e f. e ≡ f };
 
     fn empty(alloc: Global) -> Sheet {
-        Sheet {
-            rows: Vec::new(alloc),
-            base: 0,
-            base_stamp: 0,
-            last: 0,
-            touched: None,
-        }
+        Sheet::empty(alloc)
     }
 
     fn verdict_of(&self, test: &[u8], model: &[u8]) -> Option<Node> {

@@ -2,19 +2,23 @@ use Rattle.std.proofs.Common.{◌∙◌, sym, arith}
 use Rattle.std.proofs.lemmas.List.{drop_all}
 use Rattle.memo_core.specs.Graph.{present_inputs}
 use Rattle.memo_core.specs.Views.{as_memos}
-use Rattle.memo_engine.proofs.MarkLemmas.{as_memos-with_mark_at, unmarked_count-less, ready_there, passed, marked_on, has_at}
+use Rattle.memo_engine.proofs.MarkLemmas.{as_memos-with_mark_at, unmarked_count-less, ready_there, passed, marked_on, marked_whole, has_at}
 use Rattle.memo_engine.proofs.marks.+settle.Goals as goal
 
 pub returns-then-not-can_mark-clause-marks : goal.returns-then-not-can_mark-clause-marks
 returns-then-not-can_mark-clause-marks g t c =
     λ valid there rest p. passed (g.T.Texts.net c.args.texts.now) c.args.memos.now.entries c.args.node
-    (sym c.can_mark.ensures ∙ c.if-not-can_mark.true) rest p
+    (sym c.can_mark.ensures.ready ∙ c.if-not-can_mark.true) rest p
+
+pub returns-then-not-can_mark-clause-whole : goal.returns-then-not-can_mark-clause-whole
+returns-then-not-can_mark-clause-whole g t c =
+    λ valid there claims rest p. c.can_mark.ensures.whole claims rest c.if-not-can_mark.true p
 
 pub loop-i-init : goal.loop-i-init
 loop-i-init g t c =
     let net = g.T.Texts.net c.args.texts.now in
     let ks = c.args.memos.now.entries in
-    let now = sym c.can_mark.ensures ∙ c.if-not-can_mark.false in
+    let now = sym c.can_mark.ensures.ready ∙ c.if-not-can_mark.false in
     let r = ready_there net ks c.args.node now in
     record {
       same = rw c.mark.ensures.marks (as_memos-with_mark_at c.args.node ks);
@@ -27,6 +31,13 @@ loop-i-init g t c =
           (λ u has on.
           (g.met.T.Texts.users_are c.args.texts.now valid).listed c.args.node u has on)
           there now rest p);
+      whole =
+          λ valid there claims rest p w. rw
+          (c.mark.ensures.marks, c.can_mark.ensures.same c.if-not-can_mark.false)
+          (marked_whole net ks c.args.node (g.T.Texts.users c.args.texts.now)
+          (λ u has on.
+          (g.met.T.Texts.users_are c.args.texts.now valid).listed c.args.node u has on)
+          there now rest p claims c.args.waiting.now w);
       room = c.mark.ensures.room;
     }
 
@@ -40,6 +51,13 @@ loop-i-preserved g t c = record {
       (has_at (g.T.Texts.users c.args.texts.now c.args.node) c.loop-i.i c.user_at.result
       c.user_at.ensures.at)) _ (rw c.user_at.ensures.rest at
       (c.loop-i.invariant.marks valid there rest p));
+  whole =
+      λ valid there claims rest p w. c.settle.ensures.whole valid
+      ((g.met.T.Texts.users_are c.args.texts.now valid).are_used c.args.node c.user_at.result there
+      (has_at (g.T.Texts.users c.args.texts.now c.args.node) c.loop-i.i c.user_at.result
+      c.user_at.ensures.at)) claims _ (rw c.user_at.ensures.rest at
+      (c.loop-i.invariant.marks valid there rest p)) (rw c.user_at.ensures.rest at
+      (c.loop-i.invariant.whole valid there claims rest p w));
   room = c.settle.ensures.room ∙ c.loop-i.invariant.room;
 }
 
@@ -48,3 +66,10 @@ returns-clause-marks g t c =
     let users = g.T.Texts.users c.args.texts.now c.args.node in
     λ valid there rest p.
     rw (drop_all c.loop-i.i users (omega arith)) at (c.loop-i.invariant.marks valid there rest p)
+
+pub returns-clause-whole : goal.returns-clause-whole
+returns-clause-whole g t c =
+    let users = g.T.Texts.users c.args.texts.now c.args.node in
+    λ valid there claims rest p w.
+    rw (drop_all c.loop-i.i users (omega arith)) at
+    (c.loop-i.invariant.whole valid there claims rest p w)

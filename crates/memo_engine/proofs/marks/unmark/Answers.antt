@@ -1,4 +1,4 @@
-use Rattle.std.proofs.Common.{◌∙◌, ap, sym, false}
+use Rattle.std.proofs.Common.{◌∙◌, ap, false}
 use Rattle.memo_core.specs.Marks.{mark_in}
 use Rattle.memo_core.proofs.Slots.{mark_found_at}
 use Rattle.memo_engine.proofs.UnmarkLemmas.{unmark_written, nothing_unmarked}

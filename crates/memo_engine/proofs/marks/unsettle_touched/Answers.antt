@@ -6,7 +6,13 @@ use Rattle.memo_engine.proofs.marks.unsettle_touched.Goals as goal
 
 pub loop-i-init : goal.loop-i-init
 loop-i-init g c =
-    record { same = refl; closed = λ valid p. p.closed; left = λ valid p. p.left; room = refl }
+    record {
+      same = refl;
+      old = λ n h. h;
+      closed = λ valid p. p.closed;
+      left = λ valid p. p.left;
+      room = refl;
+    }
 
 pub loop-i-preserved : goal.loop-i-preserved
 loop-i-preserved g c =
@@ -15,6 +21,7 @@ loop-i-preserved g c =
     let i = c.loop-i.invariant in
     record {
       same = c.unsettle.ensures.memos ∙ i.same;
+      old = λ n h. i.old n (c.unsettle.ensures.old n h);
       closed =
           λ valid p. c.unsettle.ensures.closed valid _ (rw c.touched_at.ensures.rest at
           (i.closed valid p));

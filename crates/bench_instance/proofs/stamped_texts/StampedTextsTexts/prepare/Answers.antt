@@ -1,4 +1,4 @@
-use Rattle.bench_instance.proofs.Preparing.{net_is, sound_is, since_is}
+use Rattle.bench_instance.proofs.Preparing.{net_is, sound_is, same_keeps, since_is}
 use Rattle.bench_instance.proofs.stamped_texts.StampedTextsTexts.prepare.Goals as goal
 
 pub returns-clause-net : goal.returns-clause-net
@@ -11,3 +11,7 @@ returns-clause-valid c =
 pub returns-clause-since : goal.returns-clause-since
 returns-clause-since c =
     since_is c.args.self.now c.prepare_edit.new.self c.prepare_edit.ensures.same
+
+pub returns-clause-keeps : goal.returns-clause-keeps
+returns-clause-keeps c =
+    same_keeps c.args.self.now c.prepare_edit.new.self c.prepare_edit.ensures.same

@@ -1,14 +1,18 @@
 use Rattle.memo_core.specs.declared.keys.Key.{Key}
-use Rattle.std.proofs.Common.{◌∙◌, ◌+◌, List, [], subst, sym, ap, ◌≡◌, Some, None, option_map}
+use Rattle.std.proofs.Common.{◌∙◌, ◌+◌, inl, List, [], ◌∷◌, subst, sym, ap, ◌≡◌, Some, None, option_map}
 use Rattle.memo_core.specs.Graph.{Memo, named_values}
 use Rattle.memo_core.specs.Views.{as_memos, shown_outputs, shown_values}
 use Rattle.memo_core.specs.Step.{Has, open_claim, open_claims, return_of, state}
 use Rattle.memo_core.proofs.ClaimLemmas.{closed, found, numbered_later, numbered_closed}
 use Rattle.memo_core.proofs.Progress.{accepts_fresh, accept_unsettled}
-use Rattle.memo_engine.proofs.MarkLemmas.{put_pending}
+use Rattle.std.specs.Ordering.{nat_cmp}
+use Rattle.std.specs.BTreeMap.{is_at}
+use Rattle.memo_engine.proofs.MarkLemmas.{put_pending, put_whole}
 use Rattle.memo_core.specs.Right.{CountsAsComputed}
 use Rattle.memo_core.proofs.Counted.{counted_now}
-use Rattle.memo_engine.proofs.AcceptLemmas.{accepted, finishes}
+use Rattle.memo_engine.proofs.AcceptLemmas.{accepted, claimed, due_unsettled, finishes}
+use Rattle.memo_engine.proofs.KeepLemmas.{put_kept, same_kept}
+use Rattle.memo_engine.proofs.WaitingLemmas.{whole_closed}
 use Rattle.memo_engine.proofs.graph.Graph.accept.Goals as goal
 
 pub unreachable-requires : goal.unreachable-requires
@@ -69,3 +73,41 @@ returns-clause-taken g c =
           finishes old new r c.restamp_all.new.names.items c.finish_of.result c.finish_of.ensures
           a.1 ((rw c.into_results-outputs.ensures.outputs at c.restamp_all.ensures.names) ∙ a.2);
     }
+
+pub invariant_of-self-clause-kept : goal.invariant_of-self-clause-kept
+invariant_of-self-clause-kept g c =
+    let s = c.args.self.now in
+    let d = c.args.done in
+    let t = g.T.Texts in
+    let used : Has (t.net s.texts).used d.node = subst (Has (t.net s.texts).used) c.requires.due.1.same c.requires.due.2.used in
+    let m : Memo g.row.T-Value.Denot = record { node = d.node; inputs = c.in-Some.claim.inputs.items; outputs = shown_outputs c.restamp_all.new.outputs.items } in
+    same_kept (t.keeps s.texts) c.store_memo.new.memos.entries c.settle.new.memos.entries
+    c.settle.ensures.memos
+    (put_kept (t.keeps s.texts) m s.memos.entries c.store_memo.new.memos.entries
+    c.store_memo.ensures.memos
+    (g.met.T.Texts.used_kept s.texts c.requires.right.0 d.node used) s.kept)
+
+pub invariant_of-self-clause-whole : goal.invariant_of-self-clause-whole
+invariant_of-self-clause-whole g c =
+    let s = c.args.self.now in
+    let d = c.args.done in
+    let t = g.T.Texts in
+    let net = t.net s.texts in
+    let ks = s.memos.entries in
+    let put = c.store_memo.new.memos.entries in
+    let cs = c.remove.new.self.entries in
+    let values = shown_values d.values.items in
+    let outputs = shown_outputs d.outputs.items in
+    let r = return_of d.claim d.node d.given d.keys.items values outputs in
+    let used : Has net.used d.node = subst (Has net.used) c.requires.due.1.same c.requires.due.2.used in
+    let m : Memo g.row.T-Value.Denot = record { node = d.node; inputs = c.in-Some.claim.inputs.items; outputs = shown_outputs c.restamp_all.new.outputs.items } in
+    let unsettled = due_unsettled t.same g.met.T.Texts.same_exact net (as_memos ks) s.claims.entries s.taken d.claim d.node d.given d.keys.items values outputs c.requires.due c.requires.fresh.0 in
+    let found = sym c.in-Some.is ∙ c.remove.ensures.value in
+    let by = claimed net (as_memos ks) s.claims.entries s.taken r c.in-Some.claim found c.requires.due.0 c.requires.due.1 in
+    c.settle.ensures.whole c.requires.right.0 used cs []
+    (put_pending net ks put m c.requires.marks c.store_memo.ensures.memos
+    (λ n. c.store_memo.ensures.flags n) unsettled)
+    (put_whole net ks put m c.requires.marks c.store_memo.ensures.memos
+    (λ n. c.store_memo.ensures.flags n) unsettled cs s.waiting
+    (whole_closed net ks s.claims.entries cs s.waiting (is_at (nat_cmp d.claim)) c.in-Some.claim
+    (d.node ∷ []) found c.remove.ensures.entries (λ n used e i. inl (sym by.1 ∙ e)) s.whole))

@@ -1,4 +1,4 @@
-use Rattle.std.proofs.Common.{◌+◌, refl, sym}
+use Rattle.std.proofs.Common.{◌+◌, refl, ap, sym}
 use Rattle.memo_core.specs.Graph.{at}
 use Rattle.memo_core.specs.Right.{CountsAsComputed}
 use Rattle.memo_core.proofs.Counted.{counted_made}
@@ -7,7 +7,10 @@ use Rattle.memo_engine.proofs.WorkLemmas.{values_there, values_present, has_ther
 use Rattle.memo_core.proofs.ClaimLemmas.{opened, numbered_opened}
 use Rattle.memo_engine.proofs.MarkLemmas.{is_work_of, marked_none}
 use Rattle.memo_core.proofs.Progress.{gives_fresh}
-use Rattle.memo_core.specs.Step.{open_claims, state}
+use Rattle.memo_core.specs.declared.claims.Claim.{Claim}
+use Rattle.memo_core.specs.Step.{open_claim, open_claims, state}
+use Rattle.memo_engine.proofs.WaitingLemmas.{whole_opened, whole_same}
+use Rattle.memo_engine.proofs.KeepLemmas.{same_kept}
 use Rattle.memo_core.proofs.Runs.{right_later}
 use Rattle.memo_engine.proofs.graph.Graph.claim.Goals as goal
 
@@ -89,3 +92,21 @@ returns-clause-fresh g c =
       )
           (numbered_opened s.taken _ (open_claims s.claims.entries) refl c.requires.fresh.1),
     )
+
+pub invariant_of-self-2-clause-kept : goal.invariant_of-self-2-clause-kept
+invariant_of-self-2-clause-kept g c =
+    let s = c.args.self.now in
+    same_kept (g.T.Texts.keeps s.texts) s.memos.entries c.open_claim.new.memos.entries
+    (ap as_memos c.in_ok-open_claim.ensures.memos) s.kept
+
+pub invariant_of-self-2-clause-whole : goal.invariant_of-self-2-clause-whole
+invariant_of-self-2-clause-whole g c =
+    let s = c.args.self.now in
+    let net = g.T.Texts.net s.texts in
+    let k : Claim = record { node = c.in-Some.node; inputs = c.in_ok-inputs.inputs } in
+    whole_same net net s.memos.entries c.open_claim.new.memos.entries
+    c.open_claim.new.claims.entries c.find_node.new.waiting refl c.in_ok-open_claim.ensures.memos
+    (whole_opened net s.memos.entries s.claims.entries c.open_claim.new.claims.entries
+    c.find_node.new.waiting (open_claim (s.taken + 1, k))
+    (rw c.in_ok-open_claim.ensures.opened (opened s.taken k s.claims.entries c.requires.fresh.1))
+    c.find_node.ensures.whole)

@@ -1,8 +1,9 @@
-use Rattle.memo_core.specs.Step.{open_claims}
-use Rattle.memo_core.specs.Views.{as_memos}
+use Rattle.memo_core.specs.Step.{open_claims, return_of}
+use Rattle.memo_core.specs.Views.{as_memos, shown_outputs, shown_values}
 use Rattle.std.proofs.Common.{refl}
 use Rattle.memo_core.proofs.Progress.{fresh_closed}
 use Rattle.memo_core.proofs.ClaimLemmas.{closed, numbered_closed}
+use Rattle.memo_engine.proofs.WaitingLemmas.{whole_stale}
 use Rattle.memo_engine.proofs.graph.Graph.finish.Goals as goal
 
 pub returns-in-Late-clause-step : goal.returns-in-Late-clause-step
@@ -33,3 +34,12 @@ returns-in-Due-clause-marks g c = c.accept.ensures.taken.marks
 
 pub returns-in-Due-clause-step : goal.returns-in-Due-clause-step
 returns-in-Due-clause-step g c = c.accept.ensures.taken.step
+
+pub invariant_of-self-clause-whole : goal.invariant_of-self-clause-whole
+invariant_of-self-clause-whole g c =
+    let s = c.args.self.now in
+    let d = c.args.done in
+    let r = return_of d.claim d.node d.given d.keys.items (shown_values d.values.items) (shown_outputs d.outputs.items) in
+    let j = c.in-Late.ensures in
+    whole_stale (g.T.Texts.net s.texts) s.memos.entries s.claims.entries c.remove.new.self.entries
+    s.waiting s.taken r j.0 c.in-Late.stamp j.1 j.2 c.remove.ensures.entries s.whole
