@@ -12,6 +12,8 @@ use Rattle.board.specs.Operations.{board_after}
 use Rattle.board.specs.Legal.{IsLegal}
 use Rattle.board.specs.Results.{ShowsRightCells}
 use Rattle.board.specs.Edits.{edit_count}
+use Rattle.desk.specs.Boards.{AreSettled}
+use Rattle.bench_instance.specs.Cells.{board_cells}
 use Rattle.session_views.specs.Knowing.{KnowsTexts}
 use Rattle.watch_run.specs.Holding.{Holding}
 use Rattle.watch_run.specs.Lines.{test_table, behind_line}
@@ -73,6 +75,10 @@ pub record AreOwnLines (ops : List BoardOp) (made : ℕ) (models : List (List �
     (names : List (Option (List ℕ))) (lines : List (List ℕ)) : Type 0 where
   pub shown : AreBoardLines ops models names lines
   pub counted : edit_count ops ≡ made
+
+-- each cell of the board after these operations is settled, if there are fewer than 2 ^ 64
+abbrev pub IsSettledWhole : List BoardOp → Type 0
+IsSettledWhole ops = AreSettled (board_cells (board_after ops))
 
 -- the lists in vectors
 abbrev pub lists_of : List (Vec ℕ Global) → List (List ℕ)

@@ -5,7 +5,7 @@ ghost use mathlib.Core.List.{IsPrefix};
 ghost use Rattle.board.specs.declared.operation.BoardOp.{BoardOp};
 ghost use Rattle.memo_engine.specs.declared.graph.TheConstants.{LAST};
 ghost use Rattle.session_views.specs.Knowing.{HasOwnEdit};
-ghost use Rattle.watch_run.specs.Boards.{lists_of, AreOwnLines, HasOpenLine};
+ghost use Rattle.watch_run.specs.Boards.{lists_of, AreOwnLines, HasOpenLine, IsSettledWhole};
 
 use bench_texts::Edit;
 use command_answers::SessionFault;
@@ -29,6 +29,7 @@ pub trait Author {
     /// worker gave up.
     fn settle<W: Wait>(&mut self, rt: &W, alloc: Global, last: u64) -> Result<u64, SessionFault>
         ensures begins { OnOk result (IsPrefix (seen self.old) (seen self.new)) }
+        ensures settled { OnOk result (IsSettledWhole (seen self.new)) }
         ensures fault { OnErr result (result ≡ Err SessionFault.Memory) };
 
     /// The lines under the models of these names of the files that hold the tests of these names,

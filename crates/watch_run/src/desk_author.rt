@@ -3,6 +3,7 @@
 ghost use Rattle.std.specs.Prelude.{OnOk, OnErr, IfOk, ◌≡◌, ◌≤◌, Err};
 ghost use mathlib.Core.List.{IsPrefix};
 ghost use Rattle.session_views.specs.Knowing.{HasOwnEdit};
+ghost use Rattle.watch_run.specs.Boards.{IsSettledWhole};
 
 use crate::author::Author;
 use crate::lines::{Asked, read_board};
@@ -107,6 +108,7 @@ fn wait_settled<J: Naming + StoreName, R: Wait + Drop, W: Wait>(
     viewer: &mut Viewer<J, StampedTexts>,
 ) -> Result<(), SessionFault>
     ensures begins { OnOk result (IsPrefix viewer.old viewer.new) }
+    ensures settled { OnOk result (IsSettledWhole viewer.new) }
     ensures fault { OnErr result (result ≡ Err SessionFault.Memory) }
 {
     match desk.settle(rt, viewer) {

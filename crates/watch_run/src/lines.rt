@@ -8,7 +8,7 @@ ghost use Rattle.bench_texts.specs.Held.{texts_of};
 ghost use Rattle.board.specs.Contents.{cell_named};
 ghost use Rattle.board.specs.Legal.{IsLegal};
 ghost use Rattle.board.specs.Operations.{board_after};
-ghost use Rattle.watch_run.specs.Lines.{test_table, behind_line, AreLinesOf, changed_line, changed_lines, jobs_line, AreLinesWritten};
+ghost use Rattle.watch_run.specs.Lines.{test_table, behind_line, AreLinesOf, changed_line, changed_lines, jobs_line};
 ghost use Rattle.watch_run.specs.Boards.{lists_of, shown_cells, AreCellsClosed, HasOpenCell, shown_line, shown_line_of, IsClosedBy, IsOpenBy, shown_lines, HasOpenLine, AreOwnLines, KnowsItsTexts};
 
 use crate::author::Author;
@@ -254,8 +254,8 @@ pub fn put_answer(
     nows: &[Vec<u8>],
     jobs: u64,
 ) -> Result<(), AllocError>
-    ensures { OnOk result (AreLinesWritten (lists_of lasts.now) (lists_of nows.now) text.old.items
-        text.new.items) }
+    ensures { OnOk result (text.new.items ≡ text.old.items
+        ++ changed_lines (lists_of lasts.now) (lists_of nows.now) ++ jobs_line jobs) }
 {
     put_changed_lines(text, lasts, nows)?;
     put_jobs(text, jobs)

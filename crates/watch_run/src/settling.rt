@@ -3,7 +3,7 @@
 ghost use Rattle.std.specs.Prelude.{OnOk, OnErr, IfOk, ◌≡◌, Err};
 ghost use Rattle.bench_texts.specs.Held.{texts_of};
 ghost use Rattle.watch_run.specs.Lines.{AreLinesOf};
-ghost use Rattle.watch_run.specs.Boards.{lists_of, KnowsItsTexts};
+ghost use Rattle.watch_run.specs.Boards.{lists_of, IsSettledWhole, KnowsItsTexts};
 
 use crate::author::Author;
 use crate::watched::Watched;
@@ -18,6 +18,7 @@ impl<A: Author> Watched<A> {
     fn settle<W: Wait>(&mut self, rt: &W, alloc: Global) -> Result<u64, SessionFault>
         requires ready { KnowsItsTexts A.seen self.old }
         ensures ready { OnOk result (KnowsItsTexts A.seen self.new) }
+        ensures settled { OnOk result (IsSettledWhole (A.seen self.new.author)) }
         ensures texts { self.new.texts ≡ self.old.texts }
         ensures names { self.new.names ≡ self.old.names }
         ensures fault { OnErr result (result ≡ Err SessionFault.Memory) }

@@ -8,4 +8,7 @@ returns-clause-settled g c =
     (c.deref.ensures.value ∙ (rw c.in_ok-models.ensures.value at c.bench_model_names.ensures))
     c.in_ok-jobs.ensures.texts c.in_ok-jobs.ensures.names c.in_ok-jobs.ensures.lines
     c.deref-2.ensures.value c.deref-3.ensures.value
-    (rw c.in_ok-memory.ensures.value at c.put_answer.ensures)
+    (record {
+      jobs = c.in_ok-jobs.jobs;
+      is = rw c.in_ok-memory.ensures.value at c.put_answer.ensures;
+    })
