@@ -1,21 +1,24 @@
 -- Lists that are made one after another.
-use Rattle.std.proofs.Common.{ℕ, zero, suc, ◌+◌, ◌<◌, ◌≤◌, ◌≡◌, min, inl, inr, List, [], ◌∷◌, ◌++◌, length, map, get_or, take, drop, append_assoc, add-one, Option, None, Bor, slice_get, refl, sym, ap, subst, ◌∙◌, arith}
+use Rattle.std.proofs.Common.{ℕ, zero, suc, ◌+◌, ◌-◌, ◌==◌, ◌<◌, ◌≤◌, ◌≡◌, min, Bool, true, false, not, cond, if◌then◌else◌, inl, inr, List, [], ◌∷◌, ◌++◌, length, map, get_or, take, drop, append_assoc, add-one, Option, Some, None, Bor, slice_get, refl, sym, ap, subst, ◌∙◌, arith}
 use Rattle.std.specs.Option.{option_or}
-use Rattle.std.specs.List.{flat_map, remove}
+use Rattle.std.specs.List.{flat_map, position_or_len, remove}
 use Rattle.std.proofs.lemmas.Bool.{cases_lt}
-use Rattle.std.proofs.lemmas.Bool.Decides.{eqb_tells}
 use Rattle.std.proofs.lemmas.List.{append-nil, drop_all, map-append, take_more}
 use Rattle.text_values.specs.declared.model.Item.{Item}
+use Rattle.text_values.specs.ModelValues.{clause_of}
 use Rattle.binding_kinds.specs.declared.fault.ModelFault.{ModelFault}
-use Rattle.bench_texts.specs.BenchTexts.{put_at, item_index, items_with_numbers}
+use Rattle.bench_texts.specs.BenchTexts.{put_at}
 use Rattle.bench_texts.specs.declared.model.NamedModel.{NamedModel}
 use Rattle.bench_texts.proofs.Lists.{map-put_at, set-put_at, map-remove}
+use Rattle.bench_nodes.specs.declared.table.ItemRow.{ItemRow}
 use Rattle.bench_nodes.specs.declared.table.ModelRow.{ModelRow}
+use Rattle.bench_nodes.specs.Guesses.{left_of, item_spot, are_first, are_items_guessed}
 use Rattle.bench_items.specs.Naming.{SeenName}
 use Rattle.bench_slots.specs.Slots.{PlainSlot}
 use Rattle.bench_slots.specs.Tables.{ModelReading, slots_in}
 use Rattle.bench_parts.specs.declared.model_rows.HeldModel.{HeldModel}
-use Rattle.bench_parts.specs.Items.{ItemFact, text_part}
+use Rattle.bench_parts.specs.Contents.{PartContent, OfText}
+use Rattle.bench_parts.specs.Items.{ItemFact, text_part, raised_item}
 use Rattle.bench_parts.specs.Written.{text_in}
 use Rattle.bench_edits.specs.Edited.{held_models, model_before, rest_of, IsModelMade, AreModelsMade}
 use Rattle.bench_edits.specs.Readings.{readings_of, named_text, facts_in, all_facts}
@@ -176,29 +179,69 @@ facts_more ms i m lt is =
 
 -- ---- texts
 
-one_more : (n : ℕ) → 1 + n ≡ suc n
-one_more n = omega arith
+none_behind : (o : Option PartContent) → option_or o None ≡ o
+none_behind None = refl
+none_behind (Some c) = refl
 
--- what the item of a number says is what stands at its index
-pub text_found : (m : NamedModel) (number : ℕ)
-    → text_part (slice_get m.text.items.items (item_index number
-    (items_with_numbers m.numbers.items m.text.items.items)))
-    ≡ text_in m.numbers.items m.text.items.items number
-text_found m number =
-    found m.numbers.items m.text.items.items
-    (omega (arith, m.paired, m.numbers.ok.0, m.text.items.ok.0))
+or_assoc : (a b c : Option PartContent) → option_or (option_or a b) c ≡ option_or a (option_or b c)
+or_assoc None b c = refl
+or_assoc (Some x) b c = refl
+
+texts_behind : (ns ms : List ℕ) (xs ys : List Item) (n : ℕ) → length ns ≡ length xs
+    → text_in (ns ++ ms) (xs ++ ys) n ≡ option_or (text_in ns xs n) (text_in ms ys n)
+texts_behind [] ms [] ys n e = refl
+texts_behind [] ms (x ∷ xs) ys n e = absurd (omega (arith, e))
+texts_behind (k ∷ ns) ms [] ys n e = absurd (omega (arith, e))
+texts_behind (k ∷ ns) ms (x ∷ xs) ys n e =
+    by_test (k == n) (texts_behind ns ms xs ys n (omega (arith, e)))
   where
-    found : (ns : List ℕ) (xs : List Item) → length ns ≡ length xs
-        → text_part (slice_get xs (item_index number (items_with_numbers ns xs))) ≡ text_in ns xs number
-    found [] [] e = refl
-    found [] (x ∷ xs) e = absurd (omega arith)
-    found (n ∷ ns) [] e = absurd (omega arith)
-    found (n ∷ ns) (x ∷ xs) e =
-        let len : length ns ≡ length xs = omega arith in elim (eqb_tells n number) [
-          | inl same ↦ rw same.0 refl
-          | inr other ↦ rw other.0 (rw (one_more (item_index number (items_with_numbers ns xs)))
-              (found ns xs len))
-        ]
+    by_test : (b : Bool)
+        → text_in (ns ++ ms) (xs ++ ys) n ≡ option_or (text_in ns xs n) (text_in ms ys n)
+        → (if b then Some (OfText (clause_of x)) else text_in (ns ++ ms) (xs ++ ys) n)
+        ≡ option_or (if b then Some (OfText (clause_of x)) else text_in ns xs n) (text_in ms ys n)
+    by_test true later = refl
+    by_test false later = later
+
+-- the text beside the first row of a number
+pub text_at : (rows : List ItemRow) (xs : List Item) (n i : ℕ) (x : Item)
+    → position_or_len (λ r. r.number == n) rows ≡ i → i < length rows → slice_get xs i ≡ Some x
+    → text_in (map (λ r. r.number) rows) xs n ≡ Some (OfText (clause_of x))
+text_at [] xs n i x p lt at = absurd (omega (arith, lt))
+text_at (r ∷ rows) [] n i x p lt at = absurd (let e : None ≡ Some x = at in cc)
+text_at (r ∷ rows) (y ∷ ys) n zero x p lt at = by_test (r.number == n) p
+  where
+    by_test : (b : Bool) → cond (not b) (1 + position_or_len (λ r. r.number == n) rows) 0 ≡ 0
+        → (if b then Some (OfText (clause_of y)) else text_in (map (λ r. r.number) rows) ys n)
+        ≡ Some (OfText (clause_of x))
+    by_test true p = ap (λ (o : Option Item). text_part o) at
+    by_test false p = absurd (omega (arith, p))
+text_at (r ∷ rows) (y ∷ ys) n (suc i) x p lt at =
+    by_test (r.number == n) p (λ q. text_at rows ys n i x q (omega (arith, lt)) at)
+  where
+    by_test : (b : Bool) → cond (not b) (1 + position_or_len (λ r. r.number == n) rows) 0 ≡ suc i
+        → (position_or_len (λ r. r.number == n) rows ≡ i
+        → text_in (map (λ r. r.number) rows) ys n ≡ Some (OfText (clause_of x)))
+        → (if b then Some (OfText (clause_of y)) else text_in (map (λ r. r.number) rows) ys n)
+        ≡ Some (OfText (clause_of x))
+    by_test true p later = absurd (omega (arith, p))
+    by_test false p later = later (omega (arith, p))
+
+-- there is no such row, or nothing is beside it
+pub no_text : (rows : List ItemRow) (xs : List Item) (n i : ℕ)
+    → position_or_len (λ r. r.number == n) rows ≡ i → min (length rows) (length xs) ≤ i
+    → text_in (map (λ r. r.number) rows) xs n ≡ None
+no_text [] xs n i p past = refl
+no_text (r ∷ rows) [] n i p past = refl
+no_text (r ∷ rows) (y ∷ ys) n i p past =
+    by_test (r.number == n) p (λ q l. no_text rows ys n (i - 1) q l)
+  where
+    by_test : (b : Bool) → cond (not b) (1 + position_or_len (λ r. r.number == n) rows) 0 ≡ i
+        → (position_or_len (λ r. r.number == n) rows ≡ i - 1
+        → min (length rows) (length ys) ≤ i - 1
+        → text_in (map (λ r. r.number) rows) ys n ≡ None)
+        → (if b then Some (OfText (clause_of y)) else text_in (map (λ r. r.number) rows) ys n) ≡ None
+    by_test true p later = absurd (omega (arith, p, past))
+    by_test false p later = later (omega (arith, p)) (omega (arith, p, past))
 
 -- the texts of one model more
 pub texts_left : (ms : List NamedModel) (number i : ℕ) (m : NamedModel) → i < length ms
@@ -219,3 +262,38 @@ texts_left ms number i m lt is = rw (add-one i) (behind ms i lt is)
         option_or (text_in w.numbers.items w.text.items.items number) (named_text ms number))
         (sym is)
     behind (n ∷ ms) (suc i) lt is = behind ms i (omega arith) is
+
+-- the texts of so many models, and of one more
+pub texts_next : (ns : List ℕ) (xs : List Item) (ms : List NamedModel) (i number : ℕ)
+    (m : NamedModel) → i < length ms → m ≡ get_or ms i m → length ns ≡ length xs
+    → option_or (text_in ns xs number) (named_text (drop i ms) number) ≡ named_text ms number
+    → option_or (text_in (ns ++ m.numbers.items) (xs ++ m.text.items.items) number)
+    (named_text (drop (i + 1) ms) number) ≡ named_text ms number
+texts_next ns xs ms i number m lt is even before =
+    ap (λ (o : Option PartContent). option_or o (named_text (drop (i + 1) ms) number))
+    (texts_behind ns m.numbers.items xs m.text.items.items number even)
+    ∙ or_assoc (text_in ns xs number) (text_in m.numbers.items m.text.items.items number)
+    (named_text (drop (i + 1) ms) number)
+    ∙ ap (option_or (text_in ns xs number)) (sym (texts_left ms number i m lt is)) ∙ before
+
+pub texts_whole : (ns : List ℕ) (xs : List Item) (ms : List NamedModel) (i number : ℕ)
+    → length ms ≤ i
+    → option_or (text_in ns xs number) (named_text (drop i ms) number) ≡ named_text ms number
+    → text_in ns xs number ≡ named_text ms number
+texts_whole ns xs ms i number past before =
+    sym (none_behind (text_in ns xs number))
+    ∙ ap (λ (l : List NamedModel). option_or (text_in ns xs number) (named_text l number))
+    (sym (drop_all i ms past))
+    ∙ before
+
+-- ---- items under the number of an edit
+
+pub raised_guessed : (last number : ℕ) (gs : List ℕ) (rows : List ItemRow)
+    → are_items_guessed gs rows ≡ true → are_items_guessed gs (map (raised_item last number) rows) ≡ true
+raised_guessed last number gs rows h = ap (are_first gs 0) (same rows) ∙ h
+  where
+    same : (rows : List ItemRow)
+        → map (item_spot (length gs)) (map (raised_item last number) rows)
+        ≡ map (item_spot (length gs)) rows
+    same [] = refl
+    same (r ∷ rows) = ap (λ (l : List ℕ). left_of r.number (length gs) ∷ l) (same rows)

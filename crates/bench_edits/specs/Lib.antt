@@ -3,6 +3,7 @@ pub mod Laws
 pub mod Owed
 pub mod Readings
 pub mod Solved
+pub mod ItemTexts
 pub mod Settled
 pub mod Kept
 pub mod BenchCells

@@ -101,12 +101,15 @@ fn put_models(parts: &mut Parts, made: ModelParts, number: u64)
         mut rows,
         faults,
         mut items,
+        item_guesses,
         slots,
         places,
     } = made;
     raise_models(&mut rows, parts.last, number);
     raise_items(&mut items.rows, parts.last, number);
     parts.table.models = rows;
+    parts.table.items.clear();
+    parts.table.item_guesses = item_guesses;
     parts.table.items = items.rows;
     parts.table.places.are_listed = false;
     parts.table.slots = slots;

@@ -1,6 +1,7 @@
 //! What is made for an edit.
 
 ghost use Rattle.std.specs.Prelude.{◌≡◌, ◌≤◌, ◌||◌, not, true, vec_len};
+ghost use Rattle.bench_nodes.specs.Guesses.{are_items_guessed};
 ghost use Rattle.bench_nodes.specs.Places.{are_apart, lists_if, lists_in};
 
 use bench_nodes::{ModelRow, Slot, SlotPlaces, TestRow};
@@ -17,11 +18,14 @@ pub struct ModelParts {
     pub faults: Vec<Option<ModelFault>>,
     /// The items of all models.
     pub items: ItemLists,
+    /// The guesses of where these stand.
+    pub item_guesses: Vec<usize>,
     /// The nodes that each test has.
     pub slots: Vec<Slot>,
     /// Where these stand.
     pub places: SlotPlaces,
     ghost few_slots: { vec_len slots ≤ 65536 },
+    ghost guessed: { are_items_guessed item_guesses.items items.rows.items ≡ true },
     ghost apart: { (not places.are_listed || are_apart slots.items) ≡ true },
     ghost listed: { lists_in places.are_listed places.users.items
         ≡ lists_if places.are_listed slots.items },

@@ -10,8 +10,13 @@ fn keep_owners(parts: &Parts, models: &ModelParts) -> bool
     ensures { result ≡ keep_owners parts.now models.now }
 {
     let items = &models.items;
-    keep_kinds(&parts.table.items, &parts.kinds, &items.rows, &items.kinds)
-        && keep_models(&parts.table.models, &models.rows)
+    keep_kinds(
+        &parts.table.items,
+        &parts.kinds,
+        &models.item_guesses,
+        &items.rows,
+        &items.kinds,
+    ) && keep_models(&parts.table.models, &models.rows)
 }
 
 /// Whether the memo of some node may have to go with an edit for which this was made: it drops a

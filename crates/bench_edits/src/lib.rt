@@ -18,12 +18,14 @@ pub mod cell_laws;
 mod commit;
 mod edited;
 mod gone;
+mod item_texts;
 pub mod laws;
 mod models;
 pub mod node_laws;
 mod prepare;
 mod slots;
 mod tests;
+mod texts;
 mod touched;
 
 pub use commit::commit_parts;

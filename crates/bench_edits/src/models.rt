@@ -1,19 +1,21 @@
 //! The rows, faults and items of models after an edit.
 
-ghost use Rattle.std.specs.Prelude.{◌≡◌, ◌++◌, List, IfOk, OnOk, map, option_map, remove, slice_get};
+ghost use Rattle.std.specs.Prelude.{◌≡◌, ◌++◌, ℕ, List, Option, IfOk, OnOk, map, remove};
 ghost use Rattle.bench_texts.specs.BenchTexts.{put_at};
 ghost use Rattle.bench_texts.specs.Replacements.{models_with};
-ghost use Rattle.bench_parts.specs.Items.{ItemFact, text_part, facts_of, AreListsOf};
-ghost use Rattle.bench_parts.specs.Written.{text_in};
+ghost use Rattle.bench_parts.specs.Contents.{PartContent};
+ghost use Rattle.bench_parts.specs.Items.{ItemFact, facts_of, AreListsOf};
 ghost use Rattle.bench_edits.specs.Edited.{held_models, models_before, model_before, model_id, IsModelMade, AreModelsMade};
 ghost use Rattle.bench_edits.specs.Readings.{fault_in, facts_in, all_facts, named_text};
+ghost use Rattle.bench_edits.specs.ItemTexts.{text_by_number};
 
+use crate::item_texts::ItemTexts;
+use crate::texts::{item_text, texts_of};
 use bench_nodes::ModelRow;
 use bench_parts::{HeldModel, ItemLists, ModelItems, Parts, model_row};
 use bench_texts::{NamedModel, Reading, Replacement};
 use binding_graph::ModelFault;
 use std::alloc::{AllocError, Global};
-use text_values::Item;
 
 // The models that are there, with their faults.
 #[tactic(auto, using(crate::proofs::Making::all_held))]
@@ -227,48 +229,19 @@ fn items_in(model: &NamedModel) -> ModelItems<'_>
     }
 }
 
-// The item at an index.
-fn item_at(items: &[Item], index: usize) -> Option<&Item>
-    ensures { text_part (option_map (λ x. x.now) result) ≡ text_part (slice_get items.now index) }
-{
-    items.get(index)
-}
-
-// What the item of that number of a model says.
-#[tactic(auto, using(crate::proofs::Making::text_found))]
-fn text_in(model: &NamedModel, number: u64) -> Option<&Item>
-    ensures { text_part (option_map (λ x. x.now) result)
-        ≡ text_in model.now.numbers.items model.now.text.items.items number }
-{
-    let index = model.item_index(number);
-    item_at(&model.text().items, index)
-}
-
-// What the item of that number says.
-fn item_text(models: &[NamedModel], number: u64) -> Option<&Item>
-    ensures { text_part (option_map (λ x. x.now) result) ≡ named_text models.now number }
-{
-    for model in models {
-        match text_in(model, number) {
-            Some(item) => return Some(item),
-            None => {}
-        }
-    }
-    None
-}
-
-// Adds the items of a model, over the parts and models before the edit. Errors: want of memory.
+// Adds the items of a model, over the parts and texts before the edit. Errors: want of memory.
 fn add_items(
     alloc: Global,
     lists: &mut ItemLists,
     fresh: u64,
     parts: &Parts,
-    before: &[NamedModel],
+    before: &ItemTexts<'_>,
     model: &NamedModel,
 ) -> Result<(), AllocError>
-    ensures { (facts : List ItemFact)
-        → AreListsOf fresh parts.now (named_text before.now) facts lists.old
-        → OnOk result (AreListsOf fresh parts.now (named_text before.now)
+    ensures { (texts : ℕ → Option PartContent) (facts : List ItemFact)
+        → ((number : ℕ) → text_by_number before.now number ≡ texts number)
+        → AreListsOf fresh parts.now texts facts lists.old
+        → OnOk result (AreListsOf fresh parts.now texts
         (facts ++ facts_in model.now) lists.new) }
 {
     let items = items_in(model);
@@ -290,9 +263,10 @@ pub(crate) fn model_items(
     ensures { IfOk result (AreListsOf fresh parts.now (named_text before.now)
         (all_facts (map (λ m. m.now) models.now))) }
 {
+    let said = texts_of(alloc, before)?;
     let mut lists = ItemLists::new(alloc);
     for model in models {
-        add_items(alloc, &mut lists, fresh, parts, before, model)?;
+        add_items(alloc, &mut lists, fresh, parts, &said, model)?;
     }
     Ok(lists)
 }

@@ -7,7 +7,7 @@ use crate::edited::{EditedParts, ModelParts};
 use crate::models::{model_faults, model_items, model_rows, models_after, models_before};
 use crate::slots::all_slots;
 use crate::tests::made_test;
-use bench_nodes::SlotPlaces;
+use bench_nodes::{SlotPlaces, item_guesses};
 use bench_parts::{HeldModel, Parts, next_number};
 use bench_slots::Histories;
 use bench_texts::{NamedModel, Replacement};
@@ -47,8 +47,10 @@ fn model_parts(
     let rows = model_rows(alloc, fresh, before, models)?;
     let faults = model_faults(alloc, models)?;
     let items = model_items(alloc, fresh, parts, was, models)?;
+    let item_guesses = item_guesses(alloc, &items.rows)?;
     let histories = Histories {
         rows: &items.rows,
+        guesses: &item_guesses,
         roles: &items.roles,
     };
     let slots = all_slots(alloc, &histories, &rows, models)?;
@@ -60,6 +62,7 @@ fn model_parts(
         rows,
         faults,
         items,
+        item_guesses,
         slots,
         places,
     })

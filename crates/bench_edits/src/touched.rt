@@ -53,6 +53,7 @@ fn touched_by_models(
         slots: &models.slots,
         places: &models.places,
         items: &models.items.rows,
+        item_guesses: &models.item_guesses,
         models: &models.rows,
     };
     let names = touched_slots(alloc, &parts.table, &new)?;

@@ -1,3 +1,4 @@
+pub mod Guessing
 pub mod Laws
 pub mod Lists
 pub mod Lookups

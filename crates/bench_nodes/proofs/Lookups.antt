@@ -111,7 +111,7 @@ has_no_row (u ∷ ts) id h = elim (cases_Bool (u.id == id)) [
 
 -- ---- slots
 
-or_true : (a : Bool) → a || true ≡ true
+pub or_true : (a : Bool) → a || true ≡ true
 or_true true = refl
 or_true false = refl
 

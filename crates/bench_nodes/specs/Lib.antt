@@ -1,3 +1,4 @@
+pub mod Guesses
 pub mod Nodes
 pub mod Order
 pub mod Places

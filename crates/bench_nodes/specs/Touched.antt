@@ -12,7 +12,7 @@ use Rattle.bench_nodes.specs.declared.table.Slot.{Slot}
 use Rattle.bench_nodes.specs.declared.table.SlotKey.{SlotKey}
 use Rattle.bench_nodes.specs.declared.table.SlotKey.TheVariants as slots
 use Rattle.bench_nodes.specs.declared.table.TestRow.{TestRow}
-use Rattle.bench_nodes.specs.declared.touched.NewSlots.{NewSlots}
+use Rattle.bench_nodes.specs.declared.new_slots.NewSlots.{NewSlots}
 use Rattle.bench_nodes.specs.Nodes.{has_slot, slot_keys, item_stamp, fault_stamp, stamp_in}
 use Rattle.bench_nodes.specs.Places.{slot_name, node_named}
 

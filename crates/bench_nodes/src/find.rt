@@ -4,24 +4,13 @@ ghost use Rattle.std.specs.Prelude.{option_map, ◌==◌, IfSome, true, Some, �
 ghost use Rattle.std.specs.List.{position_or_len};
 ghost use Rattle.memo_core.specs.Names.{kind_number};
 ghost use Rattle.bench_nodes.specs.Places.{is_after, are_rising};
-ghost use Rattle.bench_nodes.specs.Nodes.{item_stamp, fault_stamp, stamp_in, test_stamp, has_test_row, is_slot, has_slot, slot_keys, row_of};
+ghost use Rattle.bench_nodes.specs.Nodes.{fault_stamp, stamp_in, test_stamp, has_test_row, is_slot, has_slot, slot_keys, row_of};
 
 use crate::places::guessed;
 use crate::table::{
-    CONDITION, INIT, ItemRow, LOCATIONS, ModelRow, NodeTable, OBSERVED, Slot, SlotKey, TestRow,
+    CONDITION, INIT, LOCATIONS, ModelRow, NodeTable, OBSERVED, Slot, SlotKey, TestRow,
 };
 use memo_core::keys::Kind;
-
-pub(crate) fn item_stamp(items: &[ItemRow], number: u64) -> u64
-    ensures { result ≡ item_stamp items.now number }
-{
-    for item in items {
-        if item.number == number {
-            return item.stamp;
-        }
-    }
-    0
-}
 
 pub(crate) fn fault_stamp(models: &[ModelRow], id: u64) -> u64
     ensures { result ≡ fault_stamp models.now id }

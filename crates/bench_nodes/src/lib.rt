@@ -4,6 +4,8 @@
 #![tactic(auto)]
 
 mod find;
+mod guesses;
+mod new_slots;
 mod nodes;
 mod places;
 mod table;
@@ -11,9 +13,11 @@ mod touched;
 mod users;
 
 pub use find::are_rising;
+pub use guesses::{item_guesses, item_index};
+pub use new_slots::NewSlots;
 pub use places::{SlotName, SlotPlaces};
 pub use table::{
     CONDITION, FAULT, INIT, ITEM, ItemRow, LOCATIONS, ModelRow, NodeTable, OBSERVED, Slot, SlotKey,
     THREAD, TestRow,
 };
-pub use touched::{NewSlots, all_names, nodes_named, nodes_of_tests, test_slots, touched_slots};
+pub use touched::{all_names, nodes_named, nodes_of_tests, test_slots, touched_slots};

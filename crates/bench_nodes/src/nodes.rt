@@ -4,9 +4,8 @@ ghost use Rattle.std.specs.Prelude.{◌≡◌, ◌+◌, ◌*◌, ◌<◌, Some, 
 ghost use Rattle.memo_core.specs.Tests.{has_node};
 ghost use Rattle.bench_nodes.specs.Nodes.{node_of, used_in, key_at, keys_at, row_of, space_parts, space_keys};
 
-use crate::find::{
-    fault_stamp, has_slot, has_test, item_stamp, row_of, slot_keys, test_index, test_stamp,
-};
+use crate::find::{fault_stamp, has_slot, has_test, row_of, slot_keys, test_index, test_stamp};
+use crate::guesses::placed_stamp;
 use crate::table::{FAULT, INIT, ITEM, LOCATIONS, NodeTable, Slot, SlotKey, THREAD, TestRow};
 use crate::users::{user_count, user_node};
 use memo_core::keys::{Key, Kind, Node};
@@ -126,7 +125,7 @@ impl NodeTable {
         ensures { result ≡ part_stamp self.now part of }
     {
         if part == ITEM {
-            item_stamp(&self.items, of)
+            placed_stamp(&self.item_guesses, &self.items, of)
         } else if part == FAULT {
             fault_stamp(&self.models, of)
         } else {

@@ -1,12 +1,15 @@
 //! Where the slots of a table stand, and which slots use them: what is looked up in place of a
 //! search.
 
-ghost use Rattle.std.specs.Prelude.{◌≡◌, ◌||◌, ◌++◌, ◌∷◌, not, true, false, List, [], IfOk, IfSome, Some, map, slice_get, option_map};
-ghost use Rattle.bench_nodes.specs.Slots.{is_slot};
+ghost use Rattle.std.specs.Prelude.{◌≡◌, ◌<◌, ◌||◌, ◌++◌, ◌∷◌, not, true, false, List, [], IfOk, IfSome, Some, length, map, take, slice_get, option_map};
+ghost use Rattle.bench_nodes.specs.Guesses.{spot_of, are_slots_guessed};
+ghost use Rattle.bench_nodes.specs.Slots.{is_slot, has_slot};
 ghost use Rattle.bench_nodes.specs.Places.{are_apart, user_names, user_lists, lists_if, lists_in, slot_names, slot_name, put_at, with_user};
 ghost use Rattle.bench_nodes.specs.declared.places.SlotName.{SlotName as NameOfSlot};
+ghost use Rattle.bench_nodes.specs.declared.table.Slot.{Slot as SlotRecord};
 
 use crate::find::{has_slot_among, is_slot};
+use crate::guesses::{left_of, no_guesses, put_guess};
 use crate::table::{Slot, SlotKey};
 use crate::users::uses;
 use memo_core::keys::Kind;
@@ -44,14 +47,16 @@ impl Drop for SlotPlaces {
     }
 }
 
-// Where the guess for a slot stands among so many.
-fn spot(kind: Kind, of: u64, count: usize) -> Option<usize> {
-    let left = of.checked_rem(count as u64)? as usize;
+// The spot of a slot among so many.
+fn spot_of(kind: Kind, of: u64, count: usize) -> usize
+    ensures { result ≡ spot_of kind of count }
+{
+    let left = left_of(of, count);
     match kind {
-        Kind::Space => Some(left),
-        Kind::Group => Some(left),
-        Kind::Check => Some(left),
-        Kind::Verdict => Some(count.saturating_sub(1).saturating_sub(left)),
+        Kind::Space => left,
+        Kind::Group => left,
+        Kind::Check => left,
+        Kind::Verdict => count.saturating_sub(1).saturating_sub(left),
     }
 }
 
@@ -60,8 +65,7 @@ pub(crate) fn guessed(guesses: &[usize], slots: &[Slot], kind: Kind, of: u64) ->
     ensures { IfSome result (λ at. option_map (is_slot kind of) (slice_get slots.now at)
         ≡ Some true) }
 {
-    let spot = spot(kind, of, guesses.len())?;
-    let at = *guesses.get(spot)?;
+    let at = *guesses.get(spot_of(kind, of, guesses.len()))?;
     let slot = slots.get(at)?;
     if is_slot(kind, of, slot) {
         Some(at)
@@ -70,29 +74,41 @@ pub(crate) fn guessed(guesses: &[usize], slots: &[Slot], kind: Kind, of: u64) ->
     }
 }
 
-// A guess for each slot.
-fn guesses_of(alloc: Global, slots: &[Slot]) -> Result<Vec<usize>, AllocError> {
+// Guesses for these slots: at each spot the first of its slots.
+fn guesses_of(alloc: Global, slots: &[Slot]) -> Result<Vec<usize>, AllocError>
+    ensures { IfOk result (λ v. are_slots_guessed v.items slots.now ≡ true) }
+{
     let count = slots.len().saturating_mul(4);
-    let mut guesses = Vec::with_capacity(alloc, count)?;
-    for _ in 0..count {
-        guesses.push(usize::MAX)?;
-    }
+    let mut guesses = no_guesses(alloc, count)?;
     for (index, slot) in slots.iter().enumerate() {
-        if let Some(spot) = spot(slot.kind, slot.of, count) {
-            if let Some(guess) = guesses.get_mut(spot) {
-                *guess = index;
-            }
-        }
+        put_guess(&mut guesses, spot_of(slot.kind, slot.of, count), index);
     }
     Ok(guesses)
 }
 
-// Whether no two slots are of one kind and number.
-fn are_apart(slots: &[Slot]) -> bool
+// Whether no slot before the one at an index is of its kind and number. The guesses are those for
+// the slots.
+fn is_new(guesses: &[usize], slots: &[Slot], index: usize) -> bool
+    requires guessed { are_slots_guessed guesses.now slots.now ≡ true }
+    requires there { index < length slots.now }
+    ensures { (s : SlotRecord) → slice_get slots.now index ≡ Some s
+        → result ≡ not (has_slot (take index slots.now) s.kind s.of) }
+{
+    let slot = &slots[index];
+    let spot = spot_of(slot.kind, slot.of, guesses.len());
+    if spot < guesses.len() && guesses[spot] == index {
+        return true;
+    }
+    !has_slot_among(&slots[..index], slot.kind, slot.of)
+}
+
+// Whether no two slots are of one kind and number. The guesses are those for the slots.
+fn are_apart(guesses: &[usize], slots: &[Slot]) -> bool
+    requires { are_slots_guessed guesses.now slots.now ≡ true }
     ensures { result ≡ are_apart slots.now }
 {
-    for (index, slot) in slots.iter().enumerate() {
-        if has_slot_among(&slots[index + 1..], slot.kind, slot.of) {
+    for index in 0..slots.len() {
+        if !is_new(guesses, slots, index) {
             return false;
         }
     }
@@ -249,10 +265,13 @@ impl SlotPlaces {
         ensures listed { IfOk result (λ p. lists_in p.are_listed p.users.items
             ≡ lists_if p.are_listed slots.now) }
     {
-        if slots.len() > MOST_LISTED || !are_apart(slots) {
+        if slots.len() > MOST_LISTED {
             return Ok(SlotPlaces::new(alloc));
         }
         let guesses = guesses_of(alloc, slots)?;
+        if !are_apart(&guesses, slots) {
+            return Ok(SlotPlaces::new(alloc));
+        }
         let users = match guessed_lists(alloc, &guesses, slots)? {
             Some(users) => users,
             None => user_lists(alloc, slots)?,

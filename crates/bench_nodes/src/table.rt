@@ -1,6 +1,7 @@
 //! The table of the stamps and of the nodes that each test has.
 
 ghost use Rattle.std.specs.Prelude.{◌≡◌, ◌≤◌, ◌||◌, not, true, [], vec_len};
+ghost use Rattle.bench_nodes.specs.Guesses.{are_items_guessed};
 ghost use Rattle.bench_nodes.specs.Places.{are_rising, are_apart, lists_if, lists_in};
 
 use crate::places::SlotPlaces;
@@ -96,6 +97,8 @@ pub struct NodeTable {
     pub models: Vec<ModelRow>,
     /// The items of all models.
     pub items: Vec<ItemRow>,
+    /// The guesses of where these stand.
+    pub item_guesses: Vec<usize>,
     /// The nodes that each test has: each behind those that it uses.
     pub slots: Vec<Slot>,
     /// Where the slots stand.
@@ -105,6 +108,7 @@ pub struct NodeTable {
     ghost few_tests: { vec_len tests ≤ 65536 },
     ghost few_slots: { vec_len slots ≤ 65536 },
     ghost rising: { (not is_rising || are_rising tests.items) ≡ true },
+    ghost guessed: { are_items_guessed item_guesses.items items.items ≡ true },
     ghost apart: { (not places.are_listed || are_apart slots.items) ≡ true },
     ghost listed: { lists_in places.are_listed places.users.items
         ≡ lists_if places.are_listed slots.items },
@@ -116,6 +120,7 @@ impl Drop for NodeTable {
             tests: _,
             models: _,
             items: _,
+            item_guesses: _,
             slots: _,
             places: _,
             is_rising: _,
@@ -135,6 +140,7 @@ impl NodeTable {
             tests: Vec::new(alloc),
             models: Vec::new(alloc),
             items: Vec::new(alloc),
+            item_guesses: Vec::new(alloc),
             slots: Vec::new(alloc),
             places: SlotPlaces::new(alloc),
             is_rising: false,

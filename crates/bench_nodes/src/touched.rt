@@ -5,11 +5,11 @@ ghost use Rattle.bench_nodes.specs.Touched.{same_slot_key, same_slot_keys, keeps
 ghost use Rattle.bench_nodes.specs.Places.{slot_name};
 ghost use Rattle.bench_nodes.specs.Nodes.{has_slot};
 
-use crate::find::{
-    fault_stamp, has_slot, has_slot_among, item_stamp, number_of, slot_keys, stamp_in,
-};
-use crate::places::{SlotName, SlotPlaces, guessed};
-use crate::table::{FAULT, ItemRow, ModelRow, NodeTable, Slot, SlotKey, TestRow};
+use crate::find::{fault_stamp, has_slot, has_slot_among, number_of, slot_keys, stamp_in};
+use crate::guesses::placed_stamp;
+use crate::new_slots::NewSlots;
+use crate::places::{SlotName, guessed};
+use crate::table::{FAULT, NodeTable, Slot, SlotKey, TestRow};
 use memo_core::keys::{Kind, Node};
 use std::alloc::{AllocError, Global};
 
@@ -43,26 +43,16 @@ fn are_same_keys(a: &[SlotKey], b: &[SlotKey]) -> bool
 
 // ---- an edit of models
 
-/// The slots after an edit of models, where they stand, and the items and models with their stamps.
-#[derive(Clone, Copy)]
-pub struct NewSlots<'a> {
-    /// The slots.
-    pub slots: &'a [Slot],
-    /// Where they stand.
-    pub places: &'a SlotPlaces,
-    /// The items of all models.
-    pub items: &'a [ItemRow],
-    /// The models.
-    pub models: &'a [ModelRow],
-}
-
 // Whether the item or fault that an input names has the same stamp in both.
 fn keeps_stamp(table: &NodeTable, new: &NewSlots<'_>, key: SlotKey) -> bool
     ensures { result ≡ keeps_stamp (rows_of table.now) (new_rows new.now) key }
 {
     match key {
         SlotKey::Test(part) => part > FAULT,
-        SlotKey::Item(number) => item_stamp(&table.items, number) == item_stamp(new.items, number),
+        SlotKey::Item(number) => {
+            placed_stamp(&table.item_guesses, &table.items, number)
+                == placed_stamp(new.item_guesses, new.items, number)
+        }
         SlotKey::Fault(id) => fault_stamp(&table.models, id) == fault_stamp(new.models, id),
         SlotKey::Value(_, _, _) => true,
     }

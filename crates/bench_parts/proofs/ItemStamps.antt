@@ -52,36 +52,6 @@ content_past (x ∷ xs) (r ∷ rs) n i p past =
     by_test true p later = absurd (omega (arith, p, past))
     by_test false p later = later (omega (arith, p)) (omega (arith, p, past))
 
-pub stamp_at : (is : List ItemRow) (n i : ℕ) (row : ItemRow)
-    → position_or_len (λ x. x.number == n) is ≡ i → slice_get is i ≡ Some row
-    → item_stamp is n ≡ row.stamp
-stamp_at [] n i row p at = absurd (let e : None ≡ Some row = at in cc)
-stamp_at (x ∷ xs) n zero row p at = by_test (x.number == n) p
-  where
-    by_test : (b : Bool) → cond (not b) (1 + position_or_len (λ x. x.number == n) xs) 0 ≡ 0
-        → (if b then x.stamp else item_stamp xs n) ≡ row.stamp
-    by_test true p =
-        let e : Some x ≡ Some row = at in let same : x ≡ row = cc in ap (λ y. y.stamp) same
-    by_test false p = absurd (omega (arith, p))
-stamp_at (x ∷ xs) n (suc i) row p at = by_test (x.number == n) p (λ q. stamp_at xs n i row q at)
-  where
-    by_test : (b : Bool) → cond (not b) (1 + position_or_len (λ x. x.number == n) xs) 0 ≡ suc i
-        → (position_or_len (λ x. x.number == n) xs ≡ i → item_stamp xs n ≡ row.stamp)
-        → (if b then x.stamp else item_stamp xs n) ≡ row.stamp
-    by_test true p later = absurd (omega (arith, p))
-    by_test false p later = later (omega (arith, p))
-
-pub stamp_past : (is : List ItemRow) (n i : ℕ) → position_or_len (λ x. x.number == n) is ≡ i
-    → length is ≤ i → item_stamp is n ≡ 0
-stamp_past [] n i p past = refl
-stamp_past (x ∷ xs) n i p past = by_test (x.number == n) p (λ q l. stamp_past xs n (i - 1) q l)
-  where
-    by_test : (b : Bool) → cond (not b) (1 + position_or_len (λ x. x.number == n) xs) 0 ≡ i
-        → (position_or_len (λ x. x.number == n) xs ≡ i - 1 → length xs ≤ i - 1
-        → item_stamp xs n ≡ 0) → (if b then x.stamp else item_stamp xs n) ≡ 0
-    by_test true p later = absurd (omega (arith, p, past))
-    by_test false p later = later (omega (arith, p)) (omega (arith, p, past))
-
 -- ---- roles
 
 pub role_within : (rs : List ResolvedItem) (i : ℕ) → i < length rs

@@ -1,14 +1,17 @@
 //! What jobs are given of a part, where it lies.
 
-ghost use Rattle.std.specs.Prelude.{◌≡◌, map, option_map, slice_get};
+ghost use Rattle.std.specs.Prelude.{◌≡◌, true, map, option_map, slice_get};
+ghost use Rattle.bench_nodes.specs.Guesses.{are_items_guessed};
 ghost use Rattle.text_values.specs.TestValue.{thread_steps};
 ghost use Rattle.bench_parts.specs.Contents.{OfThread, item_content, fault_content, test_part, test_content, content, parts_state};
 ghost use Rattle.bench_parts.specs.Views.{viewed_content};
 
-use crate::find::{item_index, model_index, test_at};
+use crate::find::{model_index, test_at};
 use crate::parts::Parts;
 use bench_items::SharedItem;
-use bench_nodes::{CONDITION, FAULT, INIT, ITEM, ItemRow, LOCATIONS, ModelRow, OBSERVED, THREAD};
+use bench_nodes::{
+    CONDITION, FAULT, INIT, ITEM, ItemRow, LOCATIONS, ModelRow, OBSERVED, THREAD, item_index,
+};
 use binding_graph::ModelFault;
 use text_values::{Condition, InitEntry, Name, Place, Test, Thread};
 
@@ -24,14 +27,17 @@ pub(crate) enum Content<'p> {
     Thread(&'p Thread),
 }
 
+// The guesses are those for the items.
 fn item_content<'p>(
+    guesses: &[usize],
     items: &'p [ItemRow],
     roles: &'p [Option<SharedItem>],
     number: u64,
 ) -> Option<Content<'p>>
+    requires { are_items_guessed guesses.now items.now ≡ true }
     ensures { option_map viewed_content result ≡ item_content items.now roles.now number }
 {
-    let index = item_index(items, number);
+    let index = item_index(guesses, items, number);
     if index < items.len() && index < roles.len() {
         match &roles[index] {
             Some(item) => Some(Content::Role(item)),
@@ -109,7 +115,12 @@ pub(crate) fn content_at<'p>(
     ensures { option_map viewed_content result ≡ content (parts_state parts.now tests.now) part of }
 {
     if part == ITEM {
-        item_content(&parts.table.items, &parts.roles, of)
+        item_content(
+            &parts.table.item_guesses,
+            &parts.table.items,
+            &parts.roles,
+            of,
+        )
     } else if part == FAULT {
         fault_content(&parts.table.models, &parts.faults, of)
     } else {

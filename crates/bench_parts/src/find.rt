@@ -1,11 +1,12 @@
 //! Where the rows of a table stand, by number.
 
-ghost use Rattle.std.specs.Prelude.{◌≡◌, ◌==◌, ◌≤◌, length, option_map};
+ghost use Rattle.std.specs.Prelude.{◌≡◌, ◌==◌, ◌≤◌, true, length, option_map};
 ghost use Rattle.std.specs.List.{position_or_len};
+ghost use Rattle.bench_nodes.specs.Guesses.{are_items_guessed};
 ghost use Rattle.bench_parts.specs.States.{has_kind, has_model, is_kind};
 ghost use Rattle.bench_parts.specs.Views.{test_view, view_of};
 
-use bench_nodes::{ItemRow, ModelRow, TestRow};
+use bench_nodes::{ItemRow, ModelRow, TestRow, item_index};
 use memo_core::keys::Kind;
 use text_values::{Name, Test};
 
@@ -19,18 +20,6 @@ pub(crate) fn model_index(models: &[ModelRow], id: u64) -> usize
         }
     }
     models.len()
-}
-
-pub(crate) fn item_index(items: &[ItemRow], number: u64) -> usize
-    ensures found { result ≡ position_or_len (λ i. i.number == number) items.now }
-    ensures within { result ≤ length items.now }
-{
-    for (index, item) in items.iter().enumerate() {
-        if item.number == number {
-            return index;
-        }
-    }
-    items.len()
 }
 
 pub(crate) fn has_model(models: &[ModelRow], id: u64) -> bool
@@ -53,11 +42,19 @@ fn is_kind(kind: Kind, own: Option<Kind>) -> bool
     }
 }
 
-// Whether the item of that number is a node of that kind by its text.
-pub(crate) fn has_kind(items: &[ItemRow], kinds: &[Option<Kind>], kind: Kind, number: u64) -> bool
+/// Whether the item of that number is a node of that kind by its text. The guesses are those for
+/// the items.
+pub(crate) fn has_kind(
+    guesses: &[usize],
+    items: &[ItemRow],
+    kinds: &[Option<Kind>],
+    kind: Kind,
+    number: u64,
+) -> bool
+    requires { are_items_guessed guesses.now items.now ≡ true }
     ensures { result ≡ has_kind items.now kinds.now kind number }
 {
-    let index = item_index(items, number);
+    let index = item_index(guesses, items, number);
     if index < items.len() && index < kinds.len() {
         is_kind(kind, kinds[index])
     } else {

@@ -76,10 +76,11 @@ fn has_own(parts: &Parts, kind: Kind, of: u64) -> bool
     ensures { result ≡ has_own parts.now kind of }
 {
     let items = &parts.table.items;
+    let guesses = &parts.table.item_guesses;
     match kind {
         Kind::Space => true,
-        Kind::Group => has_kind(items, &parts.kinds, Kind::Group, of),
-        Kind::Check => has_kind(items, &parts.kinds, Kind::Check, of),
+        Kind::Group => has_kind(guesses, items, &parts.kinds, Kind::Group, of),
+        Kind::Check => has_kind(guesses, items, &parts.kinds, Kind::Check, of),
         Kind::Verdict => has_model(&parts.table.models, of),
     }
 }

@@ -1,8 +1,8 @@
 //! The stamps of the parts of the texts, and what jobs are given of these parts beside the tests.
 
-use crate::find::{item_index, model_index};
+use crate::find::model_index;
 use bench_items::SharedItem;
-use bench_nodes::NodeTable;
+use bench_nodes::{NodeTable, item_index};
 use binding_graph::ModelFault;
 use memo_core::keys::Kind;
 use std::alloc::Global;
@@ -84,6 +84,6 @@ impl Parts {
             ≡ position_or_len (λ i. i.number == number) self.now.table.items.items }
         ensures within { result ≤ length self.now.table.items.items }
     {
-        item_index(&self.table.items, number)
+        item_index(&self.table.item_guesses, &self.table.items, number)
     }
 }

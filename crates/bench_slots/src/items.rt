@@ -6,7 +6,8 @@ ghost use Rattle.bench_items.specs.Naming.{seen_names_in};
 ghost use Rattle.bench_nodes.specs.declared.table.SlotKey.TheVariants as slots;
 ghost use Rattle.bench_slots.specs.Slots.{plain, number_at, histories_in, no_name, input_name, function_key, name_key, space_key, item_keys, slots_of, used_slots};
 
-use crate::histories::{Histories, item_history};
+use crate::find::item_history;
+use crate::histories::Histories;
 use bench_items::number_in_history;
 use bench_nodes::{Slot, SlotKey};
 use binding_graph::{Input, ResolvedItem, Role};
@@ -36,18 +37,19 @@ fn function_key(numbers: &[u64], function: usize) -> SlotKey
     SlotKey::Item(number_at(numbers, function))
 }
 
-fn function_keys(
-    alloc: Global,
+// Adds the texts of these functions.
+fn put_functions(
+    keys: &mut Vec<SlotKey>,
     numbers: &[u64],
     functions: &[usize],
-) -> Result<Vec<SlotKey>, AllocError>
-    ensures { IfOk result (λ v. v.items ≡ map (function_key numbers.now) functions.now) }
+) -> Result<(), AllocError>
+    ensures { IfOk result (λ _. keys.new.items
+        ≡ keys.old.items ++ map (function_key numbers.now) functions.now) }
 {
-    let mut keys = Vec::with_capacity(alloc, functions.len())?;
     for function in functions {
         keys.push(function_key(numbers, *function))?;
     }
-    Ok(keys)
+    Ok(())
 }
 
 // The name at a position of an item, an empty one where there is none.
@@ -88,26 +90,27 @@ fn name_key(
         result ≡ name_key all numbers.now items.now input.now }
 {
     let own = number_at(numbers, input.item);
-    let history = item_history(histories.rows, histories.roles, own);
+    let history = item_history(histories, own);
     let number = number_in_history(history, input_name(items, input));
     SlotKey::Value(Kind::Group, own, number as u64)
 }
 
-fn name_keys(
-    alloc: Global,
+// Adds the columns of these names.
+fn put_names(
+    keys: &mut Vec<SlotKey>,
     histories: &Histories<'_>,
     numbers: &[u64],
     items: &[ResolvedItem],
     inputs: &[Input],
-) -> Result<Vec<SlotKey>, AllocError>
+) -> Result<(), AllocError>
     ensures { let all = histories_in histories.now in
-        IfOk result (λ v. v.items ≡ map (name_key all numbers.now items.now) inputs.now) }
+        IfOk result (λ _. keys.new.items
+        ≡ keys.old.items ++ map (name_key all numbers.now items.now) inputs.now) }
 {
-    let mut keys = Vec::with_capacity(alloc, inputs.len())?;
     for input in inputs {
         keys.push(name_key(histories, numbers, items, input))?;
     }
-    Ok(keys)
+    Ok(())
 }
 
 // The inputs of an item of that number.
@@ -122,13 +125,12 @@ fn item_keys(
     ensures { let all = histories_in histories.now in
         IfOk result (λ v. v.items ≡ item_keys all numbers.now items.now own item.now) }
 {
-    let functions = function_keys(alloc, numbers, &item.functions)?;
-    let names = name_keys(alloc, histories, numbers, items, &item.inputs)?;
-    let mut keys = Vec::new(alloc);
+    let others = item.functions.len().saturating_add(item.inputs.len());
+    let mut keys = Vec::with_capacity(alloc, others.saturating_add(2))?;
     keys.push(SlotKey::Item(own))?;
-    keys.extend_from_slice(&functions)?;
+    put_functions(&mut keys, numbers, &item.functions)?;
     keys.push(space_key())?;
-    keys.extend_from_slice(&names)?;
+    put_names(&mut keys, histories, numbers, items, &item.inputs)?;
     Ok(keys)
 }
 

@@ -3,6 +3,7 @@
 //! models.
 #![tactic(auto)]
 
+mod find;
 mod histories;
 mod items;
 mod kinds;

@@ -13,9 +13,9 @@ pub loop-model-preserved : goal.loop-model-preserved
 loop-model-preserved c =
     rw (facts_more c.args.models.now c.loop-model.model-index c.model-item.result (omega arith)
     c.model-item.is)
-    (c.in_ok-add_items.ensures
+    (c.in_ok-add_items.ensures (named_text c.args.before.now)
     (all_facts (map (λ m. m.now) (take c.loop-model.model-index c.args.models.now)))
-    c.loop-model.invariant)
+    c.in_ok-said.ensures c.loop-model.invariant)
 
 pub returns : goal.returns
 returns c =

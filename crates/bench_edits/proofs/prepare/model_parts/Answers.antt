@@ -6,6 +6,6 @@ returns c = record {
   faults = c.in_ok-faults.ensures;
   items = rw c.next_number-fresh.ensures at c.in_ok-items.ensures;
   slots =
-      rw (c.deref.ensures.value, c.deref-2.ensures.value, c.deref-3.ensures.value) at
+      rw (c.deref-2.ensures.value, c.deref-4.ensures.value, c.deref-5.ensures.value) at
       c.in_ok-slots.ensures;
 }

@@ -1,7 +1,8 @@
 use Rattle.std.proofs.Common.{◌<◌, ◌≤◌, length, slice_get, refl, ap, sym, ◌∙◌, rules}
 use Rattle.std.proofs.lemmas.Option.{slice_get_read}
 use Rattle.bench_parts.specs.Contents.{role_part}
-use Rattle.bench_parts.proofs.ItemStamps.{found_role, content_at, content_past, stamp_at, stamp_past}
+use Rattle.bench_nodes.proofs.Guessing.{stamp_at, stamp_past}
+use Rattle.bench_parts.proofs.ItemStamps.{found_role, content_at, content_past}
 use Rattle.bench_parts.proofs.held.held_item.Goals as goal
 
 pub returns-then-index-len-clause-role : goal.returns-then-index-len-clause-role
