@@ -4,6 +4,9 @@ ghost use denote.Ref.{Bor};
 ghost use Rattle.std.specs.Prelude.{List, IfOk};
 ghost use Rattle.text_values.specs.declared.model.ModelText.{ModelText};
 ghost use Rattle.candidates.specs.Parts.{AreSpaceParts};
+ghost use Rattle.verdict.specs.Evaluated.{IsEvaluatedAs};
+ghost use Rattle.from_scratch.specs.Answers.{AreSoundItems};
+ghost use Rattle.from_scratch.specs.Cell.{IsSaidFromSome, IsEvaluationBy};
 ghost use Rattle.from_scratch.specs.FromScratch.{IsFaultless, AreItemsOf, IsFromScratch};
 ghost use Rattle.from_scratch.specs.Suites.{AreOutcomes, AreSuiteRows, IsResolvedAs, AreResolvedAs};
 ghost use Rattle.cut_spaces.specs.Spaces.{ArePartsFor};
@@ -11,7 +14,7 @@ ghost use Rattle.cut_spaces.specs.Spaces.{ArePartsFor};
 use crate::cut::{may_pay, space_of};
 use crate::tried::tried;
 use binding_graph::{ModelFault, ResolveFault, Resolved, resolve};
-use candidates::{EvalRefusal, SpaceFault, SpaceParts, parts};
+use candidates::{EvalRefusal, Space, SpaceFault, SpaceParts, parts};
 use cat_eval::Evaluator;
 use from_scratch::{each_model, evaluated, refused, resolved_models};
 use std::alloc::{AllocError, Global};
@@ -29,6 +32,23 @@ fn parts_for(alloc: Global, test: &Test) -> Result<Result<SpaceParts, EvalRefusa
     }
 }
 
+/// What the test says over the space, by an evaluator of its own. Where it is inlined, the memory
+/// of that is cleared three times.
+#[inline(never)]
+fn over_space(
+    alloc: Global,
+    test: &Test,
+    resolved: &Resolved,
+    space: &Space,
+) -> Result<Outcome, AllocError>
+    ensures said { IfOk result (λ o. IsSaidFromSome space.now test.now o) }
+    ensures answers { AreSoundItems resolved.now.items.items
+        → IfOk result (λ o. IsEvaluatedAs
+        (IsEvaluationBy resolved.now.items.items space.now test.now) o.result) }
+{
+    evaluated(alloc, &mut Evaluator::new(alloc), test, resolved, space)
+}
+
 /// What the test says over its candidates.
 fn over_parts(
     alloc: Global,
@@ -41,7 +61,7 @@ fn over_parts(
         → IfOk result (IsFromScratch test.now text) }
 {
     let space = space_of(alloc, parts, &resolved.items)?;
-    evaluated(alloc, &mut Evaluator::new(alloc), test, resolved, &space)
+    over_space(alloc, test, resolved, &space)
 }
 
 /// What the test says over its candidates, or why it has none.

@@ -7,7 +7,7 @@ use Rattle.cut_spaces.proofs.cell.over_parts.Goals as goal
 pub returns : goal.returns
 returns c = λ text none are.
     outcome_of text c.args.resolved.now.items.items c.args.parts c.in_ok-space.space
-    c.args.test.now c.evaluated.result none are c.requires
+    c.args.test.now c.over_space.result none are c.requires
     (subst (λ (items : List ResolvedItem). IsEvaluable items c.args.parts c.in_ok-space.space)
     c.deref.ensures.value c.in_ok-space.ensures)
-    c.evaluated.ensures.said c.evaluated.ensures.answers
+    c.over_space.ensures.said c.over_space.ensures.answers
