@@ -15,7 +15,6 @@ use Rattle.session_run.specs.Sessions.{IsWholeSession, IsSessionPrefix, IsSessio
 use Rattle.command_answers.specs.Answer.{IsReadFault}
 use Rattle.session_script.proofs.Calls.{called_none, called_to_end}
 use Rattle.session_script.proofs.Joined.{appends_joined}
-use Rattle.session_run.specs.Faults.{IsOwnFault}
 
 -- of the bytes that were left at first these commands are read, and those bytes are left now
 abbrev pub AreRead : Option (List ℕ) → List Command → Option (List ℕ) → Type 0
@@ -128,28 +127,21 @@ stands left now old new texts refused h = record {
 }
 
 -- before the first command
-pub not_begun : (left old : Option (List ℕ)) (fault : SessionFault) → IsOwnFault fault
-    → IsSession left old old (Err fault)
-not_begun left old faults.Read own = absurd own
-not_begun left old faults.Memory own =
+pub not_begun : (left old : Option (List ℕ)) → IsSession left old old (Err faults.Memory)
+not_begun left old =
     stands left (prepend_known [] left) old old no_texts false
     (begins left old [] no_texts refl refl)
-not_begun left old faults.Shared own =
-    stands left (prepend_known [] left) old old no_texts false
-    (begins left old [] no_texts refl refl)
-not_begun left old faults.Write own = absurd own
 
 -- after a fault of reading
 pub read_fails : (left now old new : Option (List ℕ)) (texts : BenchTexts) (refused : Bool)
-    (fault : SessionFault) → fault ≢ faults.Write → IsUnderWay left now old new texts refused
-    → IsSession left old new (Err fault)
-read_fails left now old new texts refused faults.Read other h =
+    (fault : SessionFault) → fault ≢ faults.Write → fault ≢ faults.Shared
+    → IsUnderWay left now old new texts refused → IsSession left old new (Err fault)
+read_fails left now old new texts refused faults.Read other unshared h =
     stands left now old new texts refused h
-read_fails left now old new texts refused faults.Memory other h =
+read_fails left now old new texts refused faults.Memory other unshared h =
     stands left now old new texts refused h
-read_fails left now old new texts refused faults.Shared other h =
-    stands left now old new texts refused h
-read_fails left now old new texts refused faults.Write other h = absurd (other refl)
+read_fails left now old new texts refused faults.Shared other unshared h = absurd (unshared refl)
+read_fails left now old new texts refused faults.Write other unshared h = absurd (other refl)
 
 -- the next command is not answered
 unanswered : (left now next old mid new : Option (List ℕ)) (texts : BenchTexts) (refused : Bool)
@@ -178,8 +170,21 @@ pub reply_fails : (left now next old mid new : Option (List ℕ)) (texts : Bench
 reply_fails left now next old mid new texts refused command faults.Read h read reply = absurd reply
 reply_fails left now next old mid new texts refused command faults.Memory h read reply =
     unanswered left now next old mid new texts refused command h read reply
-reply_fails left now next old mid new texts refused command faults.Shared h read reply =
-    unanswered left now next old mid new texts refused command h read reply
+reply_fails left now next old mid new texts refused command faults.Shared h read reply = record {
+  command = command;
+  others = others_in next;
+  text = h.text;
+  refused = refused;
+  texts = texts;
+  begun =
+      record {
+        first = h.first;
+        commands = one_left left now next h.first command h.read read;
+        output = h.output;
+      };
+  needed = reply.0;
+  written = still_written old mid new h.text h.written reply.1;
+}
 reply_fails left now next old mid new texts refused command faults.Write h read
     (after, said, answer, front) = record {
       command = command;

@@ -1,12 +1,15 @@
 -- Read this first: what a session writes of a script. The answers to its commands are in
 -- session_answers, specs/Sessions.
-use Rattle.std.specs.Prelude.{◌≡◌, ℕ, ◌+◌, ◌≤◌, ◌⊎◌, List, [], ◌∷◌, ◌++◌, length, take, Bool, Option, Result, Ok, Err, IfSome}
+use Rattle.std.specs.Prelude.{◌≡◌, ℕ, ◌+◌, ◌≤◌, ◌⊎◌, List, [], ◌∷◌, ◌++◌, length, take, Bool, false, Option, Result, Ok, Err, IfSome}
 use Rattle.std.specs.Io.KnownBytes.{Keeps, Appends}
 use Rattle.session_script.specs.declared.command.Command.{Command}
 use Rattle.session_script.specs.Calls.{HasCalled}
 use Rattle.session_script.specs.Commands.{commands_of}
+use Rattle.session_script.specs.declared.command.Command.TheVariants as commands
 use Rattle.bench_texts.specs.BenchTexts.{BenchTexts}
+use Rattle.bench_texts.specs.Edits.{Applies}
 use Rattle.session_edits.specs.Answer.{SessionAnswer}
+use Rattle.session_edits.specs.Requests.{RequestAsked, Editing, Asking, request_meaning}
 use Rattle.session_answers.specs.Sessions.{IsCommandAnswer, IsOutput}
 use Rattle.command_line.specs.declared.fault.SessionFault.{SessionFault}
 use Rattle.command_line.specs.declared.fault.SessionFault.TheVariants as faults
@@ -52,11 +55,31 @@ pub record IsSessionCutOff (left old new : Option (List ℕ)) : Type 0 where
   pub within : count ≤ length said.text
   pub written : Appends old new (text ++ take count said.text)
 
+-- the desk is asked: for an edit that the texts accept, or for what a question asks
+abbrev pub AsksDesk : BenchTexts → RequestAsked → Type 0
+AsksDesk t (Editing edit) = (after : BenchTexts) × Applies t false edit after
+AsksDesk t (Asking question) = Unit {0}
+
+abbrev pub NeedsDesk : BenchTexts → Command → Type 0
+NeedsDesk t (commands.Refused rule) = ⊥
+NeedsDesk t (commands.Asked request text) = AsksDesk t (request_meaning request text)
+
+-- the output of its first commands is written, and the next needs the desk
+pub record IsSessionDisturbed (left old new : Option (List ℕ)) : Type 0 where
+  pub command : Command
+  pub others : List Command
+  pub text : List ℕ
+  pub refused : Bool
+  pub texts : BenchTexts
+  pub begun : IsSessionStart left (command ∷ others) text refused texts
+  pub needed : NeedsDesk texts command
+  pub written : Appends old new text
+
 abbrev pub IsSession : (left old new : Option (List ℕ)) → Result Bool SessionFault → Type 0
 IsSession left old new (Ok refused) = IsWholeSession left old new refused
 IsSession left old new (Err faults.Read) = IsSessionPrefix left old new
 IsSession left old new (Err faults.Memory) = IsSessionPrefix left old new
-IsSession left old new (Err faults.Shared) = IsSessionPrefix left old new
+IsSession left old new (Err faults.Shared) = IsSessionDisturbed left old new
 IsSession left old new (Err faults.Write) = IsSessionCutOff left old new
 
 -- ---- one command
@@ -68,14 +91,15 @@ abbrev pub IsReplied : (t after : BenchTexts) → Command → (old new : Option 
 IsReplied t after command old new said =
     IsCommandAnswer t command said after × Appends old new said.text
 
--- a front of its answer is written where a write failed, and else nothing
+-- a front of its answer is written where a write failed, and else nothing; only a command that
+-- needs the desk stops because someone else uses it
 abbrev pub IsReplyStopped : BenchTexts → Command → (old new : Option (List ℕ)) → SessionFault
     → Type 0
 IsReplyStopped t command old new faults.Write =
     (after : BenchTexts) × (said : SessionAnswer) × IsCommandAnswer t command said after
     × WritesPrefix old new said.text
 IsReplyStopped t command old new faults.Memory = Keeps old new
-IsReplyStopped t command old new faults.Shared = Keeps old new
+IsReplyStopped t command old new faults.Shared = NeedsDesk t command × Keeps old new
 IsReplyStopped t command old new faults.Read = ⊥
 
 -- A read is refused: one call failed; or, where none did, each turn that was left was a call. Where

@@ -45,6 +45,7 @@ fn read_command<S: ByteSource>(
     ensures same { result ≢ Err SessionFault.Read
         → S.failed_calls source.new ≡ S.failed_calls source.old }
     ensures fault { result ≢ Err SessionFault.Write }
+    ensures unshared { result ≢ Err SessionFault.Shared }
 {
     match script.next(source) {
         Ok(command) => Ok(command),

@@ -1,7 +1,8 @@
 //! Edits of a session.
 
-ghost use Rattle.std.specs.Prelude.{◌≡◌, ◌≤◌, ℕ, IfOk, IfErr, OnOk, OnErr, Err};
-ghost use Rattle.bench_texts.specs.Edits.{edit_of};
+ghost use Rattle.std.specs.Prelude.{◌≡◌, ◌≤◌, ℕ, false, IfOk, IfErr, OnOk, OnErr, Err};
+ghost use Rattle.bench_texts.specs.BenchTexts.{BenchTexts};
+ghost use Rattle.bench_texts.specs.Edits.{edit_of, Applies};
 ghost use Rattle.bench_texts.specs.Held.{texts_of};
 ghost use Rattle.session_edits.specs.Edits.{IsEditAnswer};
 ghost use Rattle.session_views.specs.Knowing.{KnowsTexts, HasOwnEdit};
@@ -59,6 +60,8 @@ pub(crate) fn make_edit<J: Naming + StoreName, R: Wait + Drop, W: Wait>(
         (texts_of session.new.texts)) }
     ensures fault { IfErr result IsOwnFault }
     ensures shared { result ≡ Err SessionFault.Shared → IsDisputed edit session.old.viewer }
+    ensures accepted { result ≡ Err SessionFault.Shared
+        → (after : BenchTexts) × Applies (texts_of session.old.texts) false (edit_of edit) after }
 {
     own_edits_are_counted(&session.texts);
     let answer = match answer_edit(alloc, &mut session.texts, &edit) {

@@ -1,10 +1,11 @@
 //! What a command is answered.
 
-ghost use Rattle.std.specs.Prelude.{IfOk, IfErr, OnOk};
+ghost use Rattle.std.specs.Prelude.{◌≡◌, IfOk, IfErr, OnOk, Err};
 ghost use Rattle.bench_texts.specs.Held.{texts_of};
 ghost use Rattle.session_edits.specs.Requests.{asked_by};
 ghost use Rattle.session_answers.specs.Sessions.{IsRequestAnswer, IsCommandAnswer};
 ghost use Rattle.session_run.specs.Faults.{IsOwnFault};
+ghost use Rattle.session_run.specs.Sessions.{AsksDesk, NeedsDesk};
 ghost use Rattle.session_views.specs.Knowing.{KnowsTexts};
 
 use crate::asking::ask;
@@ -35,6 +36,8 @@ fn reply_asked<J: Naming + StoreName, R: Wait + Drop, W: Wait, L: AnswerListener
     ensures ready { OnOk result (KnowsTexts session.new.viewer session.new.made
         (texts_of session.new.texts)) }
     ensures fault { IfErr result IsOwnFault }
+    ensures shared { result ≡ Err SessionFault.Shared
+        → AsksDesk (texts_of session.old.texts) (asked_by asked) }
 {
     match asked {
         Asked::Edit(edit) => make_edit(rt, alloc, desk, session, edit),
@@ -62,6 +65,8 @@ pub(crate) fn reply<J: Naming + StoreName, R: Wait + Drop, W: Wait, L: AnswerLis
     ensures ready { OnOk result (KnowsTexts session.new.viewer session.new.made
         (texts_of session.new.texts)) }
     ensures fault { IfErr result IsOwnFault }
+    ensures shared { result ≡ Err SessionFault.Shared
+        → NeedsDesk (texts_of session.old.texts) command }
 {
     match command {
         Command::Refused(rule) => match refused_by(alloc, b'Q', rule.number()) {

@@ -35,7 +35,8 @@ returns-in_err-read-clause-written g c =
     (left_to c.commands.script (g.S.ByteSource.remaining c.commands.source))
     (g.K.ByteSink.contents c.args.sink.now) (g.K.ByteSink.contents c.commands.sink)
     (texts_of c.commands.session.texts) c.commands.is_refused c.in_err-read.field-0.0
-    (λ e. c.in_err-read.ensures.fault (cc)) c.commands.invariant.under_way)
+    (λ e. c.in_err-read.ensures.fault (cc)) (λ e. c.in_err-read.ensures.unshared (cc))
+    c.commands.invariant.under_way)
 
 pub returns-in_err-read-clause-reads : goal.returns-in_err-read-clause-reads
 returns-in_err-read-clause-reads g c = (

@@ -1,6 +1,7 @@
 use Rattle.std.proofs.Common.{rules}
 use Rattle.bench_texts.specs.Held.{texts_of}
-use Rattle.session_run.proofs.Edits.{accepted_ready}
+use Rattle.bench_texts.specs.Edits.{edit_of}
+use Rattle.session_run.proofs.Edits.{accepted_applies, accepted_ready}
 use Rattle.session_run.proofs.Viewers.{disputed}
 use Rattle.session_run.proofs.editing.make_edit.Goals as goal
 
@@ -16,3 +17,10 @@ pub returns-in_err-tell_desk-clause-shared : goal.returns-in_err-tell_desk-claus
 returns-in_err-tell_desk-clause-shared g c is =
     disputed c.args.edit c.args.session.now.viewer _
     c.in_err-tell_desk.ensures.untold (search rules)
+
+pub returns-in_err-tell_desk-clause-accepted : goal.returns-in_err-tell_desk-clause-accepted
+returns-in_err-tell_desk-clause-accepted g c is = (
+  texts_of c.answer_edit.new.texts,
+  accepted_applies (texts_of c.args.session.now.texts) (texts_of c.answer_edit.new.texts)
+      (edit_of c.args.edit) c.in-Ok.answer c.in-Ok.ensures.edited (search rules),
+)

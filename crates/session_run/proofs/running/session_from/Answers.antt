@@ -1,4 +1,3 @@
-use Rattle.command_line.specs.declared.fault.SessionFault.TheVariants as faults
 use Rattle.session_run.proofs.Sessions.{not_begun}
 use Rattle.bench_instance.proofs.Crossings.{bench_crosses}
 use Rattle.session_run.proofs.running.session_from.Goals as goal
@@ -6,27 +5,22 @@ use Rattle.session_run.proofs.running.session_from.Goals as goal
 pub returns-in_default-clause-written : goal.returns-in_default-clause-written
 returns-in_default-clause-written g c =
     not_begun (g.S.ByteSource.remaining c.args.source.now) (g.K.ByteSink.contents c.args.sink.now)
-    faults.Memory tt
 
 pub returns-in_default-new-clause-written : goal.returns-in_default-new-clause-written
 returns-in_default-new-clause-written g c =
     not_begun (g.S.ByteSource.remaining c.args.source.now) (g.K.ByteSink.contents c.args.sink.now)
-    faults.Memory tt
 
 pub returns-in_default-viewer-clause-written : goal.returns-in_default-viewer-clause-written
 returns-in_default-viewer-clause-written g c =
     not_begun (g.S.ByteSource.remaining c.args.source.now) (g.K.ByteSink.contents c.args.sink.now)
-    faults.Memory tt
 
 pub returns-in_default-clone-clause-written : goal.returns-in_default-clone-clause-written
 returns-in_default-clone-clause-written g c =
     not_begun (g.S.ByteSource.remaining c.args.source.now) (g.K.ByteSink.contents c.args.sink.now)
-    faults.Memory tt
 
 pub returns-in_default-hire_crew-clause-written : goal.returns-in_default-hire_crew-clause-written
 returns-in_default-hire_crew-clause-written g c =
     not_begun (g.S.ByteSource.remaining c.args.source.now) (g.K.ByteSink.contents c.args.sink.now)
-    faults.Memory tt
 
 -- what crosses to the workers holds no thread's own
 pub hire_crew-requires-send-X : goal.hire_crew-requires-send-X
