@@ -1,6 +1,5 @@
 -- The names that the items of a model see are the same in a candidate and in its execution.
-use Rattle.std.proofs.Common.{ℕ, ◌≡◌, ◌<◌, ◌↔◌, Bool, true, false, IsTrue, List, [], ◌∷◌, map, reverse, length, sym, ap, subst, ◌∙◌}
-use Rattle.std.proofs.lemmas.Option.{slice_get_within}
+use Rattle.std.proofs.Common.{ℕ, ◌<◌, ◌↔◌, Bool, true, false, IsTrue, List, [], ◌∷◌, map, reverse, length}
 use Rattle.text_values.specs.declared.predefined.Predefined.{Predefined}
 use Rattle.text_values.specs.PredefinedNames.{spelling, is_set}
 use Rattle.text_values.specs.ModelValue.{Clause, Binding, Function, Checking, Flagging, Showing, Including}
@@ -9,51 +8,21 @@ use Rattle.base_names.specs.Candidate.{SetIn, RelationIn}
 use Rattle.candidates.specs.Space.{Candidate}
 use Rattle.cat_eval.specs.Executions.{events_of}
 use Rattle.verdict.specs.Kept.{Flag, holds_at}
-use Rattle.meaning.specs.Sets.{Set, Relation}
 use Rattle.meaning.specs.Executions.{Event, Execution, IsEvent}
 use Rattle.meaning.specs.Predefined.{EventsOf, PairsOf, predefined_names}
-use Rattle.meaning.specs.Cat.{Meaning, ASet, ARelation, ToMeaning, Names, choice_of, names_after, IsMet}
+use Rattle.meaning.specs.Cat.{ASet, ARelation, ToMeaning, Names, choice_of, names_after, IsMet}
 use Rattle.meaning.specs.Evaluates.{outermost, predefined_bound}
 use Rattle.meaning_terms.specs.Behind.{outer_bound}
 use Rattle.meaning_slots.specs.Slots.{candidate_value}
 use Rattle.meaning_items.specs.Laws.{AreMeant}
-use Rattle.meaning_events.specs.Events.{IsNumbered, named_events}
-use Rattle.meaning_events.proofs.Lists.{StandsOnce}
+use Rattle.meaning_events.specs.Events.{named_events}
 use Rattle.meaning_events.proofs.Numbering.{named_once}
-use Rattle.meaning_names.specs.Names.{IsSameSet, IsSameRelation, AreNamesMeant}
+use Rattle.meaning_names.specs.Names.{AreNamesMeant}
 use Rattle.meaning_carried.proofs.Operators.{Same, sets, relations}
 use Rattle.meaning_carried.proofs.Expressions.{meanings, SameNames, no_name, one_more}
+use Rattle.meaning_carried.proofs.Extending.{Numbering, numbering, set_along, relation_along}
 use Rattle.meaning_carried.proofs.Items.{after_same, met_same, all_met_same, flags_same}
 use Rattle.meaning_kept.specs.Kept.{IsMetAlike, CandidatesAreMetByName}
-use Rattle.meaning_kept.proofs.Extending.{Numbering, numbering}
-
--- ---- along a numbering
-
-module _ (es : List Event) (N : Numbering es (length es)) where
-  is_it : (n : ℕ) (e : Event) → IsNumbered es n e → N.to n ≡ e
-  is_it n e at = N.fits n e (slice_get_within es n e at) at
-
-  index_is : (n k : ℕ) → N.to n ≡ N.to k → n ≡ k
-  index_is n k e = sym (N.there n) ∙ (ap (λ (d : Event). N.from d) e ∙ N.there k)
-
-  set_along : (S : ℕ → Type 0) (T : Set Event) → IsSameSet es S T → (n : ℕ) → S n ↔ T (N.to n)
-  set_along S T same n = (
-    λ s. let by : _ = same.by_name n s in
-        subst (λ (e : Event). T e) (sym (is_it n by.0 by.1)) by.2,
-    λ q. let by : _ = same.by_number (N.to n) q in
-        subst (λ (k : ℕ). S k) (index_is by.0 n (is_it by.0 (N.to n) by.1)) by.2,
-  )
-
-  relation_along : (R : ℕ → ℕ → Type 0) (Q : Relation Event) → IsSameRelation es R Q
-      → (m n : ℕ) → R m n ↔ Q (N.to m) (N.to n)
-  relation_along R Q same m n = (
-    λ r. let by : _ = same.by_name m n r in
-        subst (λ (e : Event). Q e (N.to n)) (sym (is_it m by.0 by.2))
-        (subst (λ (e : Event). Q by.0 e) (sym (is_it n by.1 by.3)) by.4),
-    λ q. let by : _ = same.by_number (N.to m) (N.to n) q in
-        subst (λ (k : ℕ). R k n) (index_is by.0 m (is_it by.0 (N.to m) by.2))
-        (subst (λ (k : ℕ). R by.0 k) (index_is by.1 n (is_it by.1 (N.to n) by.3)) by.4),
-  )
 
 -- ---- a candidate and its execution
 
@@ -65,7 +34,9 @@ module _ (t : Content) (y : Execution) (one : Candidate) (named : AreNamesMeant 
   N = numbering es (named_once t y.runs) (length es)
 
   whole : (n : ℕ) → (n < events_of one) ↔ IsEvent t y (N.to n)
-  whole = set_along es N (λ n. n < events_of one) (IsEvent t y) named.events
+  whole =
+      set_along es N (λ n. n < events_of one) (IsEvent t y) named.events.by_name
+      named.events.by_number
 
   value_same : (p : Predefined)
       → Same N.to (candidate_value one p)
@@ -77,8 +48,11 @@ module _ (t : Content) (y : Execution) (one : Candidate) (named : AreNamesMeant 
           (choice_of b (ASet (SetIn one.0 (events_of one) p))
           (ARelation (RelationIn p (events_of one) one.0 one.1.0 one.1.1)))
           (choice_of b (ASet (EventsOf t y p)) (ARelation (PairsOf t y p)))
-      at true = sets _ _ (set_along es N _ _ (named.sets p))
-      at false = relations _ _ (relation_along es N _ _ (named.relations p))
+      at true =
+          sets _ _ (set_along es N _ _ (named.sets p).by_name (named.sets p).by_number)
+      at false =
+          relations _ _
+          (relation_along es N _ _ (named.relations p).by_name (named.relations p).by_number)
 
   all_same : (ps : List Predefined)
       → SameNames N.to (map (λ p. (spelling p, ToMeaning (candidate_value one p))) ps)

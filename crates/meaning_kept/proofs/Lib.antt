@@ -1,4 +1,2 @@
-pub mod Coding
-pub mod Extending
 pub mod Carrying
 pub mod Listing

@@ -6,5 +6,3 @@
 pub mod checks;
 pub mod relations;
 pub mod sets;
-#[cfg(test)]
-mod tests;

@@ -14,7 +14,7 @@ use Rattle.meaning.proofs.Finals.{ends_in_one}
 use Rattle.meaning_words.specs.Words.{IsWord, IsTestOfWords}
 use Rattle.meaning_words.proofs.Ending.{all_words, all_hold}
 use Rattle.finite_sets.proofs.Decisions.{Decided, decided_as, not_decided, both_decided, either_decided, implied_decided, test_decided, same_value, same_list, same_head}
-use Rattle.meanings_exist.proofs.Ordering.{IsGood}
+use Rattle.meanings_exist.specs.Sorted.{IsGood}
 use Rattle.meanings_exist.proofs.Observing.{named_is_observed, observed_is_location}
 
 -- ---- the state at the end
@@ -37,7 +37,7 @@ good_zip R words (x ∷ xs) (v ∷ vs) all =
     record { words = (words x v all.0, rest.words); count = ap suc rest.count }
 
 module _ (t : Content) (x : Execution) (is : IsExecution t x) where
-  observable_ends : (p : Place) → Contains (observables t) p → (v : Value) × EndsWith t x p v
+  pub observable_ends : (p : Place) → Contains (observables t) p → (v : Value) × EndsWith t x p v
   observable_ends (Register thread r) there = (final_register x thread r, refl)
   observable_ends (Location l) there = all_hold t x is l (observed_is_location t l there)
 

@@ -11,7 +11,7 @@ use Rattle.meaning.specs.Names.{Name, is_name_before}
 use Rattle.meaning.specs.Machine.{Value, Number, Address, NoValue, is_less}
 use Rattle.meaning.specs.Outcome.{is_value_before, IsStateBefore}
 use Rattle.meaning_words.specs.Words.{IsWord}
-use Rattle.meanings_exist.proofs.Sorting.{Compared}
+use Rattle.meanings_exist.specs.Sorted.{Compared, IsGood}
 
 -- ---- names
 
@@ -119,11 +119,6 @@ states_transitive (v ∷ a) (w ∷ b) (u ∷ c) (inr before) (inl later) =
     inl (subst (λ (z : Value). ValueBefore z u) (sym before.0) later)
 states_transitive (v ∷ a) (w ∷ b) (u ∷ c) (inr before) (inr later) =
     inr (before.0 ∙ later.0, states_transitive a b c before.1 later.1)
-
--- a state of words, for so many observables
-pub record IsGood (n : ℕ) (s : List Value) : Type 0 where
-  pub words : AllByRecursion IsWord s
-  pub count : length s ≡ n
 
 compared_parts : (a b : List Value) → AllByRecursion IsWord a → AllByRecursion IsWord b
     → length a ≡ length b → Compared IsStateBefore a b

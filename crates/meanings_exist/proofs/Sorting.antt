@@ -1,28 +1,11 @@
 -- A list in order, each thing once, where of two good things one comes before the other or both are
 -- one.
-use Rattle.std.proofs.Common.{◌≡◌, ◌↔◌, ◌⊎◌, inl, inr, List, [], ◌∷◌, map, get_or, Contains, AllPairs, sym, subst, arith}
+use Rattle.std.proofs.Common.{◌≡◌, ◌↔◌, ◌⊎◌, inl, inr, ℕ, zero, suc, List, [], ◌∷◌, ◌++◌, take, drop, map, get_or, Contains, AllPairs, sym, subst, arith}
 use Rattle.std.proofs.lemmas.List.Kept.{AllPairs-cons}
 use Rattle.std.proofs.lemmas.List.Elements.{Contains-get_or}
 use Rattle.meaning.proofs.Counting.{here, behind, head_or_tail}
 use Rattle.plain_runs.proofs.Listing.{none_there, there_mapped}
-
--- One comes before the other, or both are one.
-abbrev pub Compared : {X : Type 0} → (X → X → Type 0) → X → X → Type 0
-Compared Before x y = Before x y ⊎ ((x ≡ y) ⊎ Before y x)
-
-abbrev pub IsAbove : {X : Type 0} → (X → X → Type 0) → X → List X → Type 0
-IsAbove {X} Before x ys = (y : X) → Contains ys y → Before x y
-
--- Each thing comes before those behind it.
-abbrev pub Rises : {X : Type 0} → (X → X → Type 0) → List X → Type 0
-Rises Before [] = Unit {0}
-Rises Before (x ∷ xs) = IsAbove Before x xs × Rises Before xs
-
--- The list is in order and has one thing more, unless that is there already.
-pub record HasOneMore {X : Type 0} (Before : X → X → Type 0) (x : X) (ys zs : List X)
-    : Type 0 where
-  pub rises : Rises Before zs
-  pub exact : (z : X) → Contains zs z ↔ ((x ≡ z) ⊎ Contains ys z)
+use Rattle.meanings_exist.specs.Sorted.{Compared, Rises, HasOneMore}
 
 module _ {X : Type 0} (Before : X → X → Type 0) (Good : X → Type 0)
     (compared : (x y : X) → Good x → Good y → Compared Before x y)
@@ -106,6 +89,19 @@ module _ {X : Type 0} (Before : X → X → Type 0) (Good : X → Type 0)
         | inr (inl same) ↦ (y ∷ ys, put_nowhere x y ys rises same)
         | inr (inr after) ↦ (y ∷ rest.0, put_later x y ys rest.0 rises after rest.1)
       ]
+
+  -- a thing is put at an index
+  pub put_at : (x : X) (ys : List X) (k : ℕ) → Rises Before ys
+      → ((y : X) → Contains (take k ys) y → Before y x)
+      → ((y : X) → Contains (drop k ys) y → Before x y)
+      → HasOneMore Before x ys (take k ys ++ x ∷ drop k ys)
+  put_at x [] zero rises below above = alone x
+  put_at x [] (suc k) rises below above = alone x
+  put_at x (y ∷ ys) zero rises below above =
+      put_first x y ys rises (above y (here y ys))
+  put_at x (y ∷ ys) (suc k) rises below above =
+      put_later x y ys (take k ys ++ x ∷ drop k ys) rises (below y (here y (take k ys)))
+      (put_at x ys k rises.1 (λ z there. below z (behind y (take k ys) z there)) above)
 
   -- the things of a list in order
   pub sorted : (xs : List X) → ((x : X) → Contains xs x → Good x)

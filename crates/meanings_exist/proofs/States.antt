@@ -13,8 +13,9 @@ use Rattle.meaning_words.specs.Words.{IsTestOfWords}
 use Rattle.plain_runs.proofs.Listing.{none_there, mapped_from}
 use Rattle.finite_sets.proofs.Decisions.{Decided, answer, answer_is, answer_from}
 use Rattle.finite_sets.proofs.Sublists.{counted_part, decide_each, above_none}
-use Rattle.meanings_exist.proofs.Sorting.{Rises, sorted, pairs_rise}
-use Rattle.meanings_exist.proofs.Ordering.{IsGood, states_transitive, states_compared}
+use Rattle.meanings_exist.specs.Sorted.{Rises, IsGood}
+use Rattle.meanings_exist.proofs.Sorting.{sorted, pairs_rise}
+use Rattle.meanings_exist.proofs.Ordering.{states_transitive, states_compared}
 use Rattle.meanings_exist.proofs.Ending.{ends, ends_or_not, ends_well, satisfied_alike, satisfied_or_not}
 
 module _ (t : Content) (of : IsTestOfWords t) (Kept : Set Execution)

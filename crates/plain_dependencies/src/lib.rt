@@ -5,5 +5,3 @@
 pub mod chain;
 pub mod dependency;
 pub mod slot;
-#[cfg(test)]
-mod tests;

@@ -5,5 +5,3 @@
 pub mod action;
 pub mod event;
 pub mod node;
-#[cfg(test)]
-mod tests;

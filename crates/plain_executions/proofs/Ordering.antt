@@ -1,7 +1,7 @@
 -- The orders of the stores of a location, as those of all lists of so many stores in which none
 -- stands twice and the initial store is first.
 use denote.Ref.{Bor}
-use Rattle.std.proofs.Common.{Vec, ◌≡◌, ◌↔◌, ◌⊎◌, inl, inr, ℕ, zero, suc, ◌+◌, ◌<◌, ◌≤◌, List, [], ◌∷◌, ◌++◌, length, map, take, get_or, Contains, Bool, false, refl, sym, ap, subst, ◌∙◌, arith}
+use Rattle.std.proofs.Common.{Vec, ◌≡◌, ◌↔◌, inl, inr, ℕ, ◌+◌, ◌<◌, ◌≤◌, List, [], ◌∷◌, ◌++◌, length, map, take, get_or, Contains, Bool, false, sym, ap, subst, ◌∙◌, arith}
 use Rattle.std.specs.Prelude.{Some, slice_get, IsTrue}
 use Rattle.std.specs.List.{AllZip}
 use Rattle.std.specs.declared.alloc.Global.{Global}
@@ -13,7 +13,7 @@ use Rattle.meaning.specs.Names.{Name, locations}
 use Rattle.meaning.specs.Runs.{Run}
 use Rattle.meaning.specs.Executions.{Event, Execution, Initial, IsStoreOf, IsOrder}
 use Rattle.meaning.proofs.Counting.{here, behind, head_or_tail}
-use Rattle.plain_runs.proofs.Counting.{no_longer}
+use Rattle.plain_runs.proofs.Counting.{no_longer, has_all}
 use Rattle.plain_runs.proofs.Listing.{none_there, listed_as, once_cons, tail_once, head_new}
 use Rattle.plain_locations.specs.Locations.{names_as}
 use Rattle.plain_choices.proofs.Picking.{listed_picks}
@@ -30,65 +30,6 @@ pub picked_listed : {A X : Type 0} (S : A → Set X) (ts : List A) (lists : List
 picked_listed {A} {X} S ts lists all have (choices, listed, e) =
     subst (λ (l : List (List X)). IsListOf (λ (xs : List X). AllZip S ts xs) l) (sym e)
     (listed_picks S ts lists have choices listed)
-
--- ---- a list that stands in another which is no longer has all of it
-
--- the list without the thing at an index
-without : {X : Type 0} → ℕ → List X → List X
-without k [] = []
-without zero (y ∷ ys) = ys
-without (suc k) (y ∷ ys) = y ∷ without k ys
-
-without_length : {X : Type 0} (k : ℕ) (ys : List X) → k < length ys
-    → suc (length (without k ys)) ≡ length ys
-unfolding without
-without_length k [] lt = absurd (omega arith)
-without_length zero (y ∷ ys) lt = refl
-without_length (suc k) (y ∷ ys) lt =
-    let rest : _ = without_length k ys (omega arith) in omega arith
-
--- what is another thing is still there
-still_there : {X : Type 0} (k : ℕ) (ys : List X) (y : X) → get_or ys k y ≡ y → (x : X)
-    → (y ≡ x → ⊥) → Contains ys x → Contains (without k ys) x
-unfolding without
-still_there k [] y at x other (j, lt, eq) = absurd (omega arith)
-still_there zero (z ∷ ys) y at x other (zero, lt, eq) = absurd (other (sym at ∙ eq))
-still_there zero (z ∷ ys) y at x other (suc j, lt, eq) = (j, omega arith, eq)
-still_there (suc k) (z ∷ ys) y at x other (zero, lt, eq) = (0, omega arith, eq)
-still_there (suc k) (z ∷ ys) y at x other (suc j, lt, eq) =
-    let rest : _ = still_there k ys y at x other (j, omega arith, eq) in
-    (suc rest.0, omega arith, rest.2)
-
--- all else is what stood at the index
-that_or_there : {X : Type 0} (k : ℕ) (ys : List X) (y : X) → get_or ys k y ≡ y → (x : X)
-    → Contains ys x → (y ≡ x) ⊎ Contains (without k ys) x
-unfolding without
-that_or_there k [] y at x (j, lt, eq) = absurd (omega arith)
-that_or_there zero (z ∷ ys) y at x (zero, lt, eq) = inl (sym at ∙ eq)
-that_or_there zero (z ∷ ys) y at x (suc j, lt, eq) = inr (j, omega arith, eq)
-that_or_there (suc k) (z ∷ ys) y at x (zero, lt, eq) = inr (0, omega arith, eq)
-that_or_there {X} (suc k) (z ∷ ys) y at x (suc j, lt, eq) =
-    elim (that_or_there k ys y at x (j, omega arith, eq)) [
-      | inl e ↦ inl e
-      | inr there ↦ inr (behind z (without k ys) x there)
-    ]
-
-pub has_all : {X : Type 0} (xs ys : List X) → IsOnce xs
-    → ((x : X) → Contains xs x → Contains ys x) → length ys ≤ length xs → (y : X)
-    → Contains ys y → Contains xs y
-has_all [] ys once inside le y there = absurd (let lt : _ = there.1 in omega (arith, lt, le))
-has_all {X} (x ∷ xs) ys once inside le y there =
-    let at : Contains ys x = inside x (here x xs) in
-    elim (that_or_there at.0 ys x at.2 y there) [
-      | inl e ↦ subst (λ (z : X). Contains (x ∷ xs) z) e (here x xs)
-      | inr later ↦
-          behind x xs y
-          (has_all xs (without at.0 ys) (tail_once x xs once)
-          (λ z later_z. still_there at.0 ys x at.2 z
-          (λ same. head_new x xs once (subst (λ (w : X). Contains xs w) (sym same) later_z))
-          (inside z (behind x xs z later_z)))
-          (let shorter : _ = without_length at.0 ys at.1 in omega arith) y later)
-    ]
 
 -- ---- lists of so many members
 

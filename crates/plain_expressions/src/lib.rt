@@ -5,6 +5,4 @@
 
 pub mod expression;
 pub mod scope;
-#[cfg(test)]
-mod tests;
 pub mod value;

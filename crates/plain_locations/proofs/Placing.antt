@@ -1,105 +1,118 @@
--- Where a name is put among names in order.
-use denote.Ref.{Bor}
-use Rattle.std.proofs.Common.{◌≡◌, ℕ, ◌+◌, ◌<◌, ◌≤◌, List, [], ◌∷◌, ◌++◌, length, take, drop, get_or, Bool, true, false, bytes_eq, refl, sym, ap, ◌∙◌, append_assoc, arith}
+-- Where a thing is put among things in order.
+use Rattle.std.proofs.Common.{◌≡◌, ℕ, ◌+◌, ◌<◌, ◌≤◌, List, [], ◌∷◌, ◌++◌, length, map, take, drop, get_or, Bool, true, false, refl, sym, ap, ◌∙◌, append_assoc, arith}
 use Rattle.std.specs.Prelude.{if◌then◌else◌}
 use Rattle.std.specs.List.{insert}
 use Rattle.std.proofs.lemmas.List.{take_more, take_all, drop_all, at_drop_more, take-append-drop, take-map, drop-map, map-append, length-map}
 use Rattle.std.proofs.Math.ListN.{get_or-map}
-use Rattle.meaning.specs.Names.{Name, is_name_before, with_one, in_order}
-use Rattle.plain_locations.specs.Locations.{names_as, with_all}
+use Rattle.meaning.specs.Names.{with_one, in_order}
+use Rattle.plain_locations.specs.Locations.{with_each}
 
-abbrev one_in : Name → List Name → List Name
-one_in x ys = with_one bytes_eq is_name_before x ys
+module _ {X : Type 0} (is_same is_before : X → X → Bool) where
+  abbrev pub one_in : X → List X → List X
+  one_in x ys = with_one is_same is_before x ys
 
-abbrev put_at : Bool → Bool → Name → Name → List Name → List Name
-put_at same before x y ys =
-    if same then y ∷ ys else if before then x ∷ y ∷ ys else y ∷ one_in x ys
+  abbrev put_at : Bool → Bool → X → X → List X → List X
+  put_at same before x y ys =
+      if same then y ∷ ys else if before then x ∷ y ∷ ys else y ∷ one_in x ys
 
-module _ (x : Name) (xs : List (Bor (List ℕ))) (k : ℕ) (d : Bor (List ℕ)) (lt : k < length xs)
-    (before : one_in x (names_as xs) ≡ take k (names_as xs) ++ one_in x (drop k (names_as xs))) where
-  abbrev y : Name
-  y = (get_or xs k d).now
+  -- a loop over a list that is mapped
+  module _ {A : Type 0} (f : A → X) (x : X) (xs : List A) where
+    module _ (k : ℕ) (d : A) (lt : k < length xs)
+        (before : one_in x (map f xs) ≡ take k (map f xs) ++ one_in x (drop k (map f xs))) where
+      abbrev y : X
+      y = f (get_or xs k d)
 
-  abbrev later : List Name
-  later = drop (k + 1) (names_as xs)
+      abbrev later : List X
+      later = drop (k + 1) (map f xs)
 
-  at_least : k < length (names_as xs)
-  at_least = let e : _ = length-map xs (λ (n : Bor (List ℕ)). n.now) in omega (arith, e, lt)
+      at_least : k < length (map f xs)
+      at_least = let e : _ = length-map xs f in omega (arith, e, lt)
 
-  here_at : get_or (names_as xs) k d.now ≡ y
-  here_at = get_or-map (λ (n : Bor (List ℕ)). n.now) xs k d
+      here_at : get_or (map f xs) k (f d) ≡ y
+      here_at = get_or-map f xs k d
 
-  rest_is : drop k (names_as xs) ≡ y ∷ later
-  rest_is =
-      at_drop_more (λ (l : List Name). l) (names_as xs) k d.now at_least
-      ∙ ap (λ (n : Name). n ∷ later) here_at
+      rest_is : drop k (map f xs) ≡ y ∷ later
+      rest_is =
+          at_drop_more (λ (l : List X). l) (map f xs) k (f d) at_least
+          ∙ ap (λ (n : X). n ∷ later) here_at
 
-  here_is : one_in x (names_as xs)
-      ≡ take k (names_as xs) ++ put_at (bytes_eq x y) (is_name_before x y) x y later
-  here_is = before ∙ ap (λ (l : List Name). take k (names_as xs) ++ one_in x l) rest_is
+      here_is : one_in x (map f xs)
+          ≡ take k (map f xs) ++ put_at (is_same x y) (is_before x y) x y later
+      here_is = before ∙ ap (λ (l : List X). take k (map f xs) ++ one_in x l) rest_is
 
-  pub placed_same : bytes_eq x y ≡ true → one_in x (names_as xs) ≡ names_as xs
-  placed_same same =
-      here_is
-      ∙ ap (λ (b : Bool). take k (names_as xs) ++ put_at b (is_name_before x y) x y later) same
-      ∙ ap (λ (l : List Name). take k (names_as xs) ++ l) (sym rest_is)
-      ∙ take-append-drop k (names_as xs)
+      pub placed_same : is_same x y ≡ true → one_in x (map f xs) ≡ map f xs
+      placed_same same =
+          here_is
+          ∙ ap (λ (b : Bool). take k (map f xs) ++ put_at b (is_before x y) x y later) same
+          ∙ ap (λ (l : List X). take k (map f xs) ++ l) (sym rest_is)
+          ∙ take-append-drop k (map f xs)
 
-  pub placed_before : bytes_eq x y ≡ false → is_name_before x y ≡ true
-      → one_in x (names_as xs) ≡ insert (names_as xs) k x
-  placed_before other earlier =
-      here_is
-      ∙ ap (λ (b : Bool). take k (names_as xs) ++ put_at b (is_name_before x y) x y later) other
-      ∙ ap (λ (b : Bool). take k (names_as xs) ++ put_at false b x y later) earlier
-      ∙ ap (λ (l : List Name). take k (names_as xs) ++ x ∷ l) (sym rest_is)
+      pub placed_before : is_same x y ≡ false → is_before x y ≡ true
+          → one_in x (map f xs) ≡ insert (map f xs) k x
+      placed_before other earlier =
+          here_is
+          ∙ ap (λ (b : Bool). take k (map f xs) ++ put_at b (is_before x y) x y later) other
+          ∙ ap (λ (b : Bool). take k (map f xs) ++ put_at false b x y later) earlier
+          ∙ ap (λ (l : List X). take k (map f xs) ++ x ∷ l) (sym rest_is)
 
-  pub placed_more : bytes_eq x y ≡ false → is_name_before x y ≡ false
-      → one_in x (names_as xs) ≡ take (k + 1) (names_as xs) ++ one_in x later
-  placed_more other after =
-      here_is
-      ∙ ap (λ (b : Bool). take k (names_as xs) ++ put_at b (is_name_before x y) x y later) other
-      ∙ ap (λ (b : Bool). take k (names_as xs) ++ put_at false b x y later) after
-      ∙ sym (append_assoc (take k (names_as xs)) (y ∷ []) (one_in x later))
-      ∙ ap (λ (l : List Name). l ++ one_in x later)
-      (ap (λ (n : Name). take k (names_as xs) ++ n ∷ []) (sym here_at)
-      ∙ sym (take_more (names_as xs) k d.now at_least))
+      pub placed_more : is_same x y ≡ false → is_before x y ≡ false
+          → one_in x (map f xs) ≡ take (k + 1) (map f xs) ++ one_in x later
+      placed_more other after =
+          here_is
+          ∙ ap (λ (b : Bool). take k (map f xs) ++ put_at b (is_before x y) x y later) other
+          ∙ ap (λ (b : Bool). take k (map f xs) ++ put_at false b x y later) after
+          ∙ sym (append_assoc (take k (map f xs)) (y ∷ []) (one_in x later))
+          ∙ ap (λ (l : List X). l ++ one_in x later)
+          (ap (λ (n : X). take k (map f xs) ++ n ∷ []) (sym here_at)
+          ∙ sym (take_more (map f xs) k (f d) at_least))
 
-pub placed_last : (x : Name) (xs : List (Bor (List ℕ))) (k : ℕ) → length xs ≤ k
-    → one_in x (names_as xs) ≡ take k (names_as xs) ++ one_in x (drop k (names_as xs))
-    → one_in x (names_as xs) ≡ insert (names_as xs) (length xs) x
-placed_last x xs k le before =
-    before
-    ∙ ap (λ (l : List Name). take k (names_as xs) ++ one_in x l) (drop_all k (names_as xs) (long k le))
-    ∙ ap (λ (l : List Name). l ++ x ∷ []) (take_all k (names_as xs) (long k le) ∙ sym (take_all (length xs) (names_as xs) (long (length xs) (omega arith))))
-    ∙ ap (λ (l : List Name). take (length xs) (names_as xs) ++ x ∷ l) (sym (drop_all (length xs) (names_as xs) (long (length xs) (omega arith))))
-  where
-    long : (j : ℕ) → length xs ≤ j → length (names_as xs) ≤ j
-    long j less = let e : _ = length-map xs (λ (n : Bor (List ℕ)). n.now) in omega (arith, e, less)
+    pub placed_last : (k : ℕ) → length xs ≤ k
+        → one_in x (map f xs) ≡ take k (map f xs) ++ one_in x (drop k (map f xs))
+        → one_in x (map f xs) ≡ insert (map f xs) (length xs) x
+    placed_last k le before =
+        before
+        ∙ ap (λ (l : List X). take k (map f xs) ++ one_in x l) (drop_all k (map f xs) (long k le))
+        ∙ ap (λ (l : List X). l ++ x ∷ []) (take_all k (map f xs) (long k le) ∙ sym (take_all (length xs) (map f xs) (long (length xs) (omega arith))))
+        ∙ ap (λ (l : List X). take (length xs) (map f xs) ++ x ∷ l) (sym (drop_all (length xs) (map f xs) (long (length xs) (omega arith))))
+      where
+        long : (j : ℕ) → length xs ≤ j → length (map f xs) ≤ j
+        long j less = let e : _ = length-map xs f in omega (arith, e, less)
 
-pub inserted_as : (xs : List (Bor (List ℕ))) (k : ℕ) (x : Bor (List ℕ))
-    → names_as (insert xs k x) ≡ insert (names_as xs) k x.now
-inserted_as xs k x =
-    map-append (λ (n : Bor (List ℕ)). n.now) (take k xs) (x ∷ drop k xs)
-    ∙ ap (λ (l : List Name). l ++ x.now ∷ names_as (drop k xs))
-    (sym (take-map (λ (n : Bor (List ℕ)). n.now) k xs))
-    ∙ ap (λ (l : List Name). take k (names_as xs) ++ x.now ∷ l)
-    (sym (drop-map (λ (n : Bor (List ℕ)). n.now) k xs))
+  pub each_append : (xs ys zs : List X)
+      → with_each is_same is_before (xs ++ ys) zs
+      ≡ with_each is_same is_before xs (with_each is_same is_before ys zs)
+  each_append [] ys zs = refl
+  each_append (x ∷ xs) ys zs = ap (λ (l : List X). one_in x l) (each_append xs ys zs)
 
-pub all_append : (ns ms ys : List Name) → with_all (ns ++ ms) ys ≡ with_all ns (with_all ms ys)
-all_append [] ms ys = refl
-all_append (n ∷ ns) ms ys = ap (λ (l : List Name). one_in n l) (all_append ns ms ys)
+  pub in_order_each : (xs : List X)
+      → in_order is_same is_before xs ≡ with_each is_same is_before xs []
+  in_order_each [] = refl
+  in_order_each (x ∷ xs) = ap (λ (l : List X). one_in x l) (in_order_each xs)
 
-pub in_order_all : (ns : List Name) → in_order bytes_eq is_name_before ns ≡ with_all ns []
-in_order_all [] = refl
-in_order_all (n ∷ ns) = ap (λ (l : List Name). one_in n l) (in_order_all ns)
+  abbrev all_in : List X → List X → List X
+  all_in xs ys = with_each is_same is_before xs ys
 
--- names put in three steps, the last ones first
-pub all_three : (fs gs hs start x y z : List Name) → start ≡ [] → x ≡ with_all hs start
-    → y ≡ with_all gs x → z ≡ with_all fs y
-    → z ≡ in_order bytes_eq is_name_before (fs ++ gs ++ hs)
-all_three fs gs hs start x y z begin first second third =
-    third ∙ ap (λ (l : List Name). with_all fs l) second
-    ∙ ap (λ (l : List Name). with_all fs (with_all gs l)) first
-    ∙ ap (λ (l : List Name). with_all fs (with_all gs (with_all hs l))) begin
-    ∙ sym (all_append fs gs (with_all hs [])) ∙ sym (all_append (fs ++ gs) hs [])
-    ∙ sym (in_order_all (fs ++ gs ++ hs))
+  -- things put in two steps, the last first
+  pub both_parts : (fs gs start x y : List X) → start ≡ [] → x ≡ all_in gs start
+      → y ≡ all_in fs x → y ≡ in_order is_same is_before (fs ++ gs)
+  both_parts fs gs start x y begin first second =
+      second ∙ ap (λ (l : List X). all_in fs l) first
+      ∙ ap (λ (l : List X). all_in fs (all_in gs l)) begin
+      ∙ sym (each_append fs gs []) ∙ sym (in_order_each (fs ++ gs))
+
+  -- and in three
+  pub all_parts : (fs gs hs start x y z : List X) → start ≡ [] → x ≡ all_in hs start
+      → y ≡ all_in gs x → z ≡ all_in fs y → z ≡ in_order is_same is_before (fs ++ gs ++ hs)
+  all_parts fs gs hs start x y z begin first second third =
+      third ∙ ap (λ (l : List X). all_in fs l) second
+      ∙ ap (λ (l : List X). all_in fs (all_in gs l)) first
+      ∙ ap (λ (l : List X). all_in fs (all_in gs (all_in hs l))) begin
+      ∙ sym (each_append fs gs (all_in hs [])) ∙ sym (each_append (fs ++ gs) hs [])
+      ∙ sym (in_order_each (fs ++ gs ++ hs))
+
+pub inserted_as : {A X : Type 0} (f : A → X) (xs : List A) (k : ℕ) (x : A)
+    → map f (insert xs k x) ≡ insert (map f xs) k (f x)
+inserted_as {A} {X} f xs k x =
+    map-append f (take k xs) (x ∷ drop k xs)
+    ∙ ap (λ (l : List X). l ++ f x ∷ map f (drop k xs)) (sym (take-map f k xs))
+    ∙ ap (λ (l : List X). take k (map f xs) ++ f x ∷ l) (sym (drop-map f k xs))

@@ -45,6 +45,38 @@ no_longer (x ∷ xs) ys once inside =
     let shorter : _ = without_length at.0 ys at.1 in
     omega arith
 
+-- all else is what stood at the index
+that_or_there : {X : Type 0} (k : ℕ) (ys : List X) (y : X) → get_or ys k y ≡ y → (x : X)
+    → Contains ys x → (y ≡ x) ⊎ Contains (without k ys) x
+unfolding without
+that_or_there k [] y at x (j, lt, eq) = absurd (omega arith)
+that_or_there zero (z ∷ ys) y at x (zero, lt, eq) = inl (sym at ∙ eq)
+that_or_there zero (z ∷ ys) y at x (suc j, lt, eq) = inr (j, omega arith, eq)
+that_or_there (suc k) (z ∷ ys) y at x (zero, lt, eq) = inr (0, omega arith, eq)
+that_or_there {X} (suc k) (z ∷ ys) y at x (suc j, lt, eq) =
+    elim (that_or_there k ys y at x (j, omega arith, eq)) [
+      | inl e ↦ inl e
+      | inr there ↦ inr (behind z (without k ys) x there)
+    ]
+
+-- a list that stands in another which is no longer has all of it
+pub has_all : {X : Type 0} (xs ys : List X) → IsOnce xs
+    → ((x : X) → Contains xs x → Contains ys x) → length ys ≤ length xs → (y : X)
+    → Contains ys y → Contains xs y
+has_all [] ys once inside le y there = absurd (let lt : _ = there.1 in omega (arith, lt, le))
+has_all {X} (x ∷ xs) ys once inside le y there =
+    let at : Contains ys x = inside x (here x xs) in
+    elim (that_or_there at.0 ys x at.2 y there) [
+      | inl e ↦ subst (λ (z : X). Contains (x ∷ xs) z) e (here x xs)
+      | inr later ↦
+          behind x xs y
+          (has_all xs (without at.0 ys) (tail_once x xs once)
+          (λ z later_z. still_there at.0 ys x at.2 z
+          (λ same. head_new x xs once (subst (λ (w : X). Contains xs w) (sym same) later_z))
+          (inside z (behind x xs z later_z)))
+          (let shorter : _ = without_length at.0 ys at.1 in omega arith) y later)
+    ]
+
 pub has_over : {X : Type 0} (S : Set X) (xs : List X) (n : ℕ) → IsListOf S xs → n < length xs
     → HasOver n S
 has_over S xs n listed lt = (

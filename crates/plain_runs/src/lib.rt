@@ -3,6 +3,4 @@
 #![tactic(auto)]
 
 pub mod run;
-#[cfg(test)]
-mod tests;
 pub mod thread;

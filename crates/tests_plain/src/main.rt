@@ -1,11 +1,12 @@
-//! Compares the plain evaluator of models with the program. For each line of `list.txt`, a model
-//! and a test, it asks both of each candidate execution of the test: whether the model keeps it,
-//! and which flags are raised. The plain evaluator is given the events and the predefined names of
-//! the execution as lists. Prints a line for each line.
+//! Compares the plain evaluator with the program. For each line of `list.txt`, a model and a test,
+//! it asks both what the test says under the model, from the two texts. Prints a line of each: the
+//! fault, the refusal, or the final states, witnesses, words and flags, and whether both are alike.
 #![tactic(auto)]
 
 mod compare;
-mod names;
+mod plain;
+mod program;
+mod told;
 
 use std::io;
 

@@ -1,9 +1,9 @@
-use Rattle.std.proofs.Common.{List, ap, sym, ◌∙◌}
+use Rattle.std.proofs.Common.{List, bytes_eq, ap, sym, ◌∙◌}
 use Rattle.text_values.specs.declared.test.Proposition.{Proposition}
 use Rattle.text_values.specs.TestValue.{formula_of}
-use Rattle.meaning.specs.Names.{Name, locations_of_formula}
+use Rattle.meaning.specs.Names.{Name, is_name_before, locations_of_formula}
 use Rattle.plain_locations.specs.Locations.{names_as, with_all}
-use Rattle.plain_locations.proofs.Placing.{all_append}
+use Rattle.plain_locations.proofs.Placing.{each_append}
 use Rattle.plain_locations.proofs.locations.+put_proposition.Goals as goal
 
 abbrev put : Proposition → List Name → List Name
@@ -18,5 +18,5 @@ returns-in_ok-put_proposition-in-Joined-2 t c =
     c.in_ok-put_proposition-in-Joined-2.ensures
     ∙ ap (λ (p : Proposition). put p mid) c.deref-in-Joined-2.ensures
     ∙ ap (λ (ns : List Name). put left ns) (c.in_ok-put_proposition-in-Joined.ensures ∙ ap (λ (p : Proposition). put p old) c.deref-in-Joined.ensures)
-    ∙ sym (all_append (locations_of_formula (formula_of left)) (locations_of_formula (formula_of right)) old)
+    ∙ sym (each_append bytes_eq is_name_before (locations_of_formula (formula_of left)) (locations_of_formula (formula_of right)) old)
     ∙ ap (λ (p : Proposition). put p old) (sym c.in-Joined.is)

@@ -1,17 +1,17 @@
-use Rattle.std.proofs.Common.{List, ap, ◌∙◌}
+use Rattle.std.proofs.Common.{List, bytes_eq, ap, ◌∙◌}
 use Rattle.std.specs.List.{flat_map}
 use Rattle.text_values.specs.declared.test.Place.{Place}
 use Rattle.text_values.specs.declared.test.InitEntry.{InitEntry}
 use Rattle.text_values.specs.TestValue.{formula_of}
-use Rattle.meaning.specs.Names.{locations_of_entry, locations_of_formula, locations_of_observable}
+use Rattle.meaning.specs.Names.{is_name_before, locations_of_entry, locations_of_formula, locations_of_observable}
 use Rattle.plain_locations.specs.Locations.{names_as, with_all}
-use Rattle.plain_locations.proofs.Placing.{all_three}
+use Rattle.plain_locations.proofs.Placing.{all_parts}
 use Rattle.plain_locations.proofs.locations.locations.Goals as goal
 
 pub returns : goal.returns
 returns c =
     let t = c.args.test.now in
-    all_three (flat_map locations_of_entry t.init.items)
+    all_parts bytes_eq is_name_before (flat_map locations_of_entry t.init.items)
     (locations_of_formula (formula_of t.condition.proposition))
     (flat_map locations_of_observable t.observed.items)
     (names_as c.new-names.result.items) (names_as c.put_places.new.names.items)

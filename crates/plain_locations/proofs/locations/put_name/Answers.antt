@@ -9,7 +9,7 @@ use Rattle.plain_locations.proofs.locations.put_name.Goals as goal
 pub returns-in_ok-insert-in-Some : goal.returns-in_ok-insert-in-Some
 returns-in_ok-insert-in-Some c =
     ap names_as c.in_ok-insert-in-Some.ensures.items
-    ∙ inserted_as c.args.names.now.items c.in-Some.index c.args.name
+    ∙ inserted_as (λ (n : Bor (List ℕ)). n.now) c.args.names.now.items c.in-Some.index c.args.name
     ∙ ap (λ (l : List (Bor (List ℕ))). insert (names_as l) c.in-Some.index c.args.name.now) (sym c.deref.ensures.value)
     ∙ sym c.in-Some.ensures.position
     ∙ ap (λ (l : List (Bor (List ℕ))). with_one bytes_eq is_name_before c.args.name.now (names_as l)) c.deref.ensures.value

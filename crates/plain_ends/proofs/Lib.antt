@@ -1,0 +1,2 @@
+pub mod Finals
+pub mod Satisfying

@@ -1,0 +1,5 @@
+pub mod Counting
+pub mod Ordering
+pub mod Keeping
+pub mod Flagging
+pub mod Saying
