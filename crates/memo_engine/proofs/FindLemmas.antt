@@ -1,4 +1,4 @@
-use Rattle.std.proofs.Common.{◌≡◌, ◌≢◌, ◌<◌, ◌≤◌, ◌==◌, ℕ, ◌+◌, Bool, true, false, ◌&&◌, if◌then◌else◌, List, ◌∷◌, length, drop, get_or, refl, eq-eqb, ne_eqb}
+use Rattle.std.proofs.Common.{◌≡◌, ◌≢◌, ◌<◌, ◌≤◌, ◌==◌, ℕ, ◌+◌, Bool, true, false, ◌&&◌, if◌then◌else◌, List, [], ◌∷◌, map, length, drop, get_or, refl, ap, ◌∙◌, eq-eqb, ne_eqb}
 use Rattle.std.proofs.lemmas.List.{at_drop_more, drop_all}
 use Rattle.value_store.specs.Tokens.{TokenShown}
 use Rattle.memo_core.specs.declared.keys.Node.{Node}
@@ -8,17 +8,31 @@ use Rattle.memo_core.specs.declared.keys.Input.{Input}
 use Rattle.memo_core.specs.Names.{same_key}
 use Rattle.memo_core.specs.Graph.{Memo, Net, present_inputs, stamp_at}
 use Rattle.memo_core.specs.Step.{stale_stamp}
-use Rattle.memo_core.specs.Tests.{all_hold, holds_value, same_keys}
+use Rattle.memo_core.specs.Tests.{all_hold, holds_value, same_inputs, same_keys}
+use Rattle.memo_core.proofs.Inputs.{same_inputs_exact}
 use Rattle.memo_core.specs.Views.{shown_values}
 use Rattle.memo_engine.proofs.PushLemmas.{item_next}
 use Rattle.std.specs.Prelude.{Option}
 
--- two lists of keys, from an index on
-pub keys_from : (ks ls : List Key) (i : ℕ) (d l : Key) → i < length ks
-    → drop i ls ≡ l ∷ drop (i + 1) ls → (same : Bool) → same ≡ same_key (get_or ks i d) l
-    → same_keys (drop i ks) (drop i ls) ≡ (same && same_keys (drop (i + 1) ks) (drop (i + 1) ls))
-keys_from ks ls i d l in_range rest same e =
-    rw (at_drop_more (λ xs. xs) ks i d in_range, rest, e) refl
+-- keys and the keys of inputs, from an index on
+pub keys_from : (ks : List Key) (is : List Input) (i : ℕ) (d : Key) (e : Input) → i < length ks
+    → i < length is → (same : Bool) → same ≡ same_key (get_or ks i d) (get_or is i e).key
+    → same_keys (drop i ks) (map (λ i. i.key) (drop i is))
+    ≡ (same && same_keys (drop (i + 1) ks) (map (λ i. i.key) (drop (i + 1) is)))
+keys_from ks is i d e k l same h =
+    rw (at_drop_more (λ xs. xs) ks i d k, at_drop_more (λ xs. xs) is i e l, h) refl
+
+-- inputs that are the present ones of some keys have these keys
+pub keys_present : {V G : Type 0} (net : Net G) (ms : List (Memo V)) (ks : List Key)
+    → map (λ i. i.key) (present_inputs net ms ks) ≡ ks
+keys_present net ms [] = refl
+keys_present net ms (k ∷ ks) = ap (λ (r : List Key). k ∷ r) (keys_present net ms ks)
+
+pub keys_claimed : {V G : Type 0} (net : Net G) (ms : List (Memo V)) (ks : List Key)
+    (is : List Input) → same_inputs is (present_inputs net ms ks) ≡ true → map (λ i. i.key) is ≡ ks
+keys_claimed net ms ks is h =
+    ap (λ (is : List Input). map (λ (i : Input). i.key) is) (same_inputs_exact is _ h)
+    ∙ keys_present net ms ks
 
 -- the present stamp where present inputs and claimed ones are unlike, from an index on
 module _ {V G : Type 0} (net : Net G) (ms : List (Memo V)) (ks : List Key) (is : List Input)

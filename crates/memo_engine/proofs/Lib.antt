@@ -5,6 +5,7 @@ pub mod AcceptLemmas
 pub mod WorkLemmas
 pub mod TokenLemmas
 pub mod MarkLemmas
+pub mod NeedLemmas
 pub mod UnmarkLemmas
 pub mod KeepLemmas
 pub mod WaitingLemmas

@@ -1,6 +1,6 @@
 //! A claim's inputs, and a return's values, against the present ones.
 
-ghost use Rattle.std.specs.Prelude.{◌≡◌};
+ghost use Rattle.std.specs.Prelude.{◌≡◌, map};
 ghost use Rattle.memo_core.specs.Graph.{at, present_inputs};
 ghost use Rattle.memo_core.specs.Views.{as_memos, shown_values};
 ghost use Rattle.memo_core.specs.Tests.{all_hold, same_keys};
@@ -11,18 +11,16 @@ use memo_core::table::{Memos, stamp_at, stored_is};
 use memo_core::texts::Texts;
 use value_store::{Store, StoreName, Token};
 
-/// Whether these are a node's present inputs, without stamps.
-pub fn keys_are<T: Texts>(texts: &T, node: Node, keys: &[Key]) -> bool
-    ensures { result ≡ same_keys keys.now ((T.net texts.now).inputs node) }
+/// Whether these are the keys of some inputs.
+pub fn keys_are(inputs: &[Input], keys: &[Key]) -> bool
+    ensures { result ≡ same_keys keys.now (map (λ i. i.key) inputs.now) }
 {
-    let count = texts.input_count(node);
+    let count = inputs.len();
     if keys.len() != count {
         return false;
     }
     for i in 0..count {
-        let key = texts.input_at(node, i);
-        let same = is_same_key(keys[i], key);
-        if !same {
+        if !is_same_key(keys[i], inputs[i].key) {
             return false;
         }
     }

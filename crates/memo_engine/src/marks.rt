@@ -1,6 +1,6 @@
 //! Marks: which nodes are settled, kept up by following users. It takes no memory.
 
-ghost use Rattle.std.specs.Prelude.{◌≡◌, IsTrue, IsFalse, length, ◌≤◌, ◌∷◌, [], List, true, false, ℕ};
+ghost use Rattle.std.specs.Prelude.{◌≡◌, IsTrue, IsFalse, IsSome, IsNone, IfSome, is_some, length, ◌≤◌, ◌∷◌, [], List, true, false, ℕ};
 ghost use Rattle.indexmap.specs.IndexMap.{spare};
 ghost use Rattle.memo_core.specs.declared.claims.Claim.{Claim};
 ghost use Rattle.memo_core.specs.declared.keys.Node.{Node as NodeRecord};
@@ -8,12 +8,14 @@ ghost use Rattle.memo_core.specs.Views.{as_memos};
 ghost use Rattle.memo_core.specs.Tests.{all_nodes};
 ghost use Rattle.memo_core.specs.Marks.{mark_of, with_mark_at, unmarked_count, is_ready, IsMarkedTo, AreMarked, HasUnmarked};
 ghost use Rattle.memo_core.specs.Step.{Has};
+ghost use Rattle.memo_engine.specs.Needs.{IsMemoAt};
 ghost use Rattle.memo_engine.specs.Unmarked.{without_mark_at, marked_count, IsClosedTo, IsMarkedBut, HasNoNewMark, LosesMarks};
 ghost use Rattle.memo_engine.specs.Waiting.{IsWholeTo};
 
+use crate::needs::{Need, node_need};
 use crate::waiting::Waiting;
 use memo_core::keys::{Key, Node};
-use memo_core::table::{Memos, find, matches};
+use memo_core::table::{Memos, find};
 use memo_core::texts::Texts;
 use value_store::{StoreName, Token};
 
@@ -49,39 +51,39 @@ pub fn inputs_marked<K: StoreName, T: Texts>(
     true
 }
 
-/// Whether a node is to be marked now. One that has to be computed first, and can be, is noted.
+/// The index of the memo of a node that is to be marked now. A node that has to be computed first,
+/// and can be, is noted.
 fn can_mark<K: StoreName, T: Texts>(
     texts: &T,
     memos: &Memos<Token<K, T::Value>>,
     waiting: &mut Waiting,
     node: Node,
-) -> bool
-    ensures ready { result ≡ is_ready (T.net texts.now) memos.now.entries node }
-    ensures whole { (claims : List (ℕ × Claim)) (rest : List NodeRecord) → IsFalse result
+) -> Option<usize>
+    ensures ready { is_some result ≡ is_ready (T.net texts.now) memos.now.entries node }
+    ensures index { IfSome result (λ index. IsMemoAt node index memos.now.entries) }
+    ensures whole { (claims : List (ℕ × Claim)) (rest : List NodeRecord) → IsNone result
         → IsMarkedTo (T.net texts.now) memos.now.entries (node ∷ rest)
         → IsWholeTo (T.net texts.now) memos.now.entries claims waiting.old (node ∷ rest)
         → IsWholeTo (T.net texts.now) memos.now.entries claims waiting.new rest }
-    ensures same { IsTrue result → waiting.new ≡ waiting.old }
+    ensures same { IsSome result → waiting.new ≡ waiting.old }
 {
-    if is_marked(memos, node) {
-        return false;
+    match node_need(texts, memos, node) {
+        Need::Nothing => None,
+        Need::Work => {
+            waiting.note(node);
+            None
+        }
+        Need::Mark(index) => Some(index),
     }
-    if !inputs_marked(texts, memos, node) {
-        return false;
-    }
-    if matches(texts, memos, node) {
-        return true;
-    }
-    waiting.note(node);
-    false
 }
 
-/// Marks a node's memo.
-fn mark<K: StoreName, V: Drop>(memos: &mut Memos<Token<K, V>>, node: Node)
-    ensures marks { memos.new.entries ≡ with_mark_at node memos.old.entries }
+/// Marks the memo of an index.
+fn mark<K: StoreName, V: Drop>(memos: &mut Memos<Token<K, V>>, index: usize)
+    ensures marks { (n : NodeRecord) → IsMemoAt n index memos.old.entries
+        → memos.new.entries ≡ with_mark_at n memos.old.entries }
     ensures room { spare memos.new ≡ spare memos.old }
 {
-    if let Some(kept) = memos.get_mut(&node) {
+    if let Some(kept) = memos.get_index_mut(index) {
         kept.settled = true;
     }
 }
@@ -107,10 +109,11 @@ pub(crate) fn settle<K: StoreName, T: Texts>(
         → IsWholeTo (T.net texts.now) memos.new.entries claims waiting.new rest }
     ensures room { spare memos.new ≡ spare memos.old }
 {
-    if !can_mark(texts, memos, waiting, node) {
-        return;
-    }
-    mark(memos, node);
+    let index = match can_mark(texts, memos, waiting, node) {
+        Some(index) => index,
+        None => return,
+    };
+    mark(memos, index);
     let count = texts.user_count(node);
     for i in 0..count {
         settle(texts, memos, waiting, texts.user_at(node, i));

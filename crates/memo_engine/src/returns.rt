@@ -47,7 +47,7 @@ impl<K: StoreName, T: Texts> Graph<K, T> {
             let stamp = first_stale(&self.texts, memos, done.node, claim.inputs.as_slice());
             return Judgement::Late(Some(stamp));
         }
-        if !keys_are(&self.texts, done.node, done.keys.as_slice()) {
+        if !keys_are(claim.inputs.as_slice(), done.keys.as_slice()) {
             return Judgement::Undue;
         }
         if !self.texts.is_given(done.node, &done.given) {

@@ -1,29 +1,21 @@
 use Rattle.std.proofs.Common.{sym, ◌∙◌, arith}
-use Rattle.std.proofs.lemmas.List.{drop_all}
+use Rattle.std.proofs.lemmas.List.{length-map}
+use Rattle.memo_core.specs.declared.keys.Input.{Input}
 use Rattle.memo_core.proofs.Inputs.{other_keys}
 use Rattle.memo_engine.proofs.FindLemmas.{keys_from}
 use Rattle.memo_engine.proofs.finds.keys_are.Goals as goal
 
 pub returns-then-keys-count : goal.returns-then-keys-count
-returns-then-keys-count g c =
-    sym (other_keys _ _ (λ e. c.if-keys-count.true (e ∙ sym c.input_count-count.ensures)))
+returns-then-keys-count c =
+    sym (other_keys _ _ (λ e. c.if-keys-count.true
+    (e ∙ length-map c.args.inputs.now (λ (i : Input). i.key))))
 
-pub returns-then-not-same : goal.returns-then-not-same
-returns-then-not-same g c =
-    let ls = (g.T.Texts.net c.args.texts.now).inputs c.args.node in
-    sym (rw c.if-not-same.true at (keys_from c.args.keys.now ls c.loop-i.i _ c.input_at-key.result
-    (omega arith) c.input_at-key.ensures.rest c.is_same_key-same.result
-    c.is_same_key-same.ensures)) ∙ c.loop-i.invariant
+pub returns-then-not-is_same_key : goal.returns-then-not-is_same_key
+returns-then-not-is_same_key c =
+    sym (rw c.if-not-is_same_key.true at (keys_from c.args.keys.now c.args.inputs.now c.loop-i.i _ _
+    (omega arith) (omega arith) c.is_same_key.result c.is_same_key.ensures)) ∙ c.loop-i.invariant
 
 pub loop-i-preserved : goal.loop-i-preserved
-loop-i-preserved g c =
-    let ls = (g.T.Texts.net c.args.texts.now).inputs c.args.node in
-    sym (rw c.if-not-same.false at (keys_from c.args.keys.now ls c.loop-i.i _ c.input_at-key.result
-    (omega arith) c.input_at-key.ensures.rest c.is_same_key-same.result
-    c.is_same_key-same.ensures)) ∙ c.loop-i.invariant
-
-pub returns : goal.returns
-returns g c =
-    let ls = (g.T.Texts.net c.args.texts.now).inputs c.args.node in
-    rw (drop_all c.loop-i.i c.args.keys.now (omega arith), drop_all c.loop-i.i ls (omega arith)) at
-    c.loop-i.invariant
+loop-i-preserved c =
+    sym (rw c.if-not-is_same_key.false at (keys_from c.args.keys.now c.args.inputs.now c.loop-i.i _ _
+    (omega arith) (omega arith) c.is_same_key.result c.is_same_key.ensures)) ∙ c.loop-i.invariant

@@ -1,39 +1,40 @@
-use Rattle.std.proofs.Common.{◌∙◌, sym, arith}
+use Rattle.std.proofs.Common.{◌∙◌, refl, sym, arith}
 use Rattle.std.proofs.lemmas.List.{drop_all}
 use Rattle.memo_core.specs.Graph.{present_inputs}
 use Rattle.memo_core.specs.Views.{as_memos}
 use Rattle.memo_engine.proofs.MarkLemmas.{as_memos-with_mark_at, unmarked_count-less, ready_there, passed, marked_on, marked_whole, has_at}
 use Rattle.memo_engine.proofs.marks.+settle.Goals as goal
 
-pub returns-then-not-can_mark-clause-marks : goal.returns-then-not-can_mark-clause-marks
-returns-then-not-can_mark-clause-marks g t c =
+pub returns-in-None-clause-marks : goal.returns-in-None-clause-marks
+returns-in-None-clause-marks g t c =
     λ valid there rest p. passed (g.T.Texts.net c.args.texts.now) c.args.memos.now.entries c.args.node
-    (sym c.can_mark.ensures.ready ∙ c.if-not-can_mark.true) rest p
+    (sym c.in-None.ensures.ready) rest p
 
-pub returns-then-not-can_mark-clause-whole : goal.returns-then-not-can_mark-clause-whole
-returns-then-not-can_mark-clause-whole g t c =
-    λ valid there claims rest p. c.can_mark.ensures.whole claims rest c.if-not-can_mark.true p
+pub returns-in-None-clause-whole : goal.returns-in-None-clause-whole
+returns-in-None-clause-whole g t c =
+    λ valid there claims rest p. c.in-None.ensures.whole claims rest refl p
 
 pub loop-i-init : goal.loop-i-init
 loop-i-init g t c =
     let net = g.T.Texts.net c.args.texts.now in
     let ks = c.args.memos.now.entries in
-    let now = sym c.can_mark.ensures.ready ∙ c.if-not-can_mark.false in
+    let now = sym c.in-Some.ensures.ready in
+    let marked = c.mark.ensures.marks c.args.node c.in-Some.ensures.index in
     let r = ready_there net ks c.args.node now in
     record {
-      same = rw c.mark.ensures.marks (as_memos-with_mark_at c.args.node ks);
+      same = rw marked (as_memos-with_mark_at c.args.node ks);
       fewer =
-          rw c.mark.ensures.marks (unmarked_count-less c.args.node ks
+          rw marked (unmarked_count-less c.args.node ks
           (present_inputs net (as_memos ks) (net.inputs c.args.node)) r.1 r.0);
       marks =
-          λ valid there rest p. rw c.mark.ensures.marks (marked_on net ks c.args.node
+          λ valid there rest p. rw marked (marked_on net ks c.args.node
           (g.T.Texts.users c.args.texts.now)
           (λ u has on.
           (g.met.T.Texts.users_are c.args.texts.now valid).listed c.args.node u has on)
           there now rest p);
       whole =
           λ valid there claims rest p w. rw
-          (c.mark.ensures.marks, c.can_mark.ensures.same c.if-not-can_mark.false)
+          (marked, c.in-Some.ensures.same refl)
           (marked_whole net ks c.args.node (g.T.Texts.users c.args.texts.now)
           (λ u has on.
           (g.met.T.Texts.users_are c.args.texts.now valid).listed c.args.node u has on)

@@ -2,6 +2,7 @@ use Rattle.std.proofs.Common.{◌∙◌, ap, sym, option_copied}
 use Rattle.memo_core.specs.Views.{as_memos, shown_outputs, shown_values}
 use Rattle.memo_core.specs.Step.{return_of}
 use Rattle.memo_engine.proofs.WorkLemmas.{has_there}
+use Rattle.memo_engine.proofs.FindLemmas.{keys_claimed}
 use Rattle.memo_core.proofs.JudgeLemmas.{has_yes, other_given, none_out, other_node, not_used, not_present, other_inputs, others_values, is_due}
 use Rattle.memo_engine.proofs.graph.Graph.judge.Goals as goal
 
@@ -53,13 +54,15 @@ returns-then-not-keys_are g c =
     let s = c.args.self.now in
     let d = c.args.done.now in
     let r = return_of d.claim d.node d.given d.keys.items (shown_values d.values.items) (shown_outputs d.outputs.items) in
+    let claimed = keys_claimed (g.T.Texts.net s.texts) (as_memos s.memos.entries) ((g.T.Texts.net s.texts).inputs d.node) c.in-Some.claim.now.inputs.items (rw c.as_slice.ensures.value at (sym c.are_present.ensures ∙ c.if-not-are_present.false)) in
     let is = ap option_copied (sym c.in-Some.is) ∙ c.get.ensures.value in
     other_inputs (g.T.Texts.net s.texts) (as_memos s.memos.entries) s.claims.entries s.taken r
     c.in-Some.claim.now is
     (sym c.is_same_node.ensures ∙ c.if-not-is_same_node.false)
     (sym c.is_used.ensures ∙ c.if-not-is_used.false)
     (rw c.as_slice.ensures.value at (sym c.are_present.ensures ∙ c.if-not-are_present.false))
-    (rw c.as_slice-2.ensures.value at (sym c.keys_are.ensures ∙ c.if-not-keys_are.true))
+    (rw (c.as_slice-2.ensures.value, c.as_slice-3.ensures.value, claimed) at
+    (sym c.keys_are.ensures ∙ c.if-not-keys_are.true))
 
 pub is_given-requires : goal.is_given-requires
 is_given-requires g c =
@@ -88,15 +91,17 @@ returns-then-not-values_are g c =
     let s = c.args.self.now in
     let d = c.args.done.now in
     let r = return_of d.claim d.node d.given d.keys.items (shown_values d.values.items) (shown_outputs d.outputs.items) in
+    let claimed = keys_claimed (g.T.Texts.net s.texts) (as_memos s.memos.entries) ((g.T.Texts.net s.texts).inputs d.node) c.in-Some.claim.now.inputs.items (rw c.as_slice.ensures.value at (sym c.are_present.ensures ∙ c.if-not-are_present.false)) in
     let is = ap option_copied (sym c.in-Some.is) ∙ c.get.ensures.value in
     others_values (g.T.Texts.net s.texts) (as_memos s.memos.entries) s.claims.entries s.taken r
     c.in-Some.claim.now is
     (sym c.is_same_node.ensures ∙ c.if-not-is_same_node.false)
     (sym c.is_used.ensures ∙ c.if-not-is_used.false)
     (rw c.as_slice.ensures.value at (sym c.are_present.ensures ∙ c.if-not-are_present.false))
-    g.T.Texts.same g.met.T.Texts.same_exact (rw c.as_slice-2.ensures.value at
+    g.T.Texts.same g.met.T.Texts.same_exact (rw
+    (c.as_slice-2.ensures.value, c.as_slice-3.ensures.value, claimed) at
     (sym c.keys_are.ensures ∙ c.if-not-keys_are.false))
-    (rw (c.as_slice-3.ensures.value, c.as_slice-values.ensures.value) at
+    (rw (c.as_slice-4.ensures.value, c.as_slice-values.ensures.value) at
     (sym c.values_are.ensures ∙ c.if-not-values_are.true))
 
 pub returns : goal.returns
@@ -104,14 +109,16 @@ returns g c =
     let s = c.args.self.now in
     let d = c.args.done.now in
     let r = return_of d.claim d.node d.given d.keys.items (shown_values d.values.items) (shown_outputs d.outputs.items) in
+    let claimed = keys_claimed (g.T.Texts.net s.texts) (as_memos s.memos.entries) ((g.T.Texts.net s.texts).inputs d.node) c.in-Some.claim.now.inputs.items (rw c.as_slice.ensures.value at (sym c.are_present.ensures ∙ c.if-not-are_present.false)) in
     let is = ap option_copied (sym c.in-Some.is) ∙ c.get.ensures.value in
     is_due (g.T.Texts.net s.texts) (as_memos s.memos.entries) s.claims.entries s.taken r
     c.in-Some.claim.now is
     (sym c.is_same_node.ensures ∙ c.if-not-is_same_node.false)
     (sym c.is_used.ensures ∙ c.if-not-is_used.false)
     (rw c.as_slice.ensures.value at (sym c.are_present.ensures ∙ c.if-not-are_present.false))
-    g.T.Texts.same g.met.T.Texts.same_exact (rw c.as_slice-2.ensures.value at
+    g.T.Texts.same g.met.T.Texts.same_exact (rw
+    (c.as_slice-2.ensures.value, c.as_slice-3.ensures.value, claimed) at
     (sym c.keys_are.ensures ∙ c.if-not-keys_are.false))
     (sym c.is_given.ensures ∙ c.if-not-is_given.false) (rw
-    (c.as_slice-3.ensures.value, c.as_slice-values.ensures.value) at
+    (c.as_slice-4.ensures.value, c.as_slice-values.ensures.value) at
     (sym c.values_are.ensures ∙ c.if-not-values_are.false))
