@@ -3,6 +3,7 @@ pub mod Histories
 pub mod Empty
 pub mod Preparing
 pub mod Indexes
+pub mod Members
 pub mod Above
 pub mod Verdicts
 pub mod Crossings

@@ -49,10 +49,11 @@ pub record IsCellAt (b : BoardContent) (index : ℕ) (at : CellIndex) : Type 0 w
   pub there : HasCell b at
   pub countable : IsCountable b
 
--- the indexes are no more than these cells, and those of the row's cells are among them
-pub record IsRowRange (count models row first end : ℕ) : Type 0 where
+-- the indexes are no more than these cells, and so many of the row's cells, from that of one model
+-- on, are among them
+pub record IsRowRange (count models row from wanted first end : ℕ) : Type 0 where
   pub within : end ≤ count
-  pub all : (j : ℕ) → j < models → row * models + j < count
+  pub all : (j : ℕ) → from ≤ j → j < from + wanted → row * models + j < count
       → (first ≤ row * models + j) × (row * models + j < end)
 
 -- ---- their names

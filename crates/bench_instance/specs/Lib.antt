@@ -2,6 +2,7 @@ pub mod StampedTexts
 pub mod Edited
 pub mod StampedCells
 pub mod Cells
+pub mod Above
 pub mod Texts
 pub mod Posted
 pub mod Outputs

@@ -79,19 +79,18 @@ fn is_there(board: &Board, at: CellIndex) -> bool
     }
 }
 
-// The indexes of the cells of a row, of so many cells.
-fn row_range(count: usize, models: usize, row: usize) -> CellRange
-    ensures { IsRowRange count models row result.first result.end }
+// The indexes of so many cells of a row, from that of one model on, among `count` cells.
+fn row_range(count: usize, models: usize, row: usize, from: usize, wanted: usize) -> CellRange
+    ensures { IsRowRange count models row from wanted result.first result.end }
 {
     let first = match row.checked_mul(models) {
-        Some(first) => first,
+        Some(start) => start.saturating_add(from),
         None => count,
     };
-    let end = match first.checked_add(models) {
-        Some(end) => end.min(count),
-        None => count,
-    };
-    CellRange { first, end }
+    CellRange {
+        first,
+        end: first.saturating_add(wanted).min(count),
+    }
 }
 
 impl BoardTexts for StampedTexts {
@@ -166,7 +165,10 @@ impl BoardTexts for StampedTexts {
         let count = <StampedTexts as BoardTexts>::cell_count(board);
         let models = board.model_count();
         let row = self.test_row(node.test);
-        row_range(count, models, row)
+        match self.model_above(node) {
+            Some(model) => row_range(count, models, row, model, 1),
+            None => row_range(count, models, row, 0, models),
+        }
     }
 
     fn settle(

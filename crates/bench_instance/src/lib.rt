@@ -13,6 +13,7 @@
 mod board_texts;
 mod cell_texts;
 mod copies;
+mod models_above;
 mod outputs;
 mod running;
 pub mod stamped_laws;

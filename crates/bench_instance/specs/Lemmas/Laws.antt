@@ -554,15 +554,13 @@ IsListedAt b index test model =
     (c : BoardCell Outcome) × (slice_get (board_cells b) index ≡ Some c) × (c.test ≡ test)
     × (c.model ≡ model)
 
--- in the row of that test
-abbrev pub IsListedInRow : BoardContent → ℕ → List ℕ → List ℕ → Type 0
-IsListedInRow b row test model =
-    (j : ℕ) × (j < length b.columns) × IsListedAt b (row * length b.columns + j) test model
-
-pub cells_are_in_rows : (t : StampedTexts) (all : List BoardOp) (test model : List ℕ) (n : Node)
+-- it is listed in the row of its test, at the index of its model
+pub cells_are_there : (t : StampedTexts) (all : List BoardOp) (test model : List ℕ) (n : Node)
     → AreSoundTexts t → AreAfter t all → verdict_of t test model ≡ Some n
-    → IsListedInRow (board_after all) (test_index test (texts_of t.texts).tests) test model
-cells_are_in_rows t all test model n sound a h =
+    → (model_index model (texts_of t.texts).models < length (board_after all).columns)
+    × IsListedAt (board_after all) (test_index test (texts_of t.texts).tests
+    * length (board_after all).columns + model_index model (texts_of t.texts).models) test model
+cells_are_there t all test model n sound a h =
     let b = board_after all in
     let texts = texts_after all in
     let i = test_index test (texts_of t.texts).tests in
@@ -572,7 +570,6 @@ cells_are_in_rows t all test model n sound a h =
     let model_there = ap (λ (g : TestsAndModels). slice_get g.models j) (sym a.held) ∙ cell.model_is in
     let row = named_there (λ x. x.name) (λ r. r.name) texts.tests b.rows i cell.of_test (sym (a.names).tests) test_there in
     let column = named_there (λ x. x.name) (λ m. m.name) texts.models b.columns j cell.of_model (sym (a.names).models) model_there in (
-      j,
       is_below b.columns j column.0 column.1,
       (
         cell_with row.0.name column.0.name (outcome_at row.0.cells j),
@@ -594,10 +591,11 @@ pub cells_are_known : (t : StampedTexts) (all : List BoardOp) (test model : List
     → AreSoundTexts t → AreAfter t all → verdict_of t test model ≡ Some n
     → IsListed (board_after all) test model
 cells_are_known t all test model n sound a h =
-    let k = cells_are_in_rows t all test model n sound a h in (
-      test_index test (texts_of t.texts).tests * length (board_after all).columns + k.0,
-      k.2.0,
-      k.2.1,
-      k.2.2,
-      k.2.3,
+    let k = cells_are_there t all test model n sound a h in (
+      test_index test (texts_of t.texts).tests * length (board_after all).columns
+          + model_index model (texts_of t.texts).models,
+      k.1.0,
+      k.1.1,
+      k.1.2,
+      k.1.3,
     )
