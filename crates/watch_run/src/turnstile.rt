@@ -155,6 +155,10 @@ impl<'d, J: Naming + StoreName, X: BoardTexts, R: Wait + Drop> Gate for Turnstil
     }
 
     fn end<W: Wait>(&self, _rt: &W, _claim: u64) {}
+
+    fn hears_ends(&self) -> bool {
+        false
+    }
 }
 
 /// Runs a body beside so many workers whose jobs the turnstile lets begin, as `with_workers` does,
