@@ -49,7 +49,8 @@ changed_model _ = None
 
 -- ---- of a command
 
--- of a request, the word at fault; of a line that is refused, all its words, which are not named here
+-- of a request, the word at fault; of a line that is refused, all its words, which are not named
+-- here
 abbrev pub IsBlamed : BenchTexts → Command → List ℕ → Type 0
 IsBlamed t (commands.Asked request text) word = word ≡ blamed_word t request
 IsBlamed t (commands.Refused rule) word = Unit {0}

@@ -1,4 +1,5 @@
--- Why the viewer of a session was not told of its edit, and when that is `Shared`. Read after Faults.
+-- Why the viewer of a session was not told of its edit, and when that is `Shared`. Read after
+-- Faults.
 use Rattle.std.specs.Prelude.{◌≡◌, ◌≢◌, ℕ, List, [], leb}
 use Rattle.bench_texts.specs.declared.edit.Edit.{Edit}
 use Rattle.bench_texts.specs.declared.fault.EditFault.{EditFault}

@@ -1,13 +1,15 @@
 //! Questions of a session.
 
-ghost use Rattle.std.specs.Prelude.{◌≡◌, ◌≢◌, true, IfOk, IfErr, IfSome, OnOk, Some, Err};
+ghost use Rattle.std.specs.Prelude.{◌≡◌, ◌≢◌, true, false, IfOk, IfErr, IfSome, OnOk, OnErr, Some, Err};
 ghost use mathlib.Core.List.{IsPrefix};
 ghost use Rattle.bench_texts.specs.Held.{texts_of};
 ghost use Rattle.board.specs.Edits.{edit_count};
 ghost use Rattle.board.specs.Legal.{IsLegal};
 ghost use Rattle.board.specs.Operations.{board_after};
+ghost use Rattle.desk.specs.Rows.{count_after, are_too_many};
 ghost use Rattle.session_answers.specs.Questions.{IsReply};
 ghost use Rattle.session_run.specs.Faults.{IsOwnFault};
+ghost use Rattle.session_run.specs.Rows.{is_refused_turn, MayEndAfter};
 ghost use Rattle.session_views.specs.Knowing.{KnowsTexts};
 ghost use Rattle.session_views.specs.Progress.{progress_of};
 
@@ -201,6 +203,19 @@ fn work_or_wait<J: Naming + StoreName, R: Wait + Drop, W: Wait>(
     Ok(())
 }
 
+// Counts a turn that was refused. Errors: `Memory`, where that makes too many in a row.
+fn note_refused(refusals: &mut Refusals) -> Result<(), SessionFault>
+    ensures count { refusals.new.count ≡ count_after true refusals.old.count }
+    ensures few { OnOk result (are_too_many refusals.new.count ≡ false) }
+    ensures many { OnErr result (are_too_many refusals.new.count ≡ true) }
+    ensures fault { OnErr result (result ≡ Err SessionFault.Memory) }
+{
+    if refusals.note(true) {
+        return Err(SessionFault::Memory);
+    }
+    Ok(())
+}
+
 // Goes on where the board showed a cell open that a question asks for. A job or a wait ends a row
 // of refusals. Where each cell was settled before that look, an edit of someone else has opened one
 // since, and the next look counts that edit.
@@ -214,19 +229,24 @@ fn go_on<J: Naming + StoreName, R: Wait + Drop, W: Wait>(
 ) -> Result<(), SessionFault>
     ensures fault { IfErr result IsOwnFault }
     ensures unshared { has_workers ≡ true → result ≢ Err SessionFault.Shared }
+    // It goes on just where fewer than 16 turns were refused in a row, and no job ends it.
+    ensures row { OnOk result
+        (refusals.new.count ≡ count_after (is_refused_turn settling) refusals.old.count) }
+    ensures few { OnOk result (are_too_many refusals.new.count ≡ false) }
+    ensures ends { OnErr result (MayEndAfter settling refusals.old.count) }
 {
-    let is_refused = match settling {
-        Settling::Done => false,
+    match settling {
+        Settling::Done => {
+            let _many = refusals.note(false);
+            Ok(())
+        }
         Settling::Waits(changes) => {
             work_or_wait(rt, alloc, desk, has_workers, changes)?;
-            false
+            let _many = refusals.note(false);
+            Ok(())
         }
-        Settling::Refused => true,
-    };
-    if refusals.note(is_refused) {
-        return Err(SessionFault::Memory);
+        Settling::Refused => note_refused(refusals),
     }
-    Ok(())
 }
 
 /// The answer to a question, once the cells are settled that it asks for. A listener hears how far

@@ -125,9 +125,9 @@ where
 /// `Shared`. What was written by then is the output of the first commands, and of the next answer a
 /// front where a write failed. `Memory` comes where a growth is refused, the store is full, a
 /// worker gave up, or the desk gives no viewer or no view. `Shared` says that the desk is not the
-/// session's alone: it refuses an edit by a rule, has no number left for a claim, or shows another
-/// count of edits than the session made. A gate hears of each job of a worker: the workers have a
-/// copy of it.
+/// session's alone, or that no number is left: it refuses an edit by a rule, has no number for a
+/// claim, or shows another count of edits than the session made. A gate hears of each job of a
+/// worker: the workers have a copy of it.
 pub fn session<R, S, K, G>(
     rt: &R,
     source: &mut S,
