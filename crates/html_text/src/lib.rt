@@ -7,8 +7,6 @@
 mod element;
 mod escape;
 pub mod laws;
-#[cfg(test)]
-mod tests;
 
 pub use element::{Attribute, put_attribute, put_close, put_element, put_open};
 pub use escape::put_escaped;

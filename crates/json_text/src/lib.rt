@@ -6,8 +6,6 @@
 pub mod laws;
 mod number;
 mod string;
-#[cfg(test)]
-mod tests;
 
 pub use number::put_number;
 pub use string::put_string;

@@ -11,8 +11,6 @@ mod pair;
 mod record;
 mod tab;
 mod tab_difference;
-#[cfg(test)]
-mod tests;
 
 pub use json::{put_eval_json, put_test_json};
 pub use json_difference::put_pair_json;

@@ -4,7 +4,5 @@
 
 mod field;
 pub mod laws;
-#[cfg(test)]
-mod tests;
 
 pub use field::put_field;

@@ -2,7 +2,7 @@
 //! with a known answer, the words of the rules, what `docs/USING.md` shows of files, and reasons
 //! and drawings. Each of these parts begins with a line that names it. Behind them it asks the
 //! evaluator what a table of questions asks, evaluates from sources and to sinks of bytes that
-//! fail, and prints reports and logs of outcomes that are made up.
+//! fail, and prints reports, logs and lines for programs of outcomes that are made up.
 #![tactic(auto)]
 
 mod bindings;
@@ -14,6 +14,7 @@ mod inputs;
 mod logs;
 mod nodes;
 mod outcomes;
+mod records;
 mod reports;
 mod rules;
 mod streams;
@@ -44,7 +45,8 @@ fn run<R: Files + Print + AllocGlobal>(rt: &R) -> io::Result<()> {
     let input = fs::read(rt, "MP.txt")?;
     streams::show(rt, &input)?;
     reports::show(rt)?;
-    logs::show(rt)
+    logs::show(rt)?;
+    records::show(rt)
 }
 
 fn main(rt: HostRuntime) -> io::Result<()> {
