@@ -1,11 +1,11 @@
 //! Makes the edits that `parts.txt` lists, one a line, on texts with their parts: each line is
 //! printed with the rows that are made beside the parts, where the number after the last one stands
-//! for that of the edit. Then they are put in place under the number in front of the line. The
-//! answers that are wanted were written by hand.
+//! for that of the edit, and with the number of nodes that it touches. Then they are put in place
+//! under the number in front of the line. The answers that are wanted were written by hand.
 
 use crate::print_answer;
 use crate::texts::answers::put_result;
-use bench_edits::{EditedParts, commit_parts, prepare_parts};
+use bench_edits::{EditedParts, commit_parts, prepare_parts, touched_nodes};
 use bench_nodes::{ItemRow, ModelRow, TestRow};
 use bench_parts::Parts;
 use bench_texts::{Edit, EditFault, Texts};
@@ -120,7 +120,7 @@ impl Stamped {
         }
     }
 
-    /// Makes an edit of that number, and tells what was made.
+    /// Makes an edit of that number, and tells what was made, and how many nodes it touches.
     fn edit(
         &mut self,
         alloc: Global,
@@ -137,6 +137,9 @@ impl Stamped {
             prepared.replacement(),
         )?;
         put_made(answer, &made)?;
+        let touched = touched_nodes(alloc, &self.parts, &made)?;
+        put_bytes(answer, b", touches")?;
+        put_stamp(answer, touched.len() as u64)?;
         self.texts.commit(prepared);
         commit_parts(&mut self.parts, made, number);
         Ok(())
