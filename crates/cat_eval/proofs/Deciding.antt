@@ -1,4 +1,5 @@
--- Whether a check holds can be told in each candidate: what its names stand for is held in words.
+-- A check is decidable in each candidate: membership in a bit row is, so each operator is, and
+-- closures by induction on the events allowed in between.
 use Rattle.std.proofs.Common.{ℕ, ◌≡◌, ◌<◌, ◌≤◌, ◌+◌, ◌^◌, ◌↔◌, ◌⊎◌, inl, inr, zero, suc, List, [], ◌∷◌, Bool, true, false, IsTrue, refl, subst, arith}
 use Rattle.std.specs.Prelude.{Option, Some, None, slice_get, slice_index}
 use Rattle.std.proofs.lemmas.Bool.{cases_lt, cases_eq, false≢true}
@@ -244,7 +245,7 @@ module _ (n : ℕ) (sets : Source → ℕ → Type 0) (rels : Source → ℕ →
   told_relation (Close how e) = closed how n _ (told_relation e)
   told_relation (ComplementRelation e) = others n _ (told_relation e)
 
--- ---- what is held in words
+-- ---- bit rows
 
 bit_below : (w k : ℕ) → Bit w k → k < w
 unfolding Bit

@@ -16,7 +16,7 @@ use Rattle.cat_eval.specs.Least.{IsLeast, AreMonotone}
 use Rattle.cat_eval.specs.Rising.{AreCodes}
 use Rattle.cat_eval.specs.Values.{IsFor, IsMeaning, column_len}
 
--- the column's value for the candidate of this number: of the two the one of its kind
+-- the column's value for the candidate of this number: `s` if it holds sets, `r` if relations
 abbrev pub HasColumnValue : Column → ℕ → Events → Relation → Type 0
 HasColumnValue (columns.Sets values) k s r = slice_get values k ≡ Some s
 HasColumnValue (columns.Relations values) k s r = slice_get values k ≡ Some r

@@ -67,7 +67,7 @@ AddsValue (columns.Sets xs) (columns.Relations ys) s r = ⊥
 AddsValue (columns.Relations xs) (columns.Sets ys) s r = ⊥
 AddsValue (columns.Relations xs) (columns.Relations ys) s r = ys ≡ xs ++ r ∷ []
 
--- it has so many values more, all the same: of the two the one of its kind
+-- the column gains so many equal values: `s` if it holds sets, `r` if relations
 abbrev pub AddsRun : Column → Column → ℕ → Events → Relation → Type 0
 AddsRun (columns.Sets xs) (columns.Sets ys) m s r = ys ≡ xs ++ replicate m s
 AddsRun (columns.Sets xs) (columns.Relations ys) m s r = ⊥

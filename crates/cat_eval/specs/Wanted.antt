@@ -45,7 +45,7 @@ AreWantedOver wanted recursive bodies inputs bases cs =
     (whole : List Column) × AreColumnsOver recursive bodies inputs bases whole
     × AreWantedColumns wanted whole cs
 
--- the new column has one value more, or it is the old one
+-- the column gains one value, or it is the old one
 abbrev pub AddsIf : Bool → Column → Column → Events → Relation → Type 0
 AddsIf true old new s r = AddsValue old new s r
 AddsIf false old new s r = new ≡ old

@@ -165,8 +165,8 @@ TellsSettled is_legal are_settled me me' Done = IsPrefix me me' × are_settled m
 TellsSettled is_legal are_settled me me' (Waits changes) = me' ≡ me
 TellsSettled is_legal are_settled me me' Refused = me' ≡ me
 
--- the call was refused: the texts of the bench may have more room, the desk may owe what it did
--- not, and nothing else changed
+-- The call was refused: the texts of the bench may have more room, and nothing else changed. What
+-- is owed is said by the clause `debt`.
 abbrev pub IsRefusedTurn : {T E V G O : Type 0} → TextsMeaning T E V G → (old new : Held T V O) → Type 0
 IsRefusedTurn means old new =
     Step means old.bench core.Refused new.bench

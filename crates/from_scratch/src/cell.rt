@@ -315,7 +315,8 @@ fn answer_next<'a>(
 /// The items that checks and flags reach, over all candidates. What is said asks that each item
 /// uses names of earlier items alone, and that the bodies of recursive groups grow with their
 /// names: what `binding_graph::resolve` ensures of a model without fault gives the first
-/// (`resolved_ordered`), and `evaluation_laws::items_are_coded` the second. Errors: want of memory.
+/// (`resolved_ordered` of proofs/Ordered), and `evaluation_laws::items_are_coded` the second.
+/// Errors: want of memory.
 #[inline(never)]
 pub fn answers<'a>(
     alloc: Global,
