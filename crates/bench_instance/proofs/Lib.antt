@@ -9,3 +9,4 @@ pub mod Verdicts
 pub mod Crossings
 pub mod Posted
 pub mod Contents
+pub mod EditedCells

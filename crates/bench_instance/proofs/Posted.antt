@@ -42,7 +42,7 @@ settled_get (Some o ∷ os) zero h = (o, refl)
 settled_get (p ∷ os) (suc j) h = settled_get os j h
 
 -- a cell at these indexes, settled
-shown_there : (b : BoardContent) (i j : ℕ) (r : RowContent) → slice_get b.rows i ≡ Some r
+pub shown_there : (b : BoardContent) (i j : ℕ) (r : RowContent) → slice_get b.rows i ≡ Some r
     → IsSome (outcome_at r.cells j) → (o : Outcome) × (shown_cell (cell_at b.rows i j) ≡ Settled o)
 shown_there b i j r row is =
     let s = settled_get r.cells j is in (
@@ -124,7 +124,7 @@ settled_history_is_shown ops history settled =
 
 -- ---- a listed cell has a row and a column
 
-record IsListed (columns : List ColumnContent) (rows : List RowContent) (cell : BoardCell Outcome)
+pub record IsListed (columns : List ColumnContent) (rows : List RowContent) (cell : BoardCell Outcome)
     : Type 0 where
   pub i : ℕ
   pub j : ℕ
@@ -180,7 +180,7 @@ further columns r rs cell l = record {
 split : (n k : ℕ) → n ≤ k → n + (k - n) ≡ k
 split n k le = omega (arith, le)
 
-located : (columns : List ColumnContent) (rows : List RowContent) (k : ℕ) (cell : BoardCell Outcome)
+pub located : (columns : List ColumnContent) (rows : List RowContent) (k : ℕ) (cell : BoardCell Outcome)
     → slice_get (all_cells columns rows) k ≡ Some cell → IsListed columns rows cell
 located columns [] k cell e = absurd (none-some cell e)
 located columns (r ∷ rs) k cell e = elim (cases_lt k (length (row_cells r.name columns r.cells))) [
@@ -195,7 +195,7 @@ located columns (r ∷ rs) k cell e = elim (cases_lt k (length (row_cells r.name
       (split (length (row_cells r.name columns r.cells)) k le) ∙ e)))
 ]
 
-of_all : (cs : List (BoardCell Outcome)) (few : Bool) (k : ℕ) (cell : BoardCell Outcome)
+pub of_all : (cs : List (BoardCell Outcome)) (few : Bool) (k : ℕ) (cell : BoardCell Outcome)
     → slice_get (if few then cs else []) k ≡ Some cell → slice_get cs k ≡ Some cell
 of_all cs true k cell e = e
 of_all cs false k cell e = absurd (none-some cell e)

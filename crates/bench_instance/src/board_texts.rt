@@ -171,6 +171,18 @@ impl BoardTexts for StampedTexts {
         }
     }
 
+    fn cells_edited(&self, board: &Board) -> CellRange {
+        let count = <StampedTexts as BoardTexts>::cell_count(board);
+        let models = board.model_count();
+        match self.touched_test() {
+            Some(test) => row_range(count, models, self.test_row(test), 0, models),
+            None => CellRange {
+                first: 0,
+                end: count,
+            },
+        }
+    }
+
     fn settle(
         alloc: Global,
         board: &Board,

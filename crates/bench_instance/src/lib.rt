@@ -18,6 +18,7 @@ mod outputs;
 mod running;
 pub mod stamped_laws;
 mod stamped_texts;
+mod touched;
 mod view;
 pub mod view_laws;
 

@@ -26,6 +26,19 @@ module _ {T O : Type 0} (is_settle : O → Type 0) (are_after : T → List O →
     cells = q.cells ∙ p.cells;
   }
 
+  -- where nothing was appended
+  pub posts_none : (a b : Pressed O) → b ≡ a → are_after t a.all
+      → Posts is_settle are_after last_number count t a b
+  posts_none a b same after = record {
+    more = [];
+    are_settles = tt;
+    all = ap (λ (p : Pressed O). p.all) same ∙ sym (append-nil a.all);
+    published = ap (λ (p : Pressed O). p.published) same;
+    after = subst (λ (p : Pressed O). are_after t p.all) (sym same) after;
+    number = ap (λ (p : Pressed O). last_number p.all) same;
+    cells = ap (λ (p : Pressed O). count p.all) same;
+  }
+
   -- where the operation was appended or nothing was
   pub posts_one : {A F : Type 0} (r : Result A F) (a b : Pressed O) (op : O)
       → MatchResult r (λ _. b.all ≡ a.all ++ op ∷ []) (λ _. b.all ≡ a.all)

@@ -6,3 +6,4 @@ pub mod Returning
 pub mod Exchanging
 pub mod Numbering
 pub mod Reaching
+pub mod Editing

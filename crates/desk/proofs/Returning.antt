@@ -250,7 +250,7 @@ module _ {T E V G O : Type 0} (net : T → Net G) (of : Cells T E V O) where
       posted_all bench node old new rest keeps posted
 
   -- a cell of the range is posted where each of the range is
-  listed_posted : (bench : Bench T V) (old new : List (BoardCell O)) (first end : ℕ)
+  pub listed_posted : (bench : Bench T V) (old new : List (BoardCell O)) (first end : ℕ)
       → AreCellsKept old new → ((k : ℕ) → first ≤ k → k < end → IsPosted net of bench new k)
       → (test model : List ℕ) (o : O) → IsListedWithin old first end test model
       → IsSettledCell net of bench test model o → IsSettledOn new test model

@@ -3,6 +3,7 @@ use Rattle.std.specs.Prelude.{◌≡◌, ℕ, suc, zero, ◌<◌, ◌≤◌, ◌
 use Rattle.memo_core.specs.Graph.{Net}
 use Rattle.memo_core.specs.Run.{Bench}
 use Rattle.memo_core.specs.declared.keys.Node.{Node}
+use Rattle.memo_core.specs.Step.{Has}
 use Rattle.cells.specs.Cells.{Cells, IsSettledCell, StandsOn}
 
 -- a cell of a board: the names of its test and of its model, and its outcome where it is settled
@@ -104,6 +105,34 @@ abbrev pub ArePostedBut : {T E V G O : Type 0} → (T → Net G) → Cells T E V
 ArePostedBut {T} {E} {V} {G} {O} net of bench node cells =
     (test model : List ℕ) (o : O) (s : IsSettledCell net of bench test model o)
     → IsSettledOn cells test model ⊎ StandsOn (net bench.texts) s.verdict node
+
+-- ---- edits
+
+-- the verdict is the node that it was and stands on none of these nodes, and the cell is settled
+-- where it was
+pub record IsCellLeft {G O : Type 0} (net : Net G) (before : List ℕ → List ℕ → Option Node)
+    (touched : List Node) (old new : List (BoardCell O)) (test model : List ℕ) (verdict : Node)
+    : Type 0 where
+  pub was : before test model ≡ Some verdict
+  pub apart : (n : Node) → Has touched n → StandsOn net verdict n → ⊥
+  pub shown : IsSettledOn old test model → IsSettledOn new test model
+
+-- each cell is among the new ones, at an index of the range, or is left so
+abbrev pub LeavesCells : {G O : Type 0} → Net G → (before now : List ℕ → List ℕ → Option Node)
+    → (touched : List Node) → (old new : List (BoardCell O)) → (first end : ℕ) → Type 0
+LeavesCells net before now touched old new first end =
+    (test model : List ℕ) (verdict : Node) → now test model ≡ Some verdict
+    → IsListedWithin new first end test model
+    ⊎ IsCellLeft net before touched old new test model verdict
+
+-- each cell that is settled on the bench is settled among these, or at an index of the range
+abbrev pub ArePostedOutside : {T E V G O : Type 0} → (T → Net G) → Cells T E V O → Bench T V
+    → (first end : ℕ) → List (BoardCell O) → Type 0
+ArePostedOutside {T} {E} {V} {G} {O} net of bench first end cells =
+    (test model : List ℕ) (o : O) → IsSettledCell net of bench test model o
+    → IsSettledOn cells test model ⊎ IsListedWithin cells first end test model
+
+-- ---- settled cells that are appended
 
 -- the later cell is of the same test and model, and settled where the earlier one was
 pub record IsCellKept {O : Type 0} (c d : BoardCell O) : Type 0 where

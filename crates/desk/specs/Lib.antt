@@ -1,4 +1,5 @@
 pub mod Boards
+pub mod Edited
 pub mod Told
 pub mod Posts
 pub mod Held

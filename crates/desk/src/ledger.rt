@@ -2,11 +2,13 @@
 
 ghost use Rattle.std.specs.Prelude.{◌≡◌, ◌↔◌, ◌≤◌, IsTrue, MatchBool, fold, length};
 ghost use mathlib.Core.List.{IsPrefix};
+ghost use Rattle.memo_core.specs.Laws.{meaning};
 ghost use Rattle.cells.specs.Cells.{cells as cells_of};
-ghost use Rattle.desk.specs.Boards.{AreCellsKept, ArePostedFor, AreSettled};
+ghost use Rattle.desk.specs.Boards.{AreCellsKept, ArePosted, ArePostedFor, AreSettled};
+ghost use Rattle.desk.specs.Edited.{IsEditOfPosted};
 ghost use Rattle.desk.specs.Posts.{Posts};
 
-use crate::posting::{is_settled, post_settled};
+use crate::posting::{is_settled, post_edited, post_settled};
 use crate::texts::BoardTexts;
 use cells::bench::Bench;
 use desk_history::{Entry, Front, Naming, Plate, Press, Viewer};
@@ -80,6 +82,25 @@ impl<J: Naming, X: BoardTexts> Ledger<J, X> {
             (X.cells (fold X.after X.none self.new.all)) }
     {
         post_settled(alloc, bench, &mut self.press, above)
+    }
+
+    /// Appends the cells that an edit settled, where all were posted before it, as far as it can.
+    /// True where none of these is left.
+    pub(crate) fn post_edited<K: StoreName>(&mut self, alloc: Global, bench: &Bench<K, X>) -> bool
+        requires valid { X.is_valid bench.now.texts }
+        requires after { X.are_after bench.now.texts self.old.all }
+        requires edited { IsEditOfPosted
+            (meaning X.net X.is_valid X.since X.makes X.keeps X.edited X.last)
+            (cells_of X.verdict_of X.outcome_in X.from_scratch X.reaches) X.are_after X.prepares
+            X.announces X.commits (λ ops. X.cells (fold X.after X.none ops)) self.old.all
+            bench.now }
+        ensures posts { Posts X.is_settle X.are_after X.last_number
+            (λ ops. length (X.cells (fold X.after X.none ops))) bench.now.texts self.old self.new }
+        ensures posted { IsTrue result
+            → ArePosted X.net (cells_of X.verdict_of X.outcome_in X.from_scratch X.reaches)
+            bench.now (X.cells (fold X.after X.none self.new.all)) }
+    {
+        post_edited(alloc, bench, &mut self.press)
     }
 
     /// Whether each cell of the board after all operations is settled.

@@ -1,8 +1,10 @@
 //! Appends the cells that are settled on the bench and open on the board.
 
 ghost use Rattle.std.specs.Prelude.{◌≡◌, ◌<◌, ◌≤◌, ℕ, List, length, IsTrue, IfOk, IfSome, IfNone, fold};
+ghost use Rattle.memo_core.specs.Laws.{meaning};
 ghost use Rattle.cells.specs.Cells.{cells as cells_of};
-ghost use Rattle.desk.specs.Boards.{AreCellsKept, ArePostedFor, AreSettled, HoldsFor};
+ghost use Rattle.desk.specs.Boards.{AreCellsKept, ArePosted, ArePostedFor, ArePostedOutside, AreSettled, HoldsFor};
+ghost use Rattle.desk.specs.Edited.{IsEditOfPosted};
 ghost use Rattle.desk.specs.Posts.{IsPosted, SettlesRight, Posts};
 
 use crate::texts::{BoardTexts, CellRange};
@@ -149,6 +151,56 @@ pub(crate) fn post_settled<J: Naming, K: StoreName, X: BoardTexts>(
 {
     press.catch_up();
     let Some(range) = range_for(bench, press, above) else {
+        return false;
+    };
+    post_range(alloc, bench, press, range)
+}
+
+// Where the cells stand that an edit may have settled, where all were posted before it. None where
+// memory for the board was refused.
+fn edited_range<J: Naming, K: StoreName, X: BoardTexts>(
+    bench: &Bench<K, X>,
+    press: &Press<J, X>,
+) -> Option<CellRange>
+    requires valid { X.is_valid bench.now.texts }
+    requires after { X.are_after bench.now.texts press.now.all }
+    requires edited { IsEditOfPosted
+        (meaning X.net X.is_valid X.since X.makes X.keeps X.edited X.last)
+        (cells_of X.verdict_of X.outcome_in X.from_scratch X.reaches) X.are_after X.prepares
+        X.announces X.commits (λ ops. X.cells (fold X.after X.none ops)) press.now.all bench.now }
+    ensures end { IfSome result (λ r. r.end
+        ≤ length (X.cells (fold X.after X.none press.now.all))) }
+    ensures posted { IfSome result (λ r. ArePostedOutside X.net
+        (cells_of X.verdict_of X.outcome_in X.from_scratch X.reaches) bench.now r.first r.end
+        (X.cells (fold X.after X.none press.now.all))) }
+{
+    let Some(board) = press.board() else {
+        return None;
+    };
+    Some(bench.texts().cells_edited(board))
+}
+
+/// Appends the cells that an edit settled, where all were posted before it, as far as it can. True
+/// where none of them is left.
+pub(crate) fn post_edited<J: Naming, K: StoreName, X: BoardTexts>(
+    alloc: Global,
+    bench: &Bench<K, X>,
+    press: &mut Press<J, X>,
+) -> bool
+    requires valid { X.is_valid bench.now.texts }
+    requires after { X.are_after bench.now.texts press.old.all }
+    requires edited { IsEditOfPosted
+        (meaning X.net X.is_valid X.since X.makes X.keeps X.edited X.last)
+        (cells_of X.verdict_of X.outcome_in X.from_scratch X.reaches) X.are_after X.prepares
+        X.announces X.commits (λ ops. X.cells (fold X.after X.none ops)) press.old.all bench.now }
+    ensures posts { Posts X.is_settle X.are_after X.last_number
+        (λ ops. length (X.cells (fold X.after X.none ops))) bench.now.texts press.old press.new }
+    ensures posted { IsTrue result
+        → ArePosted X.net (cells_of X.verdict_of X.outcome_in X.from_scratch X.reaches) bench.now
+        (X.cells (fold X.after X.none press.new.all)) }
+{
+    press.catch_up();
+    let Some(range) = edited_range(bench, press) else {
         return false;
     };
     post_range(alloc, bench, press, range)

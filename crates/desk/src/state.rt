@@ -1,12 +1,14 @@
 //! What lies under the lock. Each change of it is a method here.
 
-ghost use Rattle.std.specs.Prelude.{◌≡◌, ◌≢◌, ◌↔◌, ◌+◌, ◌≤◌, ◌<◌, [], true, false, length, fold, not, IfOk, OnOk, OnErr, Ok, Err, IfErr, IfSome, IfNone, leb};
+ghost use Rattle.std.specs.Prelude.{◌≡◌, ◌≢◌, ◌↔◌, ◌+◌, ◌≤◌, ◌<◌, [], true, false, length, fold, not, IsTrue, IfOk, OnOk, OnErr, Ok, Err, IfErr, IfSome, IfNone, leb};
 ghost use mathlib.Core.List.{IsPrefix};
 ghost use Rattle.memo_core.specs.Laws.{meaning};
 ghost use Rattle.memo_core.specs.Run.{Claim as Claimed, IsNewBench, NoClaim, Returned, Lose as Lost, Renew as Renewed, Refused, Step};
 ghost use Rattle.cells.specs.Cells.{cells as cells_of};
 ghost use Rattle.cells.specs.Views.{IsRightBench};
 ghost use Rattle.desk.specs.Boards.{ArePosted, ArePostedBut, AreSettled};
+ghost use Rattle.desk.specs.Edited.{IsEditOf, IsEditOfPosted};
+ghost use Rattle.desk.specs.Posts.{Posts};
 ghost use Rattle.desk.specs.Held.{IsEditAppended, IsRefusedBy, IsClaimRefusedBy, IsClosing, ShowsAllOrAsBefore};
 
 use crate::answer::{Accepted, Posted, Settling};
@@ -90,6 +92,8 @@ fn make_edit<J: Naming + StoreName, X: BoardTexts>(
     ensures made { IfOk result (λ number. IsEditAppended
         (meaning X.net X.is_valid X.since X.makes X.keeps X.edited X.last) X.is_edit edit
         bench.old bench.new ledger.old.all ledger.new.all number) }
+    ensures edited { IfOk result (λ number. IsEditOf X.is_valid X.are_after X.prepares X.announces
+        X.commits bench.old.texts edit number ledger.old.all ledger.new.all bench.new.texts) }
     ensures unspent { OnOk result (bench.old.taken < LAST) }
     ensures err { OnErr result (Step
         (meaning X.net X.is_valid X.since X.makes X.keeps X.edited X.last) bench.old Refused
@@ -106,6 +110,32 @@ fn make_edit<J: Naming + StoreName, X: BoardTexts>(
             }
         }
     }
+}
+
+// Appends the cells that are settled after an edit, as far as it can: all, where some may have been
+// left before it, and otherwise those that it settled. True where none is left.
+fn post_edit<J: Naming + StoreName, X: BoardTexts>(
+    alloc: Global,
+    bench: &Bench<J, X>,
+    ledger: &mut Ledger<J, X>,
+    owed: bool,
+) -> bool
+    requires valid { X.is_valid bench.now.texts }
+    requires after { X.are_after bench.now.texts ledger.old.all }
+    requires edited { owed ≡ false → IsEditOfPosted
+        (meaning X.net X.is_valid X.since X.makes X.keeps X.edited X.last)
+        (cells_of X.verdict_of X.outcome_in X.from_scratch X.reaches) X.are_after X.prepares
+        X.announces X.commits (λ ops. X.cells (fold X.after X.none ops)) ledger.old.all bench.now }
+    ensures posts { Posts X.is_settle X.are_after X.last_number
+        (λ ops. length (X.cells (fold X.after X.none ops))) bench.now.texts ledger.old ledger.new }
+    ensures posted { IsTrue result
+        → ArePosted X.net (cells_of X.verdict_of X.outcome_in X.from_scratch X.reaches) bench.now
+        (X.cells (fold X.after X.none ledger.new.all)) }
+{
+    if owed {
+        return ledger.post(alloc, bench, None);
+    }
+    ledger.post_edited(alloc, bench)
 }
 
 impl<J: Naming + StoreName, X: BoardTexts, R: Wait + Drop> DeskState<J, X, R> {
@@ -204,7 +234,7 @@ impl<J: Naming + StoreName, X: BoardTexts, R: Wait + Drop> DeskState<J, X, R> {
             return Err(DeskFault::NoSeat);
         }
         let number = make_edit(self.alloc, &mut self.bench, &mut self.ledger, edit)?;
-        self.owes = !self.ledger.post(self.alloc, &self.bench, None);
+        self.owes = !post_edit(self.alloc, &self.bench, &mut self.ledger, self.owes);
         if !self.ledger.publish(rt) {
             self.owes = true;
             return Ok(Accepted::Later(number));

@@ -3,7 +3,8 @@
 
 ghost use Rattle.std.specs.Prelude.{◌≡◌, ◌<◌, ◌≤◌, ◌↔◌, ℕ, List, [], ◌∷◌, ◌++◌, Some, IfOk, IfSome, IfNone, IsSome, IsTrue, length, slice_get, fold};
 ghost use Rattle.memo_core.specs.declared.keys.Node.{Node as NodeRecord};
-ghost use Rattle.desk.specs.Boards.{BoardCell, HoldsAbove, HasVerdictAt, HasNoneToPost, open_of, with_outcome};
+ghost use Rattle.desk.specs.Boards.{BoardCell, HoldsAbove, HasVerdictAt, HasNoneToPost, LeavesCells, open_of, with_outcome};
+ghost use Rattle.desk.specs.Edited.{IsEditOf};
 
 use cells::texts::CellTexts;
 use desk_history::Operations;
@@ -107,6 +108,21 @@ pub trait BoardTexts: CellTexts + Operations {
         ensures end { result.end ≤ length (cells board.now) }
         ensures holds { HoldsAbove (Self.net self.now) (Self.verdict_of self.now) node
             (cells board.now) result.first result.end };
+
+    /// Where on the board of these texts the cells stand that the last edit may have settled, or
+    /// opened on the board.
+    fn cells_edited(&self, board: &Self::Board) -> CellRange
+        requires valid { Self.is_valid self.now }
+        requires after { (ops : List Self.Op) × are_after self.now ops
+            × (board.now ≡ fold Self.after Self.none ops) }
+        ensures end { result.end ≤ length (cells board.now) }
+        ensures left { (t : Self) (e : Self.Edit) (number : ℕ) (ops all : List Self.Op)
+            → IsEditOf Self.is_valid are_after Self.prepares announces Self.commits t e number ops
+            all self.now
+            → board.now ≡ fold Self.after Self.none all
+            → LeavesCells (Self.net self.now) (Self.verdict_of t) (Self.verdict_of self.now)
+            (Self.touched self.now) (cells (fold Self.after Self.none ops)) (cells board.now)
+            result.first result.end };
 
     /// The operation that settles the cell at an index with an outcome. Errors: want of memory.
     fn settle(

@@ -23,7 +23,7 @@ use Rattle.meaning_events.specs.Events.{IsNumbered, IsSameEvent, AreSameEvents, 
 use Rattle.meaning_events.proofs.Numbering.{named_once}
 use Rattle.meaning_events.proofs.Lists.{at_left, at_right, left_there, right_there}
 use Rattle.meaning_names.specs.Names.{AreNamesMeant}
-use Rattle.meaning_kept.proofs.Listing.{IsPair, names_of_pair}
+use Rattle.meaning_states.proofs.Listing.{IsPair, names_of_pair}
 use Rattle.meaning_reasons.specs.Told as told
 use Rattle.meaning_reasons.specs.Told.{IsEventTold, IsOfEvent}
 use Rattle.meaning_reasons.proofs.Events.{events_are_same}

@@ -41,7 +41,7 @@ use Rattle.meaning.proofs.Counting.{here, behind}
 use Rattle.meaning_events.proofs.Lists.{member}
 use Rattle.meaning_executions.proofs.Ordering.{once_apart}
 use Rattle.meaning_terms.specs.Laws.{AreFaultless}
-use Rattle.meaning_kept.proofs.Listing.{IsPair, all_named, pair_at}
+use Rattle.meaning_states.proofs.Listing.{IsPair, all_named, pair_at}
 use Rattle.meaning_words.specs.Words.{IsTestOfWords}
 use Rattle.meaning_reasons.proofs.Checks.{map_at}
 use Rattle.meaning_reasons.proofs.Found.{AreChosen, none_chosen, one_left, one_more, all_chosen, executions, long, twice, listed, found_at, condition_alike}

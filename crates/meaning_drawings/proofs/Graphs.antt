@@ -41,7 +41,7 @@ use Rattle.draw_relations.specs.Values.{IsShownValue}
 use Rattle.meaning.specs.Executions.{Execution, IsEvent}
 use Rattle.meaning.specs.Evaluates.{outermost, IsKept}
 use Rattle.meaning_terms.specs.Laws.{AreFaultless}
-use Rattle.meaning_kept.proofs.Listing.{IsPair, all_named, pair_at, names_of_pair}
+use Rattle.meaning_states.proofs.Listing.{IsPair, all_named, pair_at, names_of_pair}
 use Rattle.meaning_reasons.specs.Told.{IsReasonSaid}
 use Rattle.meaning_reasons.proofs.Meeting.{one_met}
 use Rattle.meaning_reasons.proofs.Reasons.{kept_by_name, first_unmet, reason_said}

@@ -43,7 +43,7 @@ use Rattle.meaning.specs.Sets.{Set}
 use Rattle.meaning.specs.Executions.{Event, Execution, IsEvent}
 use Rattle.meaning.specs.Cat.{Meaning, ASet, ARelation, Nothing, Names, HasPair, meaning_of, names_after}
 use Rattle.meaning_terms.specs.Behind.{bound_behind, outer_bound}
-use Rattle.meaning_slots.specs.Slots.{candidate_value}
+use Rattle.meaning_items.specs.Slots.{candidate_value}
 use Rattle.meaning_names.specs.Names.{AreNamesMeant}
 use Rattle.meaning_events.specs.Events.{IsNumbered, named_events}
 use Rattle.meaning_events.proofs.Lists.{as_long, member}

@@ -1,3 +1,4 @@
+pub mod Meant
 pub mod Parts
 pub mod Edited
 pub mod Histories

@@ -8,7 +8,7 @@ use Rattle.board.specs.Legal.{texts_after}
 use Rattle.board.specs.Results.{ShowsRightCells}
 use Rattle.meaning_words.specs.Words.{IsTestOfWords}
 use Rattle.meaning_outcomes.specs.Outcomes.{FromScratchIsMeant}
-use Rattle.meaning_boards.specs.Boards.{AreTestsOfWords, ShowsMeantCells}
+use Rattle.meaning_edits.specs.Boards.{AreTestsOfWords, ShowsMeantCells}
 
 -- The tests of the texts write numbers of 32 bits.
 abbrev pub AreTextsOfWords : BenchTexts → Type 0

@@ -48,15 +48,15 @@ use Rattle.meaning_terms.proofs.Items.{outer_sound, no_first}
 use Rattle.base_names.specs.Candidate.{SetIn, RelationIn}
 use Rattle.cat_eval.specs.declared.column.Column.{Column}
 use Rattle.meaning_cat.specs.Alike.{IsAs}
-use Rattle.meaning_slots.specs.Slots.{candidate_value, IsSlotMeant, AreSlotsMeant}
+use Rattle.meaning_items.specs.Slots.{candidate_value, IsSlotMeant, AreSlotsMeant}
 use Rattle.meaning_items.specs.Laws.{AreMeant, AnswersAreMeant}
-use Rattle.meaning_columns.proofs.Bodies.{used_as, known_kind}
-use Rattle.meaning_columns.proofs.Columns.{append_one, first_state}
+use Rattle.meaning_items.proofs.Bodies.{used_as, known_kind}
+use Rattle.meaning_items.proofs.Columns.{append_one, first_state}
 use Rattle.meaning_items.proofs.Checks.{check_met}
-use Rattle.meaning_slots.proofs.Growing.{slots_more}
-use Rattle.meaning_slots.proofs.Naming.{values_named}
-use Rattle.meaning_columns.proofs.State.{IsState}
-use Rattle.meaning_columns.proofs.Steps.{item_state}
+use Rattle.meaning_items.proofs.Growing.{slots_more}
+use Rattle.meaning_items.proofs.Naming.{values_named}
+use Rattle.meaning_items.proofs.State.{IsState}
+use Rattle.meaning_items.proofs.Steps.{item_state}
 
 -- ---- one check
 

@@ -1,3 +1,12 @@
+pub mod Bodies
+pub mod Recursive
+pub mod State
+pub mod Steps
+pub mod Columns
+pub mod Used
+pub mod Naming
+pub mod Seen
+pub mod Growing
 pub mod Checks
 pub mod Answers
 pub mod Kept

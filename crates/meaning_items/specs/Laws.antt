@@ -17,7 +17,7 @@ use Rattle.meaning.specs.Sets.{Set}
 use Rattle.meaning.specs.Cat.{Names, names_after, IsMet, AreMet}
 use Rattle.meaning_terms.specs.Behind.{outer_bound}
 use Rattle.meaning_terms.specs.Laws.{AreFaultless}
-use Rattle.meaning_slots.specs.Slots.{candidate_value}
+use Rattle.meaning_items.specs.Slots.{candidate_value}
 
 -- The answers of the checks and the flags among the items, in the order of the text, are true for
 -- the candidate of that number just where the check is met.

@@ -1,1 +1,3 @@
+pub mod ColumnLaws
+pub mod Slots
 pub mod Laws

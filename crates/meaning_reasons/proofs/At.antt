@@ -23,10 +23,10 @@ use Rattle.meaning_terms.specs.Behind.{bound_behind, outer_bound}
 use Rattle.meaning_terms.specs.Laws.{AreFaultless}
 use Rattle.meaning_terms.proofs.Applying.{none_first}
 use Rattle.meaning_terms.proofs.Items.{no_first}
-use Rattle.meaning_slots.specs.Slots.{candidate_value}
-use Rattle.meaning_columns.proofs.Columns.{append_one, first_state}
-use Rattle.meaning_columns.proofs.State.{IsState}
-use Rattle.meaning_columns.proofs.Steps.{item_state}
+use Rattle.meaning_items.specs.Slots.{candidate_value}
+use Rattle.meaning_items.proofs.Columns.{append_one, first_state}
+use Rattle.meaning_items.proofs.State.{IsState}
+use Rattle.meaning_items.proofs.Steps.{item_state}
 
 -- where the item x stands at an index of those behind the names N and the items rs
 pub record IsAt (space : Space) (k : ℕ) (one : Candidate) (N : Names ℕ) (rs : List ResolvedItem)

@@ -53,10 +53,10 @@ use Rattle.meaning.specs.Cat.{Meaning, Names, HasProperty, NegatedIf, meaning_of
 use Rattle.meaning_terms.specs.Behind.{bound_behind, outer_bound}
 use Rattle.meaning_terms.specs.Laws.{AreFaultless}
 use Rattle.meaning_terms.proofs.Applying.{none_first}
-use Rattle.meaning_slots.specs.Slots.{candidate_value}
-use Rattle.meaning_slots.proofs.Naming.{values_named}
-use Rattle.meaning_columns.proofs.Bodies.{used_as, known_kind}
-use Rattle.meaning_columns.proofs.State.{IsState}
+use Rattle.meaning_items.specs.Slots.{candidate_value}
+use Rattle.meaning_items.proofs.Naming.{values_named}
+use Rattle.meaning_items.proofs.Bodies.{used_as, known_kind}
+use Rattle.meaning_items.proofs.State.{IsState}
 use Rattle.meaning_events.proofs.Lists.{at_right}
 use Rattle.meaning_reasons.proofs.At.{IsAt, at_model}
 use Rattle.meaning_reasons.proofs.Coded.{IsMeantBy, is_met, is_unmet}

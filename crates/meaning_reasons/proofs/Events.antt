@@ -19,7 +19,7 @@ use Rattle.meaning.specs.Executions.{Event, Initial, Execution}
 use Rattle.meaning_events.specs.Events.{IsNumbered, IsSameEvent, AreSameEvents, events_in, named_events}
 use Rattle.meaning_events.proofs.Knowing.{correspond}
 use Rattle.meaning_events.proofs.Lists.{at_left, as_long, turned}
-use Rattle.meaning_kept.proofs.Listing.{IsPair}
+use Rattle.meaning_states.proofs.Listing.{IsPair}
 use Rattle.meaning_reasons.specs.Told.{IsEventTold, IsOfEvent}
 
 module _ (t : Test) (s : Space) (lists : ListsExecutions t s) (k : ℕ) (y : Execution)

@@ -35,7 +35,7 @@ use Rattle.meaning_runs.proofs.Located.{numbered_are}
 use Rattle.meaning_events.specs.Events.{events_in}
 use Rattle.meaning_events.proofs.Lists.{member}
 use Rattle.meaning_terms.specs.Laws.{AreFaultless}
-use Rattle.meaning_kept.proofs.Listing.{all_named}
+use Rattle.meaning_states.proofs.Listing.{all_named}
 use Rattle.meaning_words.specs.Words.{IsTestOfWords}
 use Rattle.meaning_reasons.specs.Told.{IsEventTold, IsReasonSaid}
 use Rattle.meaning_reasons.specs.Findings as said

@@ -19,8 +19,8 @@ use Rattle.from_scratch.specs.declared.cell.ItemAnswers.{ItemAnswers}
 use Rattle.from_scratch.specs.Answers.{AreItemColumns, HasColumns, IsBound, AreOrdered, IsNamed, AreNamed}
 use Rattle.from_scratch.specs.Known.{column_in, column_of, AreFound, HasAllColumns}
 use Rattle.from_scratch.proofs.Knowing.{item_at}
-use Rattle.meaning_columns.proofs.Columns.{append_one}
-use Rattle.meaning_slots.proofs.Growing.{columns_below}
+use Rattle.meaning_items.proofs.Columns.{append_one}
+use Rattle.meaning_items.proofs.Growing.{columns_below}
 
 -- ---- items before another
 

@@ -57,8 +57,8 @@ use Rattle.meaning.specs.Cat.{ARelation}
 use Rattle.meaning.specs.Executions.{Event, Execution}
 use Rattle.meaning_terms.specs.Behind.{outer_bound}
 use Rattle.meaning_terms.specs.Laws.{AreFaultless}
-use Rattle.meaning_slots.specs.Slots.{candidate_value}
-use Rattle.meaning_slots.proofs.Growing.{columns_below}
+use Rattle.meaning_items.specs.Slots.{candidate_value}
+use Rattle.meaning_items.proofs.Growing.{columns_below}
 use Rattle.meaning_names.specs.Names.{AreNamesMeant}
 use Rattle.meaning_events.proofs.Lists.{at_right, member}
 use Rattle.meaning_reasons.specs.Told as told

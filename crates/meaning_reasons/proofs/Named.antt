@@ -50,11 +50,11 @@ use Rattle.meaning_terms.proofs.Applying.{none_first}
 use Rattle.meaning_cat.specs.Alike.{IsAs}
 use Rattle.meaning_cat.specs.Groups.{name_at, term_at}
 use Rattle.meaning_cat.proofs.Own.{AreFaultless, faultless_group}
-use Rattle.meaning_slots.proofs.Growing.{Grows, usages_grown}
-use Rattle.meaning_slots.proofs.Naming.{AreUsedNames, AreNamedUsages, values_named}
-use Rattle.meaning_columns.proofs.Bodies.{used_at, at_extends, at_covered, code_at, as_many_bodies, column_at, used_as, known_kind}
-use Rattle.meaning_columns.proofs.Recursive.{own_grows, own_column}
-use Rattle.meaning_columns.proofs.State.{IsState}
+use Rattle.meaning_items.proofs.Growing.{Grows, usages_grown}
+use Rattle.meaning_items.proofs.Naming.{AreUsedNames, AreNamedUsages, values_named}
+use Rattle.meaning_items.proofs.Bodies.{used_at, at_extends, at_covered, code_at, as_many_bodies, column_at, used_as, known_kind}
+use Rattle.meaning_items.proofs.Recursive.{own_grows, own_column}
+use Rattle.meaning_items.proofs.State.{IsState}
 use Rattle.meaning_reasons.specs.Told.{BindsPair}
 use Rattle.meaning_reasons.proofs.Coded.{IsMeantBy, column_pairs}
 

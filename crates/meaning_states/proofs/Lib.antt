@@ -1,3 +1,7 @@
+pub mod Raising
+pub mod Raised
+pub mod Carrying
+pub mod Listing
 pub mod Picking
 pub mod Placing
 pub mod Signed

@@ -53,9 +53,9 @@ use Rattle.meaning_executions.specs.Executions.{IsSameExecution}
 use Rattle.meaning_runs.proofs.Located.{numbered_are, rises}
 use Rattle.meaning_terms.specs.Laws.{AreFaultless}
 use Rattle.meaning_items.proofs.Kept.{kept_are_met}
-use Rattle.meaning_kept.proofs.Carrying.{met_alike}
-use Rattle.meaning_kept.proofs.Listing.{IsPair, all_named, pair_at, names_of_pair}
-use Rattle.meaning_flags.proofs.Raised.{all_raised}
+use Rattle.meaning_states.proofs.Carrying.{met_alike}
+use Rattle.meaning_states.proofs.Listing.{IsPair, all_named, pair_at, names_of_pair}
+use Rattle.meaning_states.proofs.Raised.{all_raised}
 use Rattle.meaning_words.specs.Words.{IsTestOfWords}
 use Rattle.meaning_satisfied.specs.Satisfied.{IsShownAs}
 use Rattle.meaning_satisfied.proofs.Conditions.{all_meant}

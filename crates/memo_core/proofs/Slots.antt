@@ -1,5 +1,5 @@
 use Rattle.std.proofs.Common.{◌≡◌, inl, inr, Bool, true, false, ◌&&◌, List, [], ◌∷◌, filter, Option, Some, None, option_map, option_copied, Bor, if◌then◌else◌, refl, ap, sym, subst, ◌∙◌}
-use Rattle.std.specs.Map.{lookup, set_value}
+use Rattle.std.specs.Map.{lookup}
 use Rattle.std.specs.Map.Calls.{RetainsPairs}
 use Rattle.std.proofs.lemmas.Option.{same_Some}
 use Rattle.std.proofs.lemmas.Bool.{cases_Bool}
@@ -11,7 +11,7 @@ use Rattle.memo_core.specs.Names.{same_node}
 use Rattle.memo_core.specs.Lemmas.Equality.{same_node_exact, same_node_refl}
 use Rattle.memo_core.specs.Graph.{Memo, memo_of, put_memo}
 use Rattle.memo_core.specs.Views.{MemoEntry, as_memo, as_memos, output_tokens}
-use Rattle.memo_core.specs.Marks.{mark_in, mark_of, with_mark_at}
+use Rattle.memo_core.specs.Marks.{mark_in, mark_of, matched_of}
 
 -- what is found at a node is its memo
 pub memo_found_at : {V : Type 0} (n : Node) (ks : List (MemoEntry V))
@@ -62,33 +62,22 @@ no_tokens {V} n (x ∷ ks) h = elim (cases_Bool (same_node n x.0)) [
     none_some : (k : Kept (TokenShown V)) → None ≡ Some k → ⊥
     none_some k h = cc
 
--- what is written at a node is its mark
-pub mark_written : {V : Type 0} (n : Node) (ks : List (MemoEntry V)) (k : Kept (TokenShown V))
-    → Some k ≡ lookup (same_node n) ks
-    → set_value (same_node n) ks (record { inputs = k.inputs; outputs = k.outputs; settled = true })
-    ≡ with_mark_at n ks
-mark_written n [] k h = cc
-mark_written {V} n (x ∷ ks) k h = elim (cases_Bool (same_node n x.0)) [
-  | inl t ↦ (let q : Some k ≡ Some x.1 = rw t at h in
-      rw t (ap
-      (λ (k : Kept (TokenShown V)).
-      let s : MemoEntry V =
-      (x.0, record { inputs = k.inputs; outputs = k.outputs; settled = true }) in
-      s ∷ ks)
-      (same_Some k x.1 q)))
-  | inr f ↦ rw f (ap (λ (r : List (MemoEntry V)). x ∷ r) (mark_written n ks k (rw f at h)))
-]
+-- a flag of the node's memo, as its mark and whether it is known to match are
+abbrev flag_of : {V : Type 0} → (Kept (TokenShown V) → Bool) → List (MemoEntry V) → Node → Bool
+flag_of f [] n = false
+flag_of f (k ∷ ks) n = if same_node n k.0 then f k.1 else flag_of f ks n
 
-pub nothing_marked : {V : Type 0} (n : Node) (ks : List (MemoEntry V)) → None ≡ lookup (same_node n) ks
-    → ks ≡ with_mark_at n ks
-nothing_marked n [] h = refl
-nothing_marked {V} n (x ∷ ks) h = elim (cases_Bool (same_node n x.0)) [
-  | inl t ↦ absurd (none_some x.1 (rw t at h))
-  | inr f ↦ rw f (ap (λ (r : List (MemoEntry V)). x ∷ r) (nothing_marked n ks (rw f at h)))
-]
-  where
-    none_some : (k : Kept (TokenShown V)) → None ≡ Some k → ⊥
-    none_some k h = cc
+mark_is : {V : Type 0} (ks : List (MemoEntry V)) (n : Node)
+    → mark_of ks n ≡ flag_of (λ k. k.settled) ks n
+mark_is [] n = refl
+mark_is (k ∷ ks) n =
+    ap (λ (b : Bool). if same_node n k.0 then k.1.settled else b) (mark_is ks n)
+
+matched_is : {V : Type 0} (ks : List (MemoEntry V)) (n : Node)
+    → matched_of ks n ≡ flag_of (λ k. k.matched) ks n
+matched_is [] n = refl
+matched_is (k ∷ ks) n =
+    ap (λ (b : Bool). if same_node n k.0 then k.1.matched else b) (matched_is ks n)
 
 -- what is inserted is put
 pub memo_inserted : {V : Type 0} (n : Node) (k : Kept (TokenShown V)) (ks : List (MemoEntry V))
@@ -99,38 +88,53 @@ memo_inserted {V} n k (x ∷ ks) = elim (cases_Bool (same_node n x.0)) [
   | inr f ↦ rw f (ap (λ (r : List (Memo V)). as_memo x ∷ r) (memo_inserted n k ks))
 ]
 
-pub mark_inserted : {V : Type 0} (n : Node) (k : Kept (TokenShown V)) (ks : List (MemoEntry V)) (m : Node)
-    → mark_of (insert_entry same_node ks n k) m
-    ≡ (if same_node m n then k.settled else mark_of ks m)
-mark_inserted n k [] m = refl
-mark_inserted {V} n k (x ∷ ks) m = elim (cases_Bool (same_node n x.0)) [
-  | inl t ↦ rw t (ap (λ (y : Node). if same_node m y then k.settled else mark_of ks m)
+flag_inserted : {V : Type 0} (f : Kept (TokenShown V) → Bool) (n : Node) (k : Kept (TokenShown V))
+    (ks : List (MemoEntry V)) (m : Node)
+    → flag_of f (insert_entry same_node ks n k) m
+    ≡ (if same_node m n then f k else flag_of f ks m)
+flag_inserted f n k [] m = refl
+flag_inserted {V} f n k (x ∷ ks) m = elim (cases_Bool (same_node n x.0)) [
+  | inl t ↦ rw t (ap (λ (y : Node). if same_node m y then f k else flag_of f ks m)
       (sym (same_node_exact n x.0 t)) ∙ under m (same_node_exact n x.0 t))
-  | inr f ↦ rw f (elim (cases_Bool (same_node m x.0)) [
-    | inl s ↦ rw s (rw (apart (same_node_exact m x.0 s) f) refl)
-    | inr g ↦ rw g (mark_inserted n k ks m)
+  | inr g ↦ rw g (elim (cases_Bool (same_node m x.0)) [
+    | inl s ↦ rw s (rw (apart (same_node_exact m x.0 s) g) refl)
+    | inr h ↦ rw h (flag_inserted f n k ks m)
   ])
 ]
   where
     under : (m : Node) → n ≡ x.0
-        → (if same_node m n then k.settled else mark_of ks m) ≡ (if same_node m n then k.settled
-        else (if same_node m x.0 then x.1.settled else mark_of ks m))
+        → (if same_node m n then f k else flag_of f ks m) ≡ (if same_node m n then f k
+        else (if same_node m x.0 then f x.1 else flag_of f ks m))
     under m e = elim (cases_Bool (same_node m n)) [
       | inl t ↦ rw t refl
-      | inr f ↦ (
-          let g : same_node m x.0 ≡ false = subst (λ (y : Node). same_node m y ≡ false) e f in
-          rw f (rw g refl))
+      | inr g ↦ (
+          let h : same_node m x.0 ≡ false = subst (λ (y : Node). same_node m y ≡ false) e g in
+          rw g (rw h refl))
     ]
 
     apart : m ≡ x.0 → same_node n x.0 ≡ false → same_node m n ≡ false
-    apart e f = elim (cases_Bool (same_node m n)) [
+    apart e g = elim (cases_Bool (same_node m n)) [
       | inl t ↦ absurd (clash (subst (λ (y : Node). same_node y x.0 ≡ false)
-          (sym (same_node_exact m n t) ∙ e) f))
-      | inr g ↦ g
+          (sym (same_node_exact m n t) ∙ e) g))
+      | inr h ↦ h
     ]
       where
         clash : same_node x.0 x.0 ≡ false → ⊥
         clash h = let c : true ≡ false = sym (same_node_refl x.0) ∙ h in cc
+
+pub mark_inserted : {V : Type 0} (n : Node) (k : Kept (TokenShown V)) (ks : List (MemoEntry V)) (m : Node)
+    → mark_of (insert_entry same_node ks n k) m
+    ≡ (if same_node m n then k.settled else mark_of ks m)
+mark_inserted n k ks m =
+    mark_is (insert_entry same_node ks n k) m ∙ flag_inserted (λ k. k.settled) n k ks m
+    ∙ ap (λ (b : Bool). if same_node m n then k.settled else b) (sym (mark_is ks m))
+
+pub matched_inserted : {V : Type 0} (n : Node) (k : Kept (TokenShown V)) (ks : List (MemoEntry V)) (m : Node)
+    → matched_of (insert_entry same_node ks n k) m
+    ≡ (if same_node m n then k.matched else matched_of ks m)
+matched_inserted n k ks m =
+    matched_is (insert_entry same_node ks n k) m ∙ flag_inserted (λ k. k.matched) n k ks m
+    ∙ ap (λ (b : Bool). if same_node m n then k.matched else b) (sym (matched_is ks m))
 
 -- what is retained stays as it is
 module _ {V F : Type 0} (S : F → Node → Kept (TokenShown V) → Bool → Kept (TokenShown V) → F → Type 0)
@@ -155,23 +159,24 @@ module _ {V F : Type 0} (S : F → Node → Kept (TokenShown V) → Bool → Kep
     | inr g ↦ rw g (left_memos ks)
   ]
 
-  -- a mark stays where its memo does
-  left_marks : (ks : List (MemoEntry V)) (n : Node) → mark_of (left ks) n ≡ (keep n && mark_of ks n)
-  left_marks [] n = sym (none (keep n))
+  -- a flag stays where its memo does
+  left_flags : (flag : Kept (TokenShown V) → Bool) (ks : List (MemoEntry V)) (n : Node)
+      → flag_of flag (left ks) n ≡ (keep n && flag_of flag ks n)
+  left_flags flag [] n = sym (none (keep n))
     where
       none : (b : Bool) → (b && false) ≡ false
       none true = refl
       none false = refl
-  left_marks (k ∷ ks) n = elim (cases_Bool (same_node n k.0)) [
-    | inl s ↦ rw s (same (same_node_exact n k.0 s) (left_marks ks n))
+  left_flags flag (k ∷ ks) n = elim (cases_Bool (same_node n k.0)) [
+    | inl s ↦ rw s (same (same_node_exact n k.0 s) (left_flags flag ks n))
     | inr g ↦ elim (cases_Bool (keep k.0)) [
-      | inl t ↦ rw (t, g) (left_marks ks n)
-      | inr h ↦ rw (h, g) (left_marks ks n)
+      | inl t ↦ rw (t, g) (left_flags flag ks n)
+      | inr h ↦ rw (h, g) (left_flags flag ks n)
     ]
   ]
     where
-      same : n ≡ k.0 → mark_of (left ks) n ≡ (keep n && mark_of ks n)
-          → mark_of (if keep k.0 then (k.0, k.1) ∷ left ks else left ks) n ≡ (keep n && k.1.settled)
+      same : n ≡ k.0 → flag_of flag (left ks) n ≡ (keep n && flag_of flag ks n)
+          → flag_of flag (if keep k.0 then (k.0, k.1) ∷ left ks else left ks) n ≡ (keep n && flag k.1)
       same e rest = elim (cases_Bool (keep n)) [
         | inl t ↦ (let u : keep k.0 ≡ true = subst (λ (m : Node). keep m ≡ true) e t in
             let s : same_node n k.0 ≡ true = subst (λ (m : Node). same_node n m ≡ true) e (same_node_refl n) in
@@ -187,4 +192,13 @@ module _ {V F : Type 0} (S : F → Node → Kept (TokenShown V) → Bool → Kep
   pub retained_marks : (ks kept : List (MemoEntry V)) → RetainsPairs S f ks kept → (n : Node)
       → mark_of kept n ≡ (keep n && mark_of ks n)
   retained_marks ks kept h n =
-      ap (λ (ks : List (MemoEntry V)). mark_of ks n) (retained_left ks kept h) ∙ left_marks ks n
+      ap (λ (ks : List (MemoEntry V)). mark_of ks n) (retained_left ks kept h) ∙ mark_is (left ks) n
+      ∙ left_flags (λ k. k.settled) ks n
+      ∙ ap (λ (b : Bool). keep n && b) (sym (mark_is ks n))
+
+  pub retained_matched : (ks kept : List (MemoEntry V)) → RetainsPairs S f ks kept → (n : Node)
+      → matched_of kept n ≡ (keep n && matched_of ks n)
+  retained_matched ks kept h n =
+      ap (λ (ks : List (MemoEntry V)). matched_of ks n) (retained_left ks kept h)
+      ∙ matched_is (left ks) n ∙ left_flags (λ k. k.matched) ks n
+      ∙ ap (λ (b : Bool). keep n && b) (sym (matched_is ks n))

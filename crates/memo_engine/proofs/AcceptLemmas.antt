@@ -5,13 +5,20 @@ use Rattle.memo_core.specs.declared.keys.Key.{Key}
 use Rattle.memo_core.specs.declared.keys.Input.{Input}
 use Rattle.memo_core.specs.declared.keys.Key.TheVariants.{Output}
 use Rattle.memo_core.specs.declared.keys.Output.{Output as Made}
-use Rattle.memo_core.specs.Graph.{Memo, Net, memo_of, output_at, stored_output, stamp_or_zero, named_values, put_memo, IsRestamped, AreAsNow, IsSettled}
-use Rattle.memo_core.specs.Right.{IsRight}
+use Rattle.memo_core.specs.Graph.{Memo, Net, memo_of, output_at, stored_output, stamp_or_zero, present_inputs, named_values, put_memo, IsRestamped, AreAsNow, IsSettled}
+use Rattle.memo_core.specs.Names.{same_node}
+use Rattle.memo_core.specs.Laws.{AreUsers, Falls}
+use Rattle.memo_core.specs.Marks.{matched_of}
+use Rattle.memo_core.specs.Views.{MemoEntry, as_memos}
+use Rattle.memo_core.specs.Right.{Making, IsRight, IsSoundNet}
 use Rattle.memo_core.specs.Tests.{holds_value, stamped_output, stamped_outputs, changed_names, outputs_of}
 use Rattle.memo_core.specs.declared.claims.Finish.{Finish}
 use Rattle.memo_core.specs.declared.claims.Finish.TheVariants.{Unknown, Stale, Same, Stored}
 use Rattle.memo_engine.specs.Clauses.{TellsChangedNames}
-use Rattle.memo_core.specs.Step.{OpenClaim, MemoState, Return, open_claim, open_claims, without_claim, return_of, IsOut, IsCurrent, IsJudgementOf, Accepts, FinishesReturn, names_stamped}
+use Rattle.memo_engine.specs.Matched.{AreMatched, AreDoubted}
+use Rattle.memo_engine.proofs.MatchLemmas.{return_matched}
+use Rattle.memo_engine.proofs.WorkLemmas.{has_there}
+use Rattle.memo_core.specs.Step.{OpenClaim, MemoState, Return, open_claim, open_claims, without_claim, return_of, Has, IsOut, IsCurrent, IsJudgementOf, Accepts, FinishesReturn, names_stamped}
 use Rattle.memo_core.specs.Run.{IsFreshFrom}
 use Rattle.memo_core.proofs.Progress.{accept_unsettled}
 use Rattle.memo_core.proofs.Counted.{as_now_present}
@@ -183,6 +190,42 @@ module _ {V G : Type 0} (same : V → V → Bool) (exact : (a b : V) → (same a
         names_are same exact (outputs_of (memo_of node ms)) (taken + 1)
             (low_in compute net ms taken node right (memo_of node ms) refl) os,
       )
+
+-- the claim of a return that is due has the present inputs
+claim_present : {V G : Type 0} (net : Net G) (ms : List (Memo V)) (cs : List (ℕ × Claim)) (taken : ℕ)
+    (r : Return V G) (k : Claim) → Some k ≡ lookup (is_at (nat_cmp r.claim)) cs
+    → IsJudgementOf (of_all net ms cs taken) r Due
+    → k.inputs.items ≡ present_inputs net ms (net.inputs r.node)
+claim_present net ms cs taken r k is due =
+    let by = claimed net ms cs taken r k is due.0 due.1 in
+    let current : IsCurrent (of_all net ms cs taken) (open_claim (r.claim, k)) = rw by.0 at due.2 in
+    rw by.1 at current.present
+
+-- what is known to match after a return that is due does
+pub accepted_matched : {V G : Type 0} (makes : Making V G) (same : V → V → Bool) (net : Net G)
+    (ks next : List (MemoEntry V)) (cs : List (ℕ × Claim)) (taken claim : ℕ) (node : Node)
+    (given : G) (keys : List Key) (values : List V) (os outputs : List (Made V)) (k : Claim)
+    (names : List ℕ) (users : Node → List Node) (rank : Node → ℕ) (IsThere : Node → Type 0)
+    → Some k ≡ lookup (is_at (nat_cmp claim)) cs
+    → IsJudgementOf (of_all net (as_memos ks) cs taken)
+    (return_of claim node given keys values os) Due
+    → makes node given keys values (named_values os)
+    → outputs ≡ stamped_outputs same (outputs_of (memo_of node (as_memos ks))) (taken + 1) os
+    → names ≡ changed_names same (outputs_of (memo_of node (as_memos ks))) os
+    → AreUsers net users → Falls net rank → IsSoundNet makes net IsThere → Each IsThere net.used
+    → as_memos next
+    ≡ put_memo (record { node = node; inputs = k.inputs.items; outputs = outputs }) (as_memos ks)
+    → ((n : Node) → same_node n node ≡ false → matched_of next n ≡ true → matched_of ks n ≡ true)
+    → AreDoubted names (users node) next → AreMatched net ks → AreMatched net next
+accepted_matched {V} makes same net ks next cs taken claim node given keys values os outputs k names users rank IsThere is due computed stamped told listed falls sound there memos old doubts are =
+    let m : Memo V = record { node = node; inputs = k.inputs.items; outputs = outputs } in
+    return_matched net ks next m makes same (taken + 1) given values os names users rank due.3.given
+    (subst (λ (ks : List Key). makes node given ks values (named_values os)) due.3.keys computed)
+    stamped told listed falls
+    (λ n used. sound.has_values n (has_there IsThere net.used n there used))
+    (subst (Has net.used) due.1.same due.2.used)
+    (claim_present net (as_memos ks) cs taken (return_of claim node given keys values os) k is due)
+    memos old doubts are
 
 pub finishes : {V G : Type 0} (old new : MemoState V G) (r : Return V G) (names : List ℕ) (f : Finish)
     → TellsChangedNames r.node names f → (a : Accepts old r new)

@@ -6,6 +6,7 @@ pub mod WorkLemmas
 pub mod TokenLemmas
 pub mod MarkLemmas
 pub mod NeedLemmas
+pub mod MatchLemmas
 pub mod UnmarkLemmas
 pub mod KeepLemmas
 pub mod WaitingLemmas

@@ -19,6 +19,7 @@ use Rattle.memo_core.proofs.Headline.{settled_stays, same_present}
 use Rattle.memo_engine.proofs.WorkLemmas.{not_out_yes, not_out_is}
 use Rattle.memo_core.proofs.Progress.{one_depth}
 use Rattle.memo_engine.specs.declared.waiting.Waiting.{Waiting}
+use Rattle.memo_engine.specs.Needs.{IsMemoAt}
 use Rattle.memo_engine.specs.Waiting.{IsWholeTo}
 
 pub as_memos-with_mark_at : {V : Type 0} (n : Node) (ks : List (MemoEntry V))
@@ -50,15 +51,15 @@ mark_of-same {V} n (k ∷ ks) is h = elim (cases_Bool (same_node n k.0)) [
   | inr f ↦ rw f (rw f (mark_of-same n ks is (rw f at h)))
 ]
 
-pub unmarked_count-less : {V : Type 0} (n : Node) (ks : List (MemoEntry V)) (is : List Input)
-    → option_map (λ m. m.inputs) (memo_of n (as_memos ks)) ≡ Some is → mark_of ks n ≡ false
+pub unmarked_count-less : {V : Type 0} (n : Node) (ks : List (MemoEntry V)) (i : ℕ)
+    → IsMemoAt n i ks → mark_of ks n ≡ false
     → unmarked_count (with_mark_at n ks) < unmarked_count ks
-unmarked_count-less n [] is h f = cc
-unmarked_count-less {V} n (k ∷ ks) is h not_yet = elim (cases_Bool (same_node n k.0)) [
-  | inl t ↦ (let e : k.1.settled ≡ false = rw t at not_yet in rw t (rw e (omega arith)))
-  | inr f ↦ (let less = unmarked_count-less n ks is (rw f at h) (rw f at not_yet) in
-      rw f (omega arith))
-]
+unmarked_count-less n [] i there f = absurd there
+unmarked_count-less n (k ∷ ks) zero there not_yet =
+    let e : k.1.settled ≡ false = rw there at not_yet in rw there (rw e (omega arith))
+unmarked_count-less n (k ∷ ks) (suc i) there not_yet =
+    let less = unmarked_count-less n ks i there.1 (rw there.0 at not_yet) in
+    rw there.0 (omega arith)
 
 pub has_left : {X : Type 0} (xs ys : List X) (x : X) → Has xs x → Has (xs ++ ys) x
 has_left [] ys x h = absurd h

@@ -23,7 +23,9 @@ use Rattle.memo_core.proofs.JudgeLemmas.{true_false, has_is}
 use Rattle.memo_core.proofs.Theory.{keep_found}
 use Rattle.memo_engine.specs.Unmarked.{without_mark_at, marked_count, HasMarkedInputs, IsClosedTo, IsMarkedBut, HasNoNewMark, LosesMarks}
 use Rattle.memo_engine.specs.declared.waiting.Waiting.{Waiting}
+use Rattle.memo_engine.specs.Matched.{AreMatched, AreMatchedTo, HasNoNewMatch}
 use Rattle.memo_engine.specs.Waiting.{IsWholeTo}
+use Rattle.memo_engine.proofs.MatchLemmas.{matched_there}
 use Rattle.memo_engine.proofs.MarkLemmas.{has_left, has_right, settled_marked, work_there, work_now, waits, whole_of}
 
 -- ---- a mark that is taken away
@@ -70,14 +72,20 @@ pub without_no_mark : {V : Type 0} (n : Node) (ks : List (MemoEntry V)) → mark
 without_no_mark n [] h = refl
 without_no_mark {V} n (k ∷ ks) h = elim (cases_Bool (same_node n k.0)) [
   | inl t ↦ (let e : k.1.settled ≡ false = rw t at h in
-      rw t (ap (λ (b : Bool). with_mark b k ∷ ks) (sym e)))
+      rw t (ap
+      (λ (b : Bool).
+      let s : MemoEntry V =
+      (k.0, record { inputs = k.1.inputs; outputs = k.1.outputs; settled = b; matched = k.1.matched }) in
+      s ∷ ks)
+      (sym e)))
   | inr f ↦ rw f (ap (λ (r : List (MemoEntry V)). k ∷ r) (without_no_mark n ks (rw f at h)))
 ]
 
 -- what is written at a node takes its mark away
 pub unmark_written : {V : Type 0} (n : Node) (ks : List (MemoEntry V)) (k : Kept (TokenShown V))
     → Some k ≡ lookup (same_node n) ks
-    → set_value (same_node n) ks (record { inputs = k.inputs; outputs = k.outputs; settled = false })
+    → set_value (same_node n) ks
+    (record { inputs = k.inputs; outputs = k.outputs; settled = false; matched = k.matched })
     ≡ without_mark_at n ks
 unmark_written n [] k h = cc
 unmark_written {V} n (x ∷ ks) k h = elim (cases_Bool (same_node n x.0)) [
@@ -85,7 +93,7 @@ unmark_written {V} n (x ∷ ks) k h = elim (cases_Bool (same_node n x.0)) [
       rw t (ap
       (λ (k : Kept (TokenShown V)).
       let s : MemoEntry V =
-      (x.0, record { inputs = k.inputs; outputs = k.outputs; settled = false }) in
+      (x.0, record { inputs = k.inputs; outputs = k.outputs; settled = false; matched = k.matched }) in
       s ∷ ks)
       (same_Some k x.1 q)))
   | inr f ↦ rw f (ap (λ (r : List (MemoEntry V)). x ∷ r) (unmark_written n ks k (rw f at h)))
@@ -197,6 +205,19 @@ lost_above net users old mid new n u are is none fewer first next m used before 
         | inr not ↦ inr (λ all. not (each_old mid new fewer (input_nodes (net.inputs m)) all))
       ]
     ]
+
+-- what is closed stays so where the marks do
+pub closed_same : {V G : Type 0} (net : Net G) (old new : List (MemoEntry V)) (pending : List Node)
+    → as_memos new ≡ as_memos old → ((n : Node) → mark_of new n ≡ mark_of old n)
+    → IsClosedTo net old pending → IsClosedTo net new pending
+closed_same {V} {G} net old new pending same marks p n h = elim (p n (sym (marks n) ∙ h)) [
+  | inl has ↦ inl has
+  | inr s ↦ inr (record {
+    used = s.used;
+    matches = rw same s.matches;
+    inputs = each_old new old (λ m h. marks m ∙ h) (input_nodes (net.inputs n)) s.inputs;
+  })
+]
 
 -- ---- after the marks are gone
 
@@ -350,6 +371,14 @@ module _ {V G : Type 0} (old new : Net G) (keep : Node → Bool) (before after :
       ]
     ];
   }
+
+  -- an untouched node that was known to match does
+  pub matched_but : HasNoNewMatch before after → AreMatched old before
+      → AreMatchedTo new after touched
+  matched_but fewer was n h = let p = matched_there old before was n (fewer n h) in elim (only n (inl p.0)) [
+    | inl has ↦ inl has
+    | inr alike ↦ inr (alike.after, matches_after n alike p.1)
+  ]
 
   -- an untouched node that has work had it
   pub whole_but : (cs : List (ℕ × Claim)) (w : Waiting) → IsWholeTo old before cs w []

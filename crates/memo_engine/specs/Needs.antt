@@ -36,11 +36,17 @@ need_by index true false = Work
 need_by index true true = Mark index
 
 -- nothing where the node is marked or something that it stands on is not; else to be computed where
--- it does not match, or a mark at its memo
+-- it does not match, or to be marked
 abbrev pub IsNodeNeed : {V G : Type 0} → Net G → List (MemoEntry V) → Node → Need → Type 0
 IsNodeNeed net ks n Nothing =
     (mark_of ks n ≡ true) ⊎ (all_nodes (mark_of ks) (net.inputs n) ≡ false)
 IsNodeNeed net ks n Work =
     (mark_of ks n ≡ false) × (is_match net (as_memos ks) n ≡ false)
     × (all_nodes (mark_of ks) (net.inputs n) ≡ true)
-IsNodeNeed net ks n (Mark index) = IsMemoAt n index ks × (is_ready net ks n ≡ true)
+IsNodeNeed net ks n (Mark index) = is_ready net ks n ≡ true
+
+-- a node to be marked has no mark yet, and its memo has this index
+abbrev pub IsMarkPlace : {V : Type 0} → List (MemoEntry V) → Node → Need → Type 0
+IsMarkPlace ks n Nothing = Unit {0}
+IsMarkPlace ks n Work = Unit {0}
+IsMarkPlace ks n (Mark index) = IsMemoAt n index ks × (mark_of ks n ≡ false)

@@ -10,6 +10,7 @@ ghost use Rattle.memo_core.specs.Views.{as_memos, output_tokens};
 ghost use Rattle.memo_core.specs.Step.{Has, Loses, Renews, Edits, IsWork};
 ghost use Rattle.memo_engine.specs.Clauses.{state_of, HasRightMemos, HasFreshClaims, IsMarked, GivesJob, IsSettledIn, IsRefused, ShowsStored, ShowsSolved};
 ghost use Rattle.memo_engine.specs.Kept.{AreKept};
+ghost use Rattle.memo_engine.specs.Matched.{AreMatched};
 ghost use Rattle.memo_engine.specs.Told.{IsEditTold, OnNone};
 ghost use Rattle.memo_engine.specs.Waiting.{IsWholeTo};
 
@@ -47,12 +48,19 @@ fn put_in_place<K: StoreName, T: Texts>(
     ensures last { T.last texts.new ≤ number }
     ensures memos { as_memos memos.new.entries
         ≡ filter (λ m. T.keeps texts.new m.node) (as_memos memos.old.entries) }
+    ensures matched { T.is_valid texts.old → T.is_valid texts.new
+        → TouchesOnly (T.net texts.old) (T.net texts.new) (T.touched texts.new)
+        → AreMatched (T.net texts.old) memos.old.entries
+        → IsMarkedTo (T.net texts.old) memos.old.entries []
+        → AreMatched (T.net texts.new) memos.new.entries }
     ensures marks { T.is_valid texts.old → T.is_valid texts.new
         → TouchesOnly (T.net texts.old) (T.net texts.new) (T.touched texts.new)
+        → AreMatched (T.net texts.old) memos.old.entries
         → IsMarkedTo (T.net texts.old) memos.old.entries []
         → IsMarkedTo (T.net texts.new) memos.new.entries [] }
     ensures whole { T.is_valid texts.old → T.is_valid texts.new
         → TouchesOnly (T.net texts.old) (T.net texts.new) (T.touched texts.new)
+        → AreMatched (T.net texts.old) memos.old.entries
         → (claims : List (ℕ × OutClaim)) → IsMarkedTo (T.net texts.old) memos.old.entries []
         → IsWholeTo (T.net texts.old) memos.old.entries claims waiting.old []
         → IsWholeTo (T.net texts.new) memos.new.entries claims waiting.new [] }

@@ -3,6 +3,7 @@
 ghost use Rattle.std.specs.Prelude.{[], ◌+◌, ◌<◌, ◌≤◌, ◌^◌, length};
 ghost use Rattle.indexmap.specs.IndexMap.{spare};
 ghost use Rattle.memo_engine.specs.Kept.{AreKept};
+ghost use Rattle.memo_engine.specs.Matched.{AreMatched};
 ghost use Rattle.memo_engine.specs.Waiting.{IsWholeTo};
 
 use crate::waiting::Waiting;
@@ -37,6 +38,7 @@ pub struct Graph<K: StoreName, T: Texts> {
     ghost few: { taken + length claims.entries < 2 ^ 64 },
     ghost last: { T.last texts ≤ taken },
     ghost kept: { AreKept (T.keeps texts) memos.entries },
+    ghost matched: { AreMatched (T.net texts) memos.entries },
     ghost whole: { IsWholeTo (T.net texts) memos.entries claims.entries waiting [] },
 }
 

@@ -7,6 +7,7 @@ mod finds;
 pub mod graph;
 pub mod job;
 pub mod marks;
+mod matched;
 mod needs;
 mod returns;
 mod stores;

@@ -8,10 +8,12 @@ ghost use Rattle.memo_core.specs.Views.{as_memos};
 ghost use Rattle.memo_core.specs.Tests.{all_nodes};
 ghost use Rattle.memo_core.specs.Marks.{mark_of, with_mark_at, unmarked_count, is_ready, IsMarkedTo, AreMarked, HasUnmarked};
 ghost use Rattle.memo_core.specs.Step.{Has};
+ghost use Rattle.memo_engine.specs.Matched.{AreMatched, AreMatchedTo, HasNoNewMatch};
 ghost use Rattle.memo_engine.specs.Needs.{IsMemoAt};
 ghost use Rattle.memo_engine.specs.Unmarked.{without_mark_at, marked_count, IsClosedTo, IsMarkedBut, HasNoNewMark, LosesMarks};
 ghost use Rattle.memo_engine.specs.Waiting.{IsWholeTo};
 
+use crate::matched::doubt;
 use crate::needs::{Need, node_need};
 use crate::waiting::Waiting;
 use memo_core::keys::{Key, Node};
@@ -59,9 +61,12 @@ fn can_mark<K: StoreName, T: Texts>(
     waiting: &mut Waiting,
     node: Node,
 ) -> Option<usize>
-    ensures ready { is_some result ≡ is_ready (T.net texts.now) memos.now.entries node }
-    ensures index { IfSome result (λ index. IsMemoAt node index memos.now.entries) }
+    ensures ready { AreMatched (T.net texts.now) memos.now.entries
+        → is_some result ≡ is_ready (T.net texts.now) memos.now.entries node }
+    ensures index { IfSome result (λ index. IsMemoAt node index memos.now.entries
+        × (mark_of memos.now.entries node ≡ false)) }
     ensures whole { (claims : List (ℕ × Claim)) (rest : List NodeRecord) → IsNone result
+        → AreMatched (T.net texts.now) memos.now.entries
         → IsMarkedTo (T.net texts.now) memos.now.entries (node ∷ rest)
         → IsWholeTo (T.net texts.now) memos.now.entries claims waiting.old (node ∷ rest)
         → IsWholeTo (T.net texts.now) memos.now.entries claims waiting.new rest }
@@ -77,7 +82,7 @@ fn can_mark<K: StoreName, T: Texts>(
     }
 }
 
-/// Marks the memo of an index.
+/// Marks the memo of an index, which is known to match from now on.
 fn mark<K: StoreName, V: Drop>(memos: &mut Memos<Token<K, V>>, index: usize)
     ensures marks { (n : NodeRecord) → IsMemoAt n index memos.old.entries
         → memos.new.entries ≡ with_mark_at n memos.old.entries }
@@ -85,6 +90,7 @@ fn mark<K: StoreName, V: Drop>(memos: &mut Memos<Token<K, V>>, index: usize)
 {
     if let Some(kept) = memos.get_index_mut(index) {
         kept.settled = true;
+        kept.matched = true;
     }
 }
 
@@ -98,11 +104,15 @@ pub(crate) fn settle<K: StoreName, T: Texts>(
 )
     ensures memos { as_memos memos.new.entries ≡ as_memos memos.old.entries }
     ensures fewer { unmarked_count memos.new.entries ≤ unmarked_count memos.old.entries }
+    ensures matched { T.is_valid texts.now → Has (T.net texts.now).used node
+        → AreMatched (T.net texts.now) memos.old.entries
+        → AreMatched (T.net texts.now) memos.new.entries }
     ensures marks { T.is_valid texts.now → Has (T.net texts.now).used node
-        → (rest : List NodeRecord)
+        → AreMatched (T.net texts.now) memos.old.entries → (rest : List NodeRecord)
         → IsMarkedTo (T.net texts.now) memos.old.entries (node ∷ rest)
         → IsMarkedTo (T.net texts.now) memos.new.entries rest }
     ensures whole { T.is_valid texts.now → Has (T.net texts.now).used node
+        → AreMatched (T.net texts.now) memos.old.entries
         → (claims : List (ℕ × Claim)) (rest : List NodeRecord)
         → IsMarkedTo (T.net texts.now) memos.old.entries (node ∷ rest)
         → IsWholeTo (T.net texts.now) memos.old.entries claims waiting.old (node ∷ rest)
@@ -146,6 +156,7 @@ pub fn unsettle<K: StoreName, T: Texts>(
     ensures memos { as_memos memos.new.entries ≡ as_memos memos.old.entries }
     ensures fewer { marked_count memos.new.entries ≤ marked_count memos.old.entries }
     ensures unmarked { mark_of memos.new.entries node ≡ false }
+    ensures matched { HasNoNewMatch memos.old.entries memos.new.entries }
     ensures old { HasNoNewMark memos.old.entries memos.new.entries }
     ensures closed { T.is_valid texts.now → (rest : List NodeRecord)
         → IsClosedTo (T.net texts.now) memos.old.entries (node ∷ rest)
@@ -163,11 +174,13 @@ pub fn unsettle<K: StoreName, T: Texts>(
     }
 }
 
-/// Takes the marks of what the last edit touched away, and of all that stands on it. It takes no
-/// memory.
+/// Takes the marks of what the last edit touched away, and of all that stands on it. The touched
+/// memos are no longer known to match. It takes no memory.
 fn unsettle_touched<K: StoreName, T: Texts>(texts: &T, memos: &mut Memos<Token<K, T::Value>>)
     ensures memos { as_memos memos.new.entries ≡ as_memos memos.old.entries }
     ensures old { HasNoNewMark memos.old.entries memos.new.entries }
+    ensures matched { AreMatchedTo (T.net texts.now) memos.old.entries (T.touched texts.now)
+        → AreMatched (T.net texts.now) memos.new.entries }
     ensures marks { T.is_valid texts.now
         → IsMarkedBut (T.net texts.now) memos.old.entries (T.touched texts.now)
         → IsMarkedTo (T.net texts.now) memos.new.entries (T.touched texts.now) }
@@ -175,7 +188,9 @@ fn unsettle_touched<K: StoreName, T: Texts>(texts: &T, memos: &mut Memos<Token<K
 {
     let count = texts.touched_count();
     for i in 0..count {
-        unsettle(texts, memos, texts.touched_at(i));
+        let node = texts.touched_at(i);
+        doubt(memos, node);
+        unsettle(texts, memos, node);
     }
 }
 
@@ -187,10 +202,13 @@ fn mark_touched<K: StoreName, T: Texts>(
     waiting: &mut Waiting,
 )
     ensures memos { as_memos memos.new.entries ≡ as_memos memos.old.entries }
-    ensures marks { T.is_valid texts.now
+    ensures matched { T.is_valid texts.now → AreMatched (T.net texts.now) memos.old.entries
+        → AreMatched (T.net texts.now) memos.new.entries }
+    ensures marks { T.is_valid texts.now → AreMatched (T.net texts.now) memos.old.entries
         → IsMarkedTo (T.net texts.now) memos.old.entries (T.touched texts.now)
         → IsMarkedTo (T.net texts.now) memos.new.entries [] }
-    ensures whole { T.is_valid texts.now → (claims : List (ℕ × Claim))
+    ensures whole { T.is_valid texts.now → AreMatched (T.net texts.now) memos.old.entries
+        → (claims : List (ℕ × Claim))
         → IsMarkedTo (T.net texts.now) memos.old.entries (T.touched texts.now)
         → IsWholeTo (T.net texts.now) memos.old.entries claims waiting.old (T.touched texts.now)
         → IsWholeTo (T.net texts.now) memos.new.entries claims waiting.new [] }
@@ -213,10 +231,16 @@ pub(crate) fn settle_touched<K: StoreName, T: Texts>(
     waiting: &mut Waiting,
 )
     ensures memos { as_memos memos.new.entries ≡ as_memos memos.old.entries }
+    ensures matched { T.is_valid texts.now
+        → AreMatchedTo (T.net texts.now) memos.old.entries (T.touched texts.now)
+        → AreMatched (T.net texts.now) memos.new.entries }
     ensures marks { T.is_valid texts.now
+        → AreMatchedTo (T.net texts.now) memos.old.entries (T.touched texts.now)
         → IsMarkedBut (T.net texts.now) memos.old.entries (T.touched texts.now)
         → IsMarkedTo (T.net texts.now) memos.new.entries [] }
-    ensures whole { T.is_valid texts.now → (claims : List (ℕ × Claim))
+    ensures whole { T.is_valid texts.now
+        → AreMatchedTo (T.net texts.now) memos.old.entries (T.touched texts.now)
+        → (claims : List (ℕ × Claim))
         → IsMarkedBut (T.net texts.now) memos.old.entries (T.touched texts.now)
         → IsWholeTo (T.net texts.now) memos.old.entries claims waiting.old (T.touched texts.now)
         → IsWholeTo (T.net texts.now) memos.new.entries claims waiting.new [] }

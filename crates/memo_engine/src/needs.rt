@@ -1,6 +1,6 @@
 //! What a node needs now, by one look at its memo and one at each of its inputs.
 
-ghost use Rattle.std.specs.Prelude.{◌≡◌, ◌+◌, ◌∷◌, ◌&&◌, List, drop, option_map};
+ghost use Rattle.std.specs.Prelude.{◌≡◌, ◌+◌, ◌∷◌, ◌&&◌, List, drop, map, option_map, true};
 ghost use Rattle.std.specs.Map.{lookup};
 ghost use Rattle.memo_core.specs.declared.keys.Input.{Input as InputRecord};
 ghost use Rattle.memo_core.specs.Names.{same_node};
@@ -8,9 +8,10 @@ ghost use Rattle.memo_core.specs.Graph.{present_inputs};
 ghost use Rattle.memo_core.specs.Views.{as_memos};
 ghost use Rattle.memo_core.specs.Tests.{all_nodes, same_inputs};
 ghost use Rattle.memo_core.specs.Marks.{mark_of};
-ghost use Rattle.memo_engine.specs.Needs.{IsMemoIndex, IsNodeNeed, marked_stamp, need_by};
+ghost use Rattle.memo_engine.specs.Matched.{AreMatched};
+ghost use Rattle.memo_engine.specs.Needs.{IsMemoIndex, IsNodeNeed, IsMarkPlace, marked_stamp, need_by};
 
-use crate::marks::inputs_marked;
+use crate::marks::{inputs_marked, is_marked};
 use memo_core::keys::{Input, Key, Node, is_same_key};
 use memo_core::table::{Kept, Memos, find, output_stamp};
 use memo_core::texts::Texts;
@@ -69,6 +70,34 @@ fn is_input(inputs: &[Input], i: usize, key: Key, stamp: u64) -> bool
     }
 }
 
+/// Whether the nodes among the keys of some inputs are all marked.
+fn are_marked<K: StoreName, V>(memos: &Memos<Token<K, V>>, inputs: &[Input]) -> bool
+    ensures { result ≡ all_nodes (mark_of memos.now.entries) (map (λ i. i.key) inputs.now) }
+{
+    for input in inputs {
+        if let Key::Output(from, _) = input.key {
+            if !is_marked(memos, from) {
+                return false;
+            }
+        }
+    }
+    true
+}
+
+/// What a node without a mark needs, whose memo has this index, is known to match, and has these
+/// inputs.
+fn matched_need<K: StoreName, V>(memos: &Memos<Token<K, V>>, index: usize, inputs: &[Input]) -> Need
+    ensures { result
+        ≡ need_by index (all_nodes (mark_of memos.now.entries) (map (λ i. i.key) inputs.now))
+        true }
+{
+    if are_marked(memos, inputs) {
+        Need::Mark(index)
+    } else {
+        Need::Nothing
+    }
+}
+
 /// What a node without a mark needs, whose memo has this index and these inputs. It looks no
 /// further than the first input without a mark.
 fn found_need<K: StoreName, T: Texts>(
@@ -103,20 +132,26 @@ fn found_need<K: StoreName, T: Texts>(
     }
 }
 
-/// What a node needs.
+/// What a node needs. Where its memo is known to match, only marks are asked for.
 pub(crate) fn node_need<K: StoreName, T: Texts>(
     texts: &T,
     memos: &Memos<Token<K, T::Value>>,
     node: Node,
 ) -> Need
-    ensures { IsNodeNeed (T.net texts.now) memos.now.entries node result }
+    ensures need { AreMatched (T.net texts.now) memos.now.entries
+        → IsNodeNeed (T.net texts.now) memos.now.entries node result }
+    ensures place { IsMarkPlace memos.now.entries node result }
 {
     match find_at(memos, node) {
         Some((index, kept)) => {
             if kept.settled {
                 return Need::Nothing;
             }
-            found_need(texts, memos, node, index, kept.inputs.as_slice())
+            let inputs = kept.inputs.as_slice();
+            if kept.matched {
+                return matched_need(memos, index, inputs);
+            }
+            found_need(texts, memos, node, index, inputs)
         }
         None => {
             if inputs_marked(texts, memos, node) {

@@ -8,6 +8,7 @@ use crate::finds::{first_stale, keys_are, values_are};
 use crate::graph::Graph;
 use crate::job::Done;
 use crate::marks::settle;
+use crate::matched::doubt_users;
 use crate::stores::{restamp_all, store_memo};
 use memo_core::claims::{Claim, Finish, Judgement, StoredOutputs};
 use memo_core::keys::{Node, is_same_node};
@@ -93,8 +94,10 @@ impl<K: StoreName, T: Texts> Graph<K, T> {
             inputs,
             outputs,
             settled: false,
+            matched: true,
         };
         store_memo(&mut self.memos, node, kept);
+        doubt_users(&self.texts, &mut self.memos, node, names.as_slice());
         settle(&self.texts, &mut self.memos, &mut self.waiting, node);
         finish_of(node, names)
     }

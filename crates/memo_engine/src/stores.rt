@@ -6,11 +6,12 @@ ghost use Rattle.std.specs.BTreeMap.{insert_entry};
 ghost use Rattle.std.specs.Ordering.{nat_cmp};
 ghost use Rattle.memo_core.specs.declared.keys.Node.{Node as NodeRecord};
 ghost use Rattle.memo_core.specs.Names.{same_node};
-ghost use Rattle.memo_core.specs.Marks.{mark_of};
+ghost use Rattle.memo_core.specs.Marks.{mark_of, matched_of};
 ghost use Rattle.memo_core.specs.Graph.{put_memo, memo_of, output_at};
 ghost use Rattle.memo_core.specs.Views.{as_memo, as_memos, shown_outputs, shown_output};
 ghost use Rattle.memo_core.specs.Tests.{holds_value, stamped_output, name_if_changed, stamped_outputs, changed_names, outputs_of};
 ghost use Rattle.memo_engine.specs.Kept.{AreKept};
+ghost use Rattle.memo_engine.specs.Matched.{HasNoNewMatch};
 
 use crate::work::outputs_in;
 use memo_core::claims::{Claim, ClaimFault, OpenClaims};
@@ -119,6 +120,9 @@ pub fn store_memo<K: StoreName, V: Drop>(
     ensures flags { (n : NodeRecord)
         → mark_of memos.new.entries n
         ≡ (if same_node n node then kept.settled else mark_of memos.old.entries n) }
+    ensures matched { (n : NodeRecord)
+        → matched_of memos.new.entries n
+        ≡ (if same_node n node then kept.matched else matched_of memos.old.entries n) }
     ensures room { spare memos.old ≤ spare memos.new + 1 }
 {
     match memos.insert(node, kept) {
@@ -158,6 +162,7 @@ fn drop_gone<K: StoreName, T: Texts>(texts: &T, memos: &mut Memos<Token<K, T::Va
         ≡ filter (λ m. T.keeps texts.now m.node) (as_memos memos.old.entries) }
     ensures marks { (n : NodeRecord)
         → mark_of memos.new.entries n ≡ (T.keeps texts.now n && mark_of memos.old.entries n) }
+    ensures matched { HasNoNewMatch memos.old.entries memos.new.entries }
     ensures room { spare memos.old ≤ spare memos.new }
 {
     memos.retain(
@@ -182,6 +187,7 @@ pub fn drop_left<K: StoreName, T: Texts>(
         ≡ filter (λ m. T.keeps texts.now m.node) (as_memos memos.old.entries) }
     ensures marks { (n : NodeRecord)
         → mark_of memos.new.entries n ≡ (T.keeps texts.now n && mark_of memos.old.entries n) }
+    ensures matched { HasNoNewMatch memos.old.entries memos.new.entries }
     ensures room { spare memos.old ≤ spare memos.new }
 {
     if !may_drop {

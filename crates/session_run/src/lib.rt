@@ -13,4 +13,5 @@ mod reply;
 mod running;
 mod state;
 
+pub use bench_workers::{Gate, NoGate};
 pub use running::{session, session_heard};

@@ -24,8 +24,8 @@ use Rattle.binding_graph.specs.Resolved.{AreBodies, IsGroupRole, IsCheckRole, Is
 use Rattle.binding_graph.specs.Usages.{Usage, with_values, with_all_values}
 use Rattle.binding_shapes.specs.Shapes.{code_with, body_with, role_with}
 use Rattle.binding_shapes.proofs.Typed.{code_again}
-use Rattle.meaning_slots.proofs.Naming.{AreNamedSenses, AreUsedNames, AreNamedUsages, formula_named, values_named}
-use Rattle.meaning_slots.proofs.Used.{Extends, AllCover, covered, values_extend}
+use Rattle.meaning_items.proofs.Naming.{AreNamedSenses, AreUsedNames, AreNamedUsages, formula_named, values_named}
+use Rattle.meaning_items.proofs.Used.{Extends, AllCover, covered, values_extend}
 use Rattle.shape_laws.specs.Laws.{HasKind, IsReadByKind}
 use Rattle.shape_laws.proofs.Leaves.{AreOfKinds, formula_kinds}
 

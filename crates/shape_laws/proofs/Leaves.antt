@@ -23,9 +23,9 @@ use Rattle.binding_graph.specs.Meaning.{source_of, source_of_binder}
 use Rattle.binding_shapes.specs.Shapes.{source_kind}
 use Rattle.binding_shapes.proofs.Typed.{HasReadKinds, known_same}
 use Rattle.meaning_terms.specs.Formulas.{HasNames}
-use Rattle.meaning_slots.specs.Slots.{naming_in}
-use Rattle.meaning_slots.proofs.Naming.{IsNamed, IsUsedName, AreUsedNames, input_at}
-use Rattle.meaning_slots.proofs.Used.{Extends, IsUsed, IsCovered}
+use Rattle.meaning_items.specs.Slots.{naming_in}
+use Rattle.meaning_items.proofs.Naming.{IsNamed, IsUsedName, AreUsedNames, input_at}
+use Rattle.meaning_items.proofs.Used.{Extends, IsUsed, IsCovered}
 use Rattle.binding_laws.proofs.Placed.{same_input}
 use Rattle.shape_laws.specs.Laws.{HasKind}
 

@@ -26,9 +26,9 @@ use Rattle.binding_graph.specs.Lowering.{known}
 use Rattle.binding_graph.specs.Resolved.{AreBodies, IsGroupRole, IsResolvedIn, AreLabelledAs}
 use Rattle.binding_graph.specs.Usages.{Usage, with_values}
 use Rattle.binding_shapes.specs.Shapes.{role_with}
-use Rattle.meaning_slots.specs.Slots.{naming_in}
-use Rattle.meaning_slots.proofs.Growing.{Grows, senses_grown, usages_grown}
-use Rattle.meaning_slots.proofs.Naming.{naming_below}
+use Rattle.meaning_items.specs.Slots.{naming_in}
+use Rattle.meaning_items.proofs.Growing.{Grows, senses_grown, usages_grown}
+use Rattle.meaning_items.proofs.Naming.{naming_below}
 use Rattle.binding_laws.specs.ItemLaws.{Scope, first_scope}
 use Rattle.binding_laws.specs.Reread.{ReadModel, outer_namings, IsReadModel, bodies_of}
 use Rattle.binding_laws.proofs.Again.{fits_at}

@@ -16,9 +16,9 @@ use Rattle.binding_graph.specs.Usages.{Usage, with_values, usage_of_function, us
 use Rattle.from_scratch.proofs.Ordered.{all_reverse}
 use Rattle.meaning_terms.specs.Formulas.{HasNames}
 use Rattle.meaning_terms.proofs.Slots.{names_more, names_both}
-use Rattle.meaning_slots.proofs.Growing.{Grows, senses_grown, usages_grown, named_grown, used_grown}
-use Rattle.meaning_slots.proofs.Naming.{naming_below, naming_more, IsNamed, AreNamedSenses, IsUsedName, AreUsedNames, AreNamedUsages, formula_named, values_named}
-use Rattle.meaning_slots.proofs.Used.{HasSlot, IsCovered, Covers, AllCover, used_slot, slot_reversed, covered}
+use Rattle.meaning_items.proofs.Growing.{Grows, senses_grown, usages_grown, named_grown, used_grown}
+use Rattle.meaning_items.proofs.Naming.{naming_below, naming_more, IsNamed, AreNamedSenses, IsUsedName, AreUsedNames, AreNamedUsages, formula_named, values_named}
+use Rattle.meaning_items.proofs.Used.{HasSlot, IsCovered, Covers, AllCover, used_slot, slot_reversed, covered}
 use Rattle.binding_laws.specs.ItemLaws.{Scope, scope_after, scope_at}
 use Rattle.binding_laws.proofs.Added.{extended_under}
 use Rattle.binding_laws.proofs.Before.{get_kept, get_last, one_longer}

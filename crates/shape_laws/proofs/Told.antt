@@ -3,8 +3,8 @@ use Rattle.std.proofs.Common.{ℕ, ◌≡◌, List, [], ◌∷◌, length, true,
 use Rattle.std.specs.Prelude.{◌==◌}
 use Rattle.std.proofs.lemmas.Bool.{cases_Bool, eqb-true, eq-eqb, false≢true}
 use Rattle.binding_kinds.specs.Value.{Naming}
-use Rattle.meaning_slots.specs.Slots.{naming_in}
-use Rattle.meaning_slots.proofs.Growing.{Grows}
+use Rattle.meaning_items.specs.Slots.{naming_in}
+use Rattle.meaning_items.proofs.Growing.{Grows}
 use Rattle.binding_laws.proofs.Told.{told, told_below, IsUnder}
 
 pub naming_told : (names : List Naming) (slot : ℕ) → naming_in names slot ≡ told names slot

@@ -5,3 +5,4 @@
 mod files;
 
 pub use files::watch_files;
+pub use watch_run::{Ended, FileVersions, Version, VersionTeller, Versions, watch};

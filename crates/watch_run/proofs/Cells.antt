@@ -25,6 +25,8 @@ use Rattle.session_answers.specs.Cells.{test_named, model_named}
 use Rattle.session_answers.proofs.Named.{clauses_of-items}
 use Rattle.session_views.proofs.Counts.{knows_later, knows_nothing}
 use Rattle.session_views.specs.Knowing.{KnowsOwn, KnowsTexts}
+use Rattle.watch_run.specs.declared.author.Counts.{Counts}
+use Rattle.watch_run.specs.Counts.{no_counts}
 use Rattle.watch_run.specs.Holding.{no_names}
 use Rattle.watch_run.specs.Lines.{IsTestCell, AreLinesOf}
 use Rattle.watch_run.specs.Boards.{shown_cells, AreCellsClosed, shown_lines, IsClosedBy, AreOwnLines, lists_of, standing_of}
@@ -97,9 +99,16 @@ lines_right ops t same right models (Some name ∷ names) closed = (
 )
 
 -- the viewer goes on from what it saw
-pub knows_on : (seen later : List BoardOp) (made : ℕ) (t : BenchTexts) → IsPrefix seen later
+knows_on : (seen later : List BoardOp) (made : ℕ) (t : BenchTexts) → IsPrefix seen later
     → KnowsTexts seen made t → KnowsTexts later made t
 knows_on seen later made t more knows = (knows.0, knows_later seen later made t more knows.1)
+
+-- and counts what it counted
+pub knows_still : (seen later : List BoardOp) (old new : Counts) (t : BenchTexts)
+    → IsPrefix seen later → new ≡ old → KnowsTexts seen old.made t → KnowsTexts later new.made t
+knows_still seen later old new t more same knows =
+    subst (λ (k : Counts). KnowsTexts later k.made t) (sym same)
+    (knows_on seen later old.made t more knows)
 
 append_none : (ops : List BoardOp) → ops ++ [] ≡ ops
 append_none [] = refl
@@ -111,33 +120,37 @@ all_counted : (n made : ℕ) → (2 ^ 64 - 1 < n) ⊎ (n ≤ 2 ^ 64 - 1) → min
 all_counted n made (inl more) e lt = absurd (omega (arith, more, e, lt))
 all_counted n made (inr few) e lt = omega (arith, few, e, lt)
 
--- who has seen nothing knows that there are no texts
-pub knows_start : (seen : List BoardOp) (t : BenchTexts) → seen ≡ [] → t ≡ no_texts
-    → KnowsTexts seen 0 t
-knows_start seen t nothing none =
+-- who has seen and counted nothing knows that there are no texts
+pub knows_start : (seen : List BoardOp) (counts : Counts) (t : BenchTexts) → seen ≡ []
+    → counts ≡ no_counts → t ≡ no_texts → KnowsTexts seen counts.made t
+knows_start seen counts t nothing none_made none =
     let knows = subst (λ (l : List BoardOp). KnowsOwn l 0 t) (sym nothing) (subst (λ (x : BenchTexts). KnowsOwn [] 0 x) (sym none) knows_nothing) in
-    (omega arith, knows)
+    let below : 0 < 2 ^ 64 - 1 = omega arith in
+    subst (λ (k : Counts). KnowsTexts seen k.made t) (sym none_made) (below, knows)
 
 as_many : (tests : List (Bor (List ℕ))) → length (map (λ t. t.now) tests) ≡ length tests
 as_many [] = refl
 as_many (t ∷ tests) = ap suc (as_many tests)
 
--- nothing is held at the start, no line was written and no text refused
+-- nothing is held at the start, no line was written, no text refused, and no job done
 pub stands_first : (texts : Texts) (names : Vec (Option (List ℕ)) Global)
-    (lines : Vec (Vec ℕ Global) Global) (models tests : List (Bor (List ℕ))) (count : ℕ)
+    (lines : Vec (Vec ℕ Global) Global) (counts : Counts) (models tests : List (Bor (List ℕ)))
+    (count : ℕ)
     → texts_of texts ≡ no_texts → names.items ≡ no_names count → count ≡ length tests
-    → lines.items ≡ []
-    → standing_of (length models) texts names lines false
+    → lines.items ≡ [] → counts ≡ no_counts
+    → standing_of (length models) texts names lines false counts.jobs
     ≡ at_first (length (map (λ m. m.now) models)) (length (map (λ t. t.now) tests))
     (lists_of lines.items)
-stands_first texts names lines models tests count none empty long first =
+stands_first texts names lines counts models tests count none empty long first none_done =
     let named : names.items ≡ no_names (length (map (λ t. t.now) tests)) = empty ∙ ap no_names (long ∙ sym (as_many tests)) in
-    ap
+    ap (λ (k : Counts). standing_of (length models) texts names lines false k.jobs) none_done
+    ∙ ap
     (λ (t : BenchTexts). record {
       models = length models;
       held = record { texts = t; names = names.items };
       lines = lists_of lines.items;
       refused = false;
+      jobs = 0;
     }) none
     ∙ ap
     (λ (l : List (Option (List ℕ))). record {
@@ -145,6 +158,7 @@ stands_first texts names lines models tests count none empty long first =
       held = record { texts = no_texts; names = l };
       lines = lists_of lines.items;
       refused = false;
+      jobs = 0;
     }) named
     ∙ ap
     (λ (n : ℕ). at_first n (length (map (λ t. t.now) tests)) (lists_of lines.items))

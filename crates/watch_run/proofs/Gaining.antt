@@ -1,5 +1,5 @@
 -- Answers that a sink gained, one after another, and what was read for them.
-use Rattle.std.proofs.Common.{◌≡◌, Bool, true, false, inl, inr, ℕ, zero, suc, ◌+◌, ◌<◌, ◌≤◌, List, [], ◌∷◌, ◌++◌, length, map, take, get_or, true, false, Option, Some, None, Result, Ok, refl, sym, ap, subst, ◌∙◌, append_assoc, arith}
+use Rattle.std.proofs.Common.{◌≡◌, Bool, true, false, inl, inr, ℕ, zero, suc, ◌+◌, ◌<◌, ◌≤◌, List, [], ◌∷◌, ◌++◌, length, take, get_or, Option, Some, None, Result, Ok, refl, sym, ap, subst, ◌∙◌, append_assoc, arith}
 use Rattle.std.specs.Prelude.{Vec, codes, Err, IfOk, ◌==◌, slice_get}
 use Rattle.std.specs.declared.alloc.Global.{Global}
 use Rattle.std.proofs.KnownBytes.{Appends-nil, Appends-trans}
@@ -13,9 +13,12 @@ use Rattle.bench_texts.specs.declared.fault.EditFault.{EditFault}
 use Rattle.watch_run.specs.declared.versions.Version.{Version}
 use Rattle.watch_run.specs.declared.versions.Version.TheVariants.{Text, Unread}
 use Rattle.watch_run.specs.Readings.{FileReading, AreReadBetween, HasReadAtMost}
-use Rattle.watch_run.specs.Holding.{Holding, bench_model_names, IsFileTaken, IsVersionRefused, File, FilePath, file_at}
+use Rattle.watch_run.specs.Holding.{Holding, bench_model_names, IsVersionRefused, File, FilePath, file_at}
+use Rattle.watch_run.specs.Edited.{IsTakenByEdits}
 use Rattle.bench_texts.specs.Held.{texts_of}
 use Rattle.bench_texts.specs.declared.texts.Texts.{Texts}
+use Rattle.watch_run.specs.declared.author.Counts.{Counts}
+use Rattle.watch_run.specs.Counts.{with_jobs}
 use Rattle.watch_run.specs.declared.watched.Paths.{Paths}
 use Rattle.watch_run.specs.Edits.{model_paths, test_paths, holding_of}
 use Rattle.watch_run.specs.Lines.{AreLinesOf, AreLinesWritten}
@@ -356,64 +359,63 @@ begun_and_one files i file old new r s t told there begun one =
       are = read_more r s t begun.read one.read begun.reads one.are;
     }
 
+abbrev stands : (models : ℕ) → Holding → Vec (Vec ℕ Global) Global → (refused : Bool) → (jobs : ℕ)
+    → Standing
+stands models held lines refused jobs = record {
+  models = models;
+  held = held;
+  lines = lists_of lines.items;
+  refused = refused;
+  jobs = jobs;
+}
+
 -- a text is taken
 pub noted_taken : (models now : ℕ) (file : File) (path text : List ℕ) (old new : Holding)
-    (lines others : Vec (Vec ℕ Global) Global) (was is : Bool) (before after : List ℕ)
-    → IsFileTaken file text old new → now ≡ models → others ≡ lines → is ≡ was → after ≡ before
+    (lines others : Vec (Vec ℕ Global) Global) (was is : Bool) (done jobs : ℕ)
+    (before after : List ℕ)
+    → IsTakenByEdits file text old new → now ≡ models → others ≡ lines → is ≡ was → jobs ≡ done
+    → after ≡ before
     → IsTextNoted file path text
-    (record { models = models; held = old; lines = lists_of lines.items; refused = was })
-    (record { models = now; held = new; lines = lists_of others.items; refused = is }) before after
-    true
-noted_taken models now file path text old new lines others was is before after taken many same
-    refused told =
+    (stands models old lines was done) (stands now new others is jobs) before after true
+noted_taken models now file path text old new lines others was is done jobs before after taken many
+    same refused none told =
     NotedTaken new taken
-    (ap
-    (λ (n : ℕ).
-    record { models = n; held = new; lines = lists_of others.items; refused = is }) many
-    ∙ ap
-    (λ (v : Vec (Vec ℕ Global) Global).
-    record { models = models; held = new; lines = lists_of v.items; refused = is }) same
-    ∙ ap
-    (λ (b : Bool).
-    record { models = models; held = new; lines = lists_of lines.items; refused = b }) refused)
+    (ap (λ (n : ℕ). stands n new others is jobs) many
+    ∙ ap (λ (v : Vec (Vec ℕ Global) Global). stands models new v is jobs) same
+    ∙ ap (λ (b : Bool). stands models new lines b jobs) refused
+    ∙ ap (λ (n : ℕ). stands models new lines was n) none)
     told
 
 -- or refused
 pub noted_refused : (models now : ℕ) (file : File) (path text : List ℕ) (old new : Holding)
-    (lines others : Vec (Vec ℕ Global) Global) (fault : EditFault) (was : Bool)
+    (lines others : Vec (Vec ℕ Global) Global) (fault : EditFault) (was : Bool) (done jobs : ℕ)
     (before after : List ℕ)
     → IsVersionRefused file text old.texts fault → new ≡ old → now ≡ models → others ≡ lines
-    → after ≡ before ++ file_refusal path fault
+    → jobs ≡ done → after ≡ before ++ file_refusal path fault
     → IsTextNoted file path text
-    (record { models = models; held = old; lines = lists_of lines.items; refused = was })
-    (record { models = now; held = new; lines = lists_of others.items; refused = true }) before
-    after false
-noted_refused models now file path text old new lines others fault was before after refused same
-    many kept told =
+    (stands models old lines was done) (stands now new others true jobs) before after false
+noted_refused models now file path text old new lines others fault was done jobs before after
+    refused same many kept none told =
     NotedRefused fault refused
-    (ap
-    (λ (n : ℕ).
-    record { models = n; held = new; lines = lists_of others.items; refused = true }) many
-    ∙ ap
-    (λ (h : Holding).
-    record { models = models; held = h; lines = lists_of others.items; refused = true }) same
-    ∙ ap
-    (λ (v : Vec (Vec ℕ Global) Global).
-    record { models = models; held = old; lines = lists_of v.items; refused = true }) kept)
+    (ap (λ (n : ℕ). stands n new others true jobs) many
+    ∙ ap (λ (h : Holding). stands models h others true jobs) same
+    ∙ ap (λ (v : Vec (Vec ℕ Global) Global). stands models old v true jobs) kept
+    ∙ ap (λ (n : ℕ). stands models old lines true n) none)
     told
 
 -- the lines under the models are those of what is held, and were written
 pub lines_settled : (models : ℕ) (names : List (List ℕ)) (old now : Texts)
     (held after : Vec (Option (List ℕ)) Global) (lines others : Vec (Vec ℕ Global) Global)
-    (lasts nows : List (Vec ℕ Global)) (refused : Bool) (text said : List ℕ)
+    (lasts nows : List (Vec ℕ Global)) (refused : Bool) (was is : Counts) (jobs : ℕ)
+    (text said : List ℕ)
     → names ≡ bench_model_names models → now ≡ old → after ≡ held
     → AreLinesOf names (texts_of now) after.items (lists_of others.items)
-    → lasts ≡ lines.items → nows ≡ others.items
-    → AreLinesWritten (lists_of lasts) (lists_of nows) text said
-    → AreLinesSettled (standing_of models old held lines refused)
-    (standing_of models now after others refused) text said
-lines_settled models names old now held after lines others lasts nows refused text said named same
-    kept are last new written = record {
+    → lasts ≡ lines.items → nows ≡ others.items → is ≡ with_jobs jobs was
+    → AreLinesWritten (lists_of lasts) (lists_of nows) jobs text said
+    → AreLinesSettled (standing_of models old held lines refused was.jobs)
+    (standing_of models now after others refused is.jobs) text said
+lines_settled models names old now held after lines others lasts nows refused was is jobs text said
+    named same kept are last new counted written = record {
       models = refl;
       held =
           ap (λ (t : Texts). holding_of t after) same
@@ -423,13 +425,16 @@ lines_settled models names old now held after lines others lasts nows refused te
           subst
           (λ (l : List (List ℕ)). AreLinesOf l (texts_of now) after.items (lists_of others.items))
           named are;
+      jobs = jobs;
+      done = ap (λ (k : Counts). k.jobs) counted;
       written =
           subst
-          (λ (l : List (Vec ℕ Global)). AreLinesWritten (lists_of l) (lists_of others.items) text said)
+          (λ (l : List (Vec ℕ Global)).
+          AreLinesWritten (lists_of l) (lists_of others.items) jobs text said)
           last
           (subst
-          (λ (l : List (Vec ℕ Global)). AreLinesWritten (lists_of lasts) (lists_of l) text said) new
-          written);
+          (λ (l : List (Vec ℕ Global)). AreLinesWritten (lists_of lasts) (lists_of l) jobs text said)
+          new written);
     }
 
 -- ---- one answer

@@ -1,9 +1,13 @@
 pub mod Lists
 pub mod Names
 pub mod Cells
+pub mod Counting
 pub mod Taking
+pub mod Changing
+pub mod Edited
 pub mod Gaining
 pub mod Steps
 pub mod Paths
 pub mod Fronts
 pub mod Failing
+pub mod Told

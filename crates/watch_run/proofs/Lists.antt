@@ -125,6 +125,21 @@ got_past i d [] le = refl
 got_past zero d (x ∷ xs) le = absurd (omega (arith, le))
 got_past (suc i) d (x ∷ xs) le = got_past i d xs (omega (arith, le))
 
+-- what is there at an index, with a default
+pub got_there : {A : Type 0} (i : ℕ) (x d : A) (xs : List A) → slice_get xs i ≡ Some x
+    → get_or xs i d ≡ x
+got_there i x d [] there = absurd cc
+got_there zero x d (y ∷ ys) there = same_Some y x there
+got_there (suc i) x d (y ∷ ys) there = got_there i x d ys there
+
+-- and after it was changed
+pub changed_there : {A : Type 0} (i : ℕ) (x d : A) (xs : List A) → slice_get xs i ≡ Some x
+    → (i < length (changed_at i (λ y. x) xs)) × (get_or (changed_at i (λ y. x) xs) i d ≡ x)
+changed_there i x d [] there = absurd cc
+changed_there zero x d (y ∷ ys) there = (omega arith, refl)
+changed_there (suc i) x d (y ∷ ys) there =
+    let rest = changed_there i x d ys there in (omega (arith, rest.0), rest.1)
+
 pub nothing_of : {A : Type 0} (xs : List A) → length xs ≡ 0 → xs ≡ []
 nothing_of [] e = refl
 nothing_of (x ∷ xs) e = absurd (omega (arith, e))

@@ -31,7 +31,7 @@ one_more (last ∷ lasts) (now ∷ nows) (suc i) lt =
     (changed_line (get_or lasts i []) (get_or nows i [])))
 
 -- the line at an index
-line_at : (lines : List (Vec ℕ Global)) (i : ℕ) (v : Vec ℕ Global) → i < length lines
+pub line_at : (lines : List (Vec ℕ Global)) (i : ℕ) (v : Vec ℕ Global) → i < length lines
     → get_or (lists_of lines) i [] ≡ (get_or lines i v).items
 line_at [] i v lt = absurd (omega (arith, lt))
 line_at (x ∷ xs) zero v lt = refl

@@ -1,41 +1,29 @@
 -- What edits and versions make of the texts.
-use Rattle.std.proofs.Common.{◌≡◌, ℕ, suc, ◌+◌, ◌<◌, List, [], ◌∷◌, length, map, Bool, true, false, nat_lt, Option, Some, None, inl, inr, refl, sym, ap, subst, ◌∙◌, arith}
-use Rattle.std.specs.Prelude.{◌≢◌, slice_get, insert, remove, bytes_eq, Vec, vec_len, ◌==◌, IsTrue}
-use Rattle.std.specs.declared.alloc.Global.{Global}
-use Rattle.std.proofs.lemmas.Bool.Decides.{Decides-eqb}
+use Rattle.std.proofs.Common.{◌≡◌, ℕ, suc, ◌+◌, ◌<◌, List, [], ◌∷◌, length, Bool, true, false, nat_lt, Option, Some, None, inl, inr, refl, sym, ap, subst, ◌∙◌, arith}
+use Rattle.std.specs.Prelude.{◌≢◌, slice_get, insert, remove, bytes_eq}
 use Rattle.std.specs.List.{position_or_len}
 use Rattle.std.proofs.lemmas.Bool.{cases_Bool, ltb-true}
 use Rattle.std.proofs.lemmas.Option.{same_Some}
 use Rattle.std.proofs.lemmas.Slice.Eq.{bytes_eq-Decides}
-use Rattle.text_values.specs.declared.test.Test.{Test}
-use Rattle.text_values.specs.TestValue.{Content, content_of}
-use Rattle.text_values.specs.ModelValue.{Clause}
-use Rattle.text_values.specs.ModelValues.{clauses_of}
+use Rattle.text_values.specs.TestValue.{Content}
 use Rattle.litmus_grammar.specs.Texts.{ReadsTest}
 use Rattle.bench_texts.specs.declared.fault.EditFault.{EditFault}
 use Rattle.bench_texts.specs.declared.fault.EditFault.TheVariants as faults
 use Rattle.bench_texts.specs.BenchTexts.{BenchTexts, PlainModel, test_index, model_index, put_at, changed_at, with_init, with_thread, with_condition, with_observed, with_items, with_models, numbered_items}
 use Rattle.bench_texts.specs.Edits.{Edit, PutTest, DropTest, SetInit, SetThread, SetCond, SetLocations, PutModel, DropModel, SetItem, InsertItem, RemoveItem, Applies, has_test, thread_count, index_in, index_before, unless}
-use Rattle.bench_texts.specs.declared.model.NamedModel.{NamedModel}
-use Rattle.bench_texts.specs.Held.{plain_model}
-use Rattle.session_answers.specs.Cells.{test_named, model_named}
-use Rattle.session_answers.proofs.Named.{clauses_of-items}
-use Rattle.watch_edits.specs.Changes.{with_changes}
-use Rattle.watch_edits.specs.Parts.{with_parts}
-use Rattle.watch_edits.specs.Edits.{IsPartEdit, item_edit}
-use Rattle.watch_edits.specs.declared.items.ItemChange.{ItemChange}
+use Rattle.session_answers.specs.Cells.{model_named}
+use Rattle.watch_edits.specs.Edits.{IsPartEdit}
 use Rattle.watch_edits.specs.declared.items.ItemChange.TheVariants as changes
-use Rattle.watch_edits.specs.declared.parts.TestPart.{TestPart}
-use Rattle.watch_run.specs.Holding.{Holding, held_name, without_unheld, tests_left, HoldsItems, IsSameButModel, IsTestTaken}
-use Rattle.watch_run.specs.Edits.{IsEditTried, IsModelEdit, AreChanges, AreTestParts, AreSameBut}
-use Rattle.watch_run.proofs.Lists.{put_same, put_twice, IsPut, changed_is_put, index_put, found_beside, found_unchanged, nothing_of}
+use Rattle.watch_run.specs.Holding.{Holding, held_name, without_unheld, tests_left, IsSameButModel, IsTestTaken}
+use Rattle.watch_run.specs.Edits.{IsEditTried, IsModelEdit, AreSameBut}
+use Rattle.watch_run.proofs.Lists.{put_same, put_twice, IsPut, changed_is_put, index_put, found_beside, found_unchanged}
 
 -- ---- bytes
 
 same_bytes : (a b : List ℕ) → bytes_eq a b ≡ true → a ≡ b
 same_bytes a b e = (bytes_eq-Decides a b).0 e
 
-bytes_same : (a b : List ℕ) → a ≡ b → bytes_eq a b ≡ true
+pub bytes_same : (a b : List ℕ) → a ≡ b → bytes_eq a b ≡ true
 bytes_same a b e = (bytes_eq-Decides a b).1 e
 
 -- ---- what an edit names is there
@@ -267,65 +255,11 @@ put_whole a t new text c only but made =
     is ∙ ap (λ (d : Content). put_at (test_index d.name t.tests) d t.tests) same
     ∙ put_after c.name a.tests t.tests c but
 
--- ---- what changes and parts make
-
-pub changes_of : (name : List ℕ) (t : BenchTexts) (m : NamedModel) (new : List Clause)
-    (cs : List ItemChange) → Some (plain_model m) ≡ model_named t name
-    → with_changes new cs (clauses_of m.text.items.items) ≡ new → AreChanges name t new cs
-changes_of name t m new cs there applied =
-    let long : length m.numbers.items ≡ length m.text.items.items = omega (arith, m.paired, m.numbers.ok.0, m.text.items.ok.0) in
-    record {
-      model = plain_model m;
-      there = sym there;
-      applied =
-          subst (λ (l : List Clause). with_changes new cs l ≡ new)
-          (clauses_of-items m.numbers.items m.text.items.items long) applied;
-    }
-
-none_in : {A : Type 0} (v : Vec A Global) → (vec_len v == 0) ≡ true → v.items ≡ []
-none_in v e =
-    let zero_long : vec_len v ≡ 0 = (Decides-eqb (vec_len v) 0).0 e in
-    nothing_of v.items (omega (arith, zero_long, v.ok.0))
-
-pub items_held : (name : List ℕ) (t : BenchTexts) (new : List Clause) (v : Vec ItemChange Global)
-    (is : Bool) → AreChanges name t new v.items → is ≡ (vec_len v == 0) → IsTrue is
-    → HoldsItems name new t
-items_held name t new v is lead empty full =
-    let none : v.items ≡ [] = none_in v (sym empty ∙ full) in
-    record { model = lead.model; there = lead.there; are = subst (λ (cs : List ItemChange). with_changes new cs (map (λ i. i.clause) lead.model.items) ≡ new) none lead.applied }
-
-pub parts_of : (t : BenchTexts) (old : Test) (new : Content) (ps : List TestPart)
-    → Some (content_of old) ≡ test_named t new.name → with_parts new ps (content_of old) ≡ new
-    → AreTestParts t new ps
-parts_of t old new ps there put = record { test = content_of old; there = sym there; put = put }
-
-pub test_held : (t : BenchTexts) (new : Content) (v : Vec TestPart Global) (is : Bool)
-    → AreTestParts t new v.items → is ≡ (vec_len v == 0) → IsTrue is → test_named t new.name ≡ Some new
-test_held t new v is lead empty full =
-    let none : v.items ≡ [] = none_in v (sym empty ∙ full) in
-    let same : lead.test ≡ new = subst (λ (ps : List TestPart). with_parts new ps lead.test ≡ new) none lead.put in
-    lead.there ∙ ap (λ (c : Content). Some c) same
-
 -- the name of the model at the index that a name has
-model_name_there : (name : List ℕ) (ms : List PlainModel) (m : PlainModel)
+pub model_name_there : (name : List ℕ) (ms : List PlainModel) (m : PlainModel)
     → slice_get ms (model_index name ms) ≡ Some m → m.name ≡ name
 model_name_there name ms m e =
     same_bytes m.name name (passes_there (λ x. bytes_eq x.name name) ms m e)
-
-pub change_of_model : (name : List ℕ) (t : BenchTexts) (m : NamedModel) (e : Edit)
-    (numbers : List ℕ) (new : List Clause) (change : ItemChange)
-    → Some (plain_model m) ≡ model_named t name
-    → e ≡ item_edit (plain_model m).name numbers new change
-    → IsModelEdit name e
-change_of_model name t m e numbers new (changes.Set i) there is =
-    subst (λ (x : Edit). IsModelEdit name x) (sym is)
-    (model_name_there name t.models (plain_model m) (sym there))
-change_of_model name t m e numbers new (changes.Insert i) there is =
-    subst (λ (x : Edit). IsModelEdit name x) (sym is)
-    (model_name_there name t.models (plain_model m) (sym there))
-change_of_model name t m e numbers new (changes.Remove i) there is =
-    subst (λ (x : Edit). IsModelEdit name x) (sym is)
-    (model_name_there name t.models (plain_model m) (sym there))
 
 pub part_tests : (t : BenchTexts) (e : Edit) (name : List ℕ) → IsPartEdit name e
     → (o : Option EditFault) (new : BenchTexts) → IsEditTried t e o new

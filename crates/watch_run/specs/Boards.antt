@@ -3,7 +3,6 @@ use Rattle.std.specs.Prelude.{◌≡◌, ◌≢◌, ℕ, Bool, List, [], map, le
 use Rattle.std.specs.declared.alloc.Global.{Global}
 use Rattle.std.specs.List.{AllByRecursion as Each}
 use Rattle.outcome_texts.specs.Cells.{Cell, Open}
-use Rattle.bench_texts.specs.BenchTexts.{BenchTexts}
 use Rattle.bench_texts.specs.Held.{texts_of}
 use Rattle.bench_texts.specs.declared.texts.Texts.{Texts}
 use Rattle.board.specs.declared.operation.BoardOp.{BoardOp}
@@ -19,6 +18,7 @@ use Rattle.watch_run.specs.Holding.{Holding}
 use Rattle.watch_run.specs.Lines.{test_table, behind_line}
 use Rattle.watch_run.specs.Edits.{holding_of}
 use Rattle.watch_run.specs.Runs.{Standing}
+use Rattle.watch_run.specs.declared.author.Counts.{Counts}
 use Rattle.watch_run.specs.declared.watched.Watched.{Watched}
 use Rattle.watch_run.specs.declared.answers.Run.{Run}
 
@@ -85,29 +85,36 @@ abbrev pub lists_of : List (Vec ℕ Global) → List (List ℕ)
 lists_of lines = map (λ v. v.items) lines
 
 -- how things stand with so many models, these texts and names, the lines that were last written,
--- and whether a text was refused
+-- whether a text was refused, and so many jobs
 abbrev pub standing_of : (models : ℕ) → Texts → Vec (Option (List ℕ)) Global
-    → Vec (Vec ℕ Global) Global → Bool → Standing
-standing_of models texts names lines refused = record {
+    → Vec (Vec ℕ Global) Global → Bool → (jobs : ℕ) → Standing
+standing_of models texts names lines refused jobs = record {
   models = models;
   held = holding_of texts names;
   lines = lists_of lines.items;
   refused = refused;
+  jobs = jobs;
 }
 
 -- ---- an author with its texts, and a run
 
--- the author knows by what it saw that these are its texts
-abbrev pub KnowsItsTexts : {A : Type 0} → (seen : A → List BoardOp) → Watched A → Type 0
-KnowsItsTexts seen watched =
-    KnowsTexts (seen watched.author) watched.made (texts_of watched.texts)
+-- the author knows by what it saw, and by how many edits it counts, that these are its texts
+abbrev pub KnowsItsTexts : {A : Type 0} → (seen : A → List BoardOp) → (counts : A → Counts)
+    → Watched A → Type 0
+KnowsItsTexts seen counts watched =
+    KnowsTexts (seen watched.author) (counts watched.author).made (texts_of watched.texts)
+
+-- no edit was made: the texts are the same, and so is what the author counts
+pub record IsUnedited {A : Type 0} (counts : A → Counts) (old new : Watched A) : Type 0 where
+  pub texts : texts_of new.texts ≡ texts_of old.texts
+  pub counted : counts new.author ≡ counts old.author
 
 -- what is held of its files
 abbrev pub holding : {A : Type 0} → Watched A → Holding
 holding watched = holding_of watched.texts watched.names
 
--- how things stand for a run
-abbrev pub standing : {A : Type 0} → Run A → Standing
-standing run =
+-- how things stand for a run, whose author counts its jobs
+abbrev pub standing : {A : Type 0} → (counts : A → Counts) → Run A → Standing
+standing counts run =
     standing_of (length run.paths.models.now) run.watched.texts run.watched.names run.lines
-    run.is_refused
+    run.is_refused (counts run.watched.author).jobs

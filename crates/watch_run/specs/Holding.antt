@@ -1,5 +1,5 @@
 -- Read this first: what is held of the watched files, and what a version of a file makes of it.
-use Rattle.std.specs.Prelude.{◌≡◌, ◌≢◌, false, not, ◌&&◌, Bool, ℕ, zero, suc, ◌+◌, List, [], ◌∷◌, ◌++◌, map, replicate, get_or, remove, bytes_eq, if◌then◌else◌, Option, Some, None, codes, decimal}
+use Rattle.std.specs.Prelude.{◌≡◌, ◌≢◌, false, not, ◌&&◌, Bool, ℕ, zero, suc, ◌+◌, List, [], ◌∷◌, ◌++◌, map, replicate, get_or, remove, bytes_eq, slice_get, if◌then◌else◌, Option, Some, None, codes, decimal}
 use Rattle.std.specs.List.{list_any}
 use Rattle.text_values.specs.TestValue.{Content}
 use Rattle.text_values.specs.ModelValue.{Clause}
@@ -9,7 +9,7 @@ use Rattle.litmus_grammar.specs.Texts.{ReadsTest}
 use Rattle.bench_texts.specs.BenchTexts.{BenchTexts, PlainModel, test_index, put_at, changed_at, no_texts}
 use Rattle.bench_texts.specs.Edits.{Edit, PutTest, PutModel, RefusesEdit}
 use Rattle.bench_texts.specs.declared.fault.EditFault.{EditFault}
-use Rattle.session_answers.specs.Cells.{model_named}
+use Rattle.session_answers.specs.Cells.{test_named, model_named}
 use Rattle.session_edits.specs.Faults.{HasFaultLine}
 
 -- the name on the bench of the model that the file of this index holds
@@ -133,6 +133,24 @@ pub record IsTestTaken (index : ℕ) (text : List ℕ) (old new : Holding) : Typ
 abbrev pub IsFileTaken : File → (text : List ℕ) → (old new : Holding) → Type 0
 IsFileTaken (ModelFile index) text old new = IsModelTaken index text old new
 IsFileTaken (TestFile index) text old new = IsTestTaken index text old new
+
+-- ---- a version that means what its file holds already
+
+-- the text means the items of the model of this file
+abbrev pub IsModelHeld : (index : ℕ) → (text : List ℕ) → BenchTexts → Type 0
+IsModelHeld index text t =
+    (items : List Clause) × ReadsClauses forms.Model text items
+    × HoldsItems (bench_model_name index) items t
+
+-- the text means the test that this file holds, which the bench has under its name
+abbrev pub IsTestHeld : (index : ℕ) → (text : List ℕ) → Holding → Type 0
+IsTestHeld index text held =
+    (test : Content) × ReadsTest text test × (slice_get held.names index ≡ Some (Some test.name))
+    × (test_named held.texts test.name ≡ Some test)
+
+abbrev pub IsFileHeld : File → (text : List ℕ) → Holding → Type 0
+IsFileHeld (ModelFile index) text held = IsModelHeld index text held.texts
+IsFileHeld (TestFile index) text held = IsTestHeld index text held
 
 -- ---- a version that is refused
 

@@ -1,8 +1,11 @@
 pub mod Holding
 pub mod Lines
 pub mod Readings
+pub mod Counts
 pub mod Runs
 pub mod Ends
 pub mod Boards
 pub mod Edits
+pub mod Edited
 pub mod Turns
+pub mod Telling

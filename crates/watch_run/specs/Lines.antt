@@ -68,6 +68,7 @@ abbrev pub jobs_line : ℕ → List ℕ
 jobs_line jobs = codes "jobs " ++ decimal jobs ++ 10 ∷ []
 
 -- the text gained the lines that changed, and the number of jobs
-pub record AreLinesWritten (lasts nows : List (List ℕ)) (before after : List ℕ) : Type 0 where
-  pub jobs : ℕ
-  pub is : after ≡ before ++ changed_lines lasts nows ++ jobs_line jobs
+abbrev pub AreLinesWritten : (lasts nows : List (List ℕ)) → (jobs : ℕ) → (before after : List ℕ)
+    → Type 0
+AreLinesWritten lasts nows jobs before after =
+    after ≡ before ++ changed_lines lasts nows ++ jobs_line jobs

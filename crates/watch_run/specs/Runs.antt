@@ -1,5 +1,5 @@
--- What watching answers, and what a run writes. Read after Lines.
-use Rattle.std.specs.Prelude.{◌≡◌, ◌≤◌, ◌==◌, if◌then◌else◌, ℕ, Bool, true, false, List, [], ◌∷◌, ◌++◌, codes, length, map, Option, Some, None, Vec}
+-- What watching answers, and what a run writes. Read after Lines and Edited.
+use Rattle.std.specs.Prelude.{◌≡◌, ◌≤◌, ◌==◌, ◌+◌, if◌then◌else◌, ℕ, Bool, true, false, List, [], ◌∷◌, ◌++◌, codes, length, map, Option, Some, None, Vec}
 use Rattle.std.specs.declared.alloc.Global.{Global}
 use Rattle.std.specs.Io.KnownBytes.{Appends}
 use Rattle.bench_texts.specs.declared.fault.EditFault.{EditFault}
@@ -7,7 +7,8 @@ use Rattle.session_edits.specs.Faults.{fault_line}
 use Rattle.watch_run.specs.declared.versions.Version.TheVariants.{Text, Unread}
 use Rattle.session_script.specs.Written.{WritesPrefix}
 use Rattle.watch_run.specs.Readings.{FileReading, AreReadBetween}
-use Rattle.watch_run.specs.Holding.{Holding, empty_holding, bench_model_names, File, FilePath, all_files, file_at, IsFileTaken, IsVersionRefused}
+use Rattle.watch_run.specs.Holding.{Holding, empty_holding, bench_model_names, File, FilePath, all_files, file_at, IsVersionRefused}
+use Rattle.watch_run.specs.Edited.{IsTakenByEdits}
 use Rattle.watch_run.specs.Lines.{AreLinesOf, AreLinesWritten}
 
 -- ---- the lines of the source
@@ -28,38 +29,44 @@ lines_from front (byte ∷ bytes) =
 -- ---- the answer to a line of the source
 
 -- how things stand: how many files are of models, what is held of all files, the lines that were
--- last written of the files of tests, in their order, and whether a text was refused so far
+-- last written of the files of tests, in their order, whether a text was refused so far, and how
+-- many jobs were counted
 pub record Standing : Type 0 where
   pub models : ℕ
   pub held : Holding
   pub lines : List (List ℕ)
   pub refused : Bool
+  pub jobs : ℕ
 
 abbrev pub with_held : Holding → Standing → Standing
 with_held held s =
-    record { models = s.models; held = held; lines = s.lines; refused = s.refused }
+    record { models = s.models; held = held; lines = s.lines; refused = s.refused; jobs = s.jobs }
 
 abbrev pub with_refusal : Standing → Standing
-with_refusal s = record { models = s.models; held = s.held; lines = s.lines; refused = true }
+with_refusal s =
+    record { models = s.models; held = s.held; lines = s.lines; refused = true; jobs = s.jobs }
 
 -- what tells of the file of this path why its text is refused
 abbrev pub file_refusal : (path : List ℕ) → EditFault → List ℕ
 file_refusal path fault = path ++ codes ": " ++ fault_line fault
 
--- the lines are those of what is held, and a text gained those that changed, and the number of jobs
+-- the lines are those of what is held, and a text gained those that changed, and the number of the
+-- jobs that were counted meanwhile
 pub record AreLinesSettled (old new : Standing) (before after : List ℕ) : Type 0 where
   pub models : new.models ≡ old.models
   pub held : new.held ≡ old.held
   pub refused : new.refused ≡ old.refused
   pub right : AreLinesOf (bench_model_names new.models) new.held.texts new.held.names new.lines
-  pub written : AreLinesWritten old.lines new.lines before after
+  pub jobs : ℕ
+  pub done : new.jobs ≡ old.jobs + jobs
+  pub written : AreLinesWritten old.lines new.lines jobs before after
 
--- A text of a file is accepted: what is held changes by it, and the answer is those of the lines
--- that changed, and the number of jobs.
+-- A text of a file is accepted: what is held changes by its edits, and the answer is those of the
+-- lines that changed, and the number of jobs.
 pub record IsTextAccepted (file : File) (text : List ℕ) (old new : Standing) (said : List ℕ)
     : Type 0 where
   pub held : Holding
-  pub taken : IsFileTaken file text old.held held
+  pub taken : IsTakenByEdits file text old.held held
   pub settled : AreLinesSettled (with_held held old) new [] said
 
 -- it is refused, and the answer tells why
@@ -101,11 +108,16 @@ pub data AreLineAnswers (models tests : List (List ℕ))
 
 -- ---- the beginning of a run
 
--- before the first version of any file, of so many of models and of tests, where these lines were
--- the last that were written
+-- before the first version of any file, of so many of models and of tests, and before the first
+-- job, where these lines were the last that were written
 abbrev pub at_first : (models tests : ℕ) → (lasts : List (List ℕ)) → Standing
-at_first models tests lasts =
-    record { models = models; held = empty_holding tests; lines = lasts; refused = false }
+at_first models tests lasts = record {
+  models = models;
+  held = empty_holding tests;
+  lines = lasts;
+  refused = false;
+  jobs = 0;
+}
 
 -- the first versions of some files, one after another: each is accepted, or it is told why it is
 -- refused
@@ -114,7 +126,8 @@ pub data AreFilesBegun
   NoFile : (standing : Standing) → AreFilesBegun [] standing standing [] []
   Begun : (files : List FilePath) (file : FilePath) (text : Vec ℕ Global) (old middle : Standing)
       (held : Holding) (read : List FileReading) (told : List ℕ)
-      → AreFilesBegun files old middle read told → IsFileTaken file.file text.items middle.held held
+      → AreFilesBegun files old middle read told
+      → IsTakenByEdits file.file text.items middle.held held
       → AreFilesBegun (files ++ file ∷ []) old (with_held held middle)
       (read ++ record { path = file.path; version = Text text } ∷ []) told
   NotBegun : (files : List FilePath) (file : FilePath) (text : Vec ℕ Global) (old middle : Standing)
@@ -214,7 +227,7 @@ pub data IsTextAnswer (file : File) (path text : List ℕ) (old new : Standing) 
 -- a text is taken, by whether it is accepted: what is told gains why it is refused
 pub data IsTextNoted (file : File) (path text : List ℕ) (old new : Standing) (before after : List ℕ)
     : Bool → Type 0 where
-  NotedTaken : (held : Holding) → IsFileTaken file text old.held held → new ≡ with_held held old
+  NotedTaken : (held : Holding) → IsTakenByEdits file text old.held held → new ≡ with_held held old
       → after ≡ before → IsTextNoted file path text old new before after true
   NotedRefused : (fault : EditFault) → IsVersionRefused file text old.held.texts fault
       → new ≡ with_refusal old → after ≡ before ++ file_refusal path fault

@@ -1,6 +1,6 @@
 //! The loop: lines that name files, and what is answered to them.
 
-ghost use Rattle.std.specs.Prelude.{◌≡◌, ◌≢◌, ◌+◌, ◌-◌, ◌<◌, ◌^◌, ◌++◌, [], ◌∷◌, length, map, option_map, codes, min, true, false};
+ghost use Rattle.std.specs.Prelude.{◌≡◌, ◌≢◌, ◌+◌, ◌-◌, ◌<◌, ◌^◌, ◌++◌, [], ◌∷◌, length, option_map, min, true, false};
 ghost use Rattle.std.specs.Prelude.{Some, IfOk, IfSome, OnOk, OnErr, IsTrue, Ok, Err};
 ghost use Rattle.std.specs.Io.KnownBytes.{Appends};
 ghost use Rattle.session_script.specs.Reading.{IsPaid};
@@ -8,9 +8,11 @@ ghost use Rattle.session_script.specs.Written.{WritesPrefix};
 ghost use Rattle.command_answers.specs.Answer.{IsReadFault};
 ghost use Rattle.watch_run.specs.Readings.{AreReadBetween, HasReadAtMost};
 ghost use Rattle.watch_run.specs.declared.versions.Version.TheVariants.{Unread};
-ghost use Rattle.watch_run.specs.Holding.{file_at, all_files};
+ghost use Rattle.watch_run.specs.Holding.{file_at, all_files, IsFileHeld};
+ghost use Rattle.watch_run.specs.Counts.{HasEditsFor};
 ghost use Rattle.watch_run.specs.Edits.{file_of, model_paths, test_paths, IsVersionTaken};
-ghost use Rattle.watch_run.specs.Boards.{lists_of, KnowsItsTexts, holding, standing};
+ghost use Rattle.watch_run.specs.Edited.{IsFileEdited};
+ghost use Rattle.watch_run.specs.Boards.{lists_of, KnowsItsTexts, IsUnedited, holding, standing};
 ghost use Rattle.watch_run.specs.Ends.{HasFailedRead};
 ghost use Rattle.watch_run.specs.Runs.{file_refusal, at_first, AreLinesSettled, IsTextNoted, IsTextAnswer, IsLineAnswer, IsLineAnswered, HasLineAnswers, IsLineAlone, AreIn, AreOfTurn, AreAll, BeginsFile, HasBegunFiles, HasBegunRun, EndsUnread, IsWatchRun, IsCutRun, HasAnswersPrefix, IsPrefixOfLine, ArePrefixIn, ArePrefixOf};
 
@@ -119,11 +121,18 @@ impl<'a, A: Author> Run<'a, A> {
         file: WatchedFile,
         version: Vec<u8>,
     ) -> Result<Option<EditFault>, AllocError>
-        requires ready { KnowsItsTexts A.seen self.old.watched }
-        ensures ready { OnOk result (KnowsItsTexts A.seen self.new.watched) }
+        requires ready { KnowsItsTexts A.seen A.counts self.old.watched }
+        ensures ready { OnOk result (KnowsItsTexts A.seen A.counts self.new.watched) }
         ensures paths { self.new.paths ≡ self.old.paths }
         ensures taken { IfOk result (λ o. IsVersionTaken (file_of file) version.items
             (holding self.old.watched) o (holding self.new.watched)) }
+        ensures edits { IfOk result (λ o. HasEditsFor (IsFileEdited (file_of file) version.items o
+            (holding self.old.watched) (holding self.new.watched))
+            (A.counts self.old.watched.author) (A.counts self.new.watched.author)) }
+        ensures kept { OnOk result (IsFileHeld (file_of file) version.items
+            (holding self.old.watched) → IsUnedited A.counts self.old.watched self.new.watched) }
+        ensures jobs { (A.counts self.new.watched.author).jobs
+            ≡ (A.counts self.old.watched.author).jobs }
         ensures lines { self.new.lines ≡ self.old.lines }
         ensures refused { self.new.is_refused ≡ self.old.is_refused }
     {
@@ -143,11 +152,12 @@ impl<'a, A: Author> Run<'a, A> {
         version: Vec<u8>,
         text: &mut Vec<u8>,
     ) -> Result<bool, AllocError>
-        requires ready { KnowsItsTexts A.seen self.old.watched }
-        ensures ready { OnOk result (KnowsItsTexts A.seen self.new.watched) }
+        requires ready { KnowsItsTexts A.seen A.counts self.old.watched }
+        ensures ready { OnOk result (KnowsItsTexts A.seen A.counts self.new.watched) }
         ensures paths { self.new.paths ≡ self.old.paths }
         ensures noted { IfOk result (IsTextNoted (file_of file) path.now version.items
-            (standing self.old) (standing self.new) text.old.items text.new.items) }
+            (standing A.counts self.old) (standing A.counts self.new) text.old.items
+            text.new.items) }
     {
         match self.take(rt, alloc, file, version)? {
             Some(fault) => {
@@ -166,12 +176,12 @@ impl<'a, A: Author> Run<'a, A> {
         alloc: Global,
         text: &mut Vec<u8>,
     ) -> Result<(), SessionFault>
-        requires ready { KnowsItsTexts A.seen self.old.watched }
-        ensures ready { OnOk result (KnowsItsTexts A.seen self.new.watched) }
+        requires ready { KnowsItsTexts A.seen A.counts self.old.watched }
+        ensures ready { OnOk result (KnowsItsTexts A.seen A.counts self.new.watched) }
         ensures paths { self.new.paths ≡ self.old.paths }
         ensures fault { OnErr result (result ≡ Err SessionFault.Memory) }
-        ensures settled { OnOk result (AreLinesSettled (standing self.old) (standing self.new)
-            text.old.items text.new.items) }
+        ensures settled { OnOk result (AreLinesSettled (standing A.counts self.old)
+            (standing A.counts self.new) text.old.items text.new.items) }
     {
         let models = memory(bench_model_names(alloc, self.paths.models.len()))?;
         let (jobs, lines) = self.watched.settled_lines(rt, alloc, &models)?;
@@ -190,13 +200,13 @@ impl<'a, A: Author> Run<'a, A> {
         path: &str,
         text: &mut Vec<u8>,
     ) -> Result<(), SessionFault>
-        requires ready { KnowsItsTexts A.seen self.old.watched }
-        ensures ready { OnOk result (KnowsItsTexts A.seen self.new.watched) }
+        requires ready { KnowsItsTexts A.seen A.counts self.old.watched }
+        ensures ready { OnOk result (KnowsItsTexts A.seen A.counts self.new.watched) }
         ensures paths { self.new.paths ≡ self.old.paths }
         ensures fault { result ≢ Err SessionFault.Write }
         ensures unshared { result ≢ Err SessionFault.Shared }
         ensures begun { OnOk result (BeginsFile (record { file = file_of file; path = path.now })
-            (standing self.old) (standing self.new) (V.readings versions.old)
+            (standing A.counts self.old) (standing A.counts self.new) (V.readings versions.old)
             (V.readings versions.new) text.old.items text.new.items) }
         ensures readings { OnErr result (HasReadAtMost 1 (V.readings versions.old)
             (V.readings versions.new)) }
@@ -222,14 +232,15 @@ impl<'a, A: Author> Run<'a, A> {
         versions: &mut V,
         paths: Paths<'a>,
     ) -> Result<Vec<u8>, SessionFault>
-        requires ready { KnowsItsTexts A.seen self.old.watched }
-        ensures ready { OnOk result (KnowsItsTexts A.seen self.new.watched) }
+        requires ready { KnowsItsTexts A.seen A.counts self.old.watched }
+        ensures ready { OnOk result (KnowsItsTexts A.seen A.counts self.new.watched) }
         ensures paths { self.new.paths ≡ self.old.paths }
         ensures fault { result ≢ Err SessionFault.Write }
         ensures unshared { result ≢ Err SessionFault.Shared }
         ensures begun { IfOk result (λ t. HasBegunFiles
-            (all_files (model_paths paths.entry) (test_paths paths.entry)) (standing self.old)
-            (standing self.new) (V.readings versions.old) (V.readings versions.new) t.items) }
+            (all_files (model_paths paths.entry) (test_paths paths.entry))
+            (standing A.counts self.old) (standing A.counts self.new) (V.readings versions.old)
+            (V.readings versions.new) t.items) }
         ensures readings { OnErr result (HasReadAtMost
             (length (all_files (model_paths paths.entry) (test_paths paths.entry)))
             (V.readings versions.old) (V.readings versions.new)) }
@@ -252,16 +263,16 @@ impl<'a, A: Author> Run<'a, A> {
         alloc: Global,
         versions: &mut V,
     ) -> Result<Vec<u8>, SessionFault>
-        requires ready { KnowsItsTexts A.seen self.old.watched }
-        requires first { standing self.old
+        requires ready { KnowsItsTexts A.seen A.counts self.old.watched }
+        requires first { standing A.counts self.old
             ≡ at_first (length (model_paths self.old.paths)) (length (test_paths self.old.paths))
             (lists_of self.old.lines.items) }
-        ensures ready { OnOk result (KnowsItsTexts A.seen self.new.watched) }
+        ensures ready { OnOk result (KnowsItsTexts A.seen A.counts self.new.watched) }
         ensures paths { self.new.paths ≡ self.old.paths }
         ensures fault { result ≢ Err SessionFault.Write }
         ensures unshared { result ≢ Err SessionFault.Shared }
         ensures begun { IfOk result (λ t. HasBegunRun (model_paths self.old.paths)
-            (test_paths self.old.paths) (lists_of self.old.lines.items) (standing self.new)
+            (test_paths self.old.paths) (lists_of self.old.lines.items) (standing A.counts self.new)
             (V.readings versions.old) (V.readings versions.new) t.items) }
         ensures readings { OnErr result (HasReadAtMost
             (length (all_files (model_paths self.old.paths) (test_paths self.old.paths)))
@@ -285,12 +296,12 @@ impl<'a, A: Author> Run<'a, A> {
         path: &[u8],
         version: Vec<u8>,
     ) -> Result<Vec<u8>, SessionFault>
-        requires ready { KnowsItsTexts A.seen self.old.watched }
-        ensures ready { OnOk result (KnowsItsTexts A.seen self.new.watched) }
+        requires ready { KnowsItsTexts A.seen A.counts self.old.watched }
+        ensures ready { OnOk result (KnowsItsTexts A.seen A.counts self.new.watched) }
         ensures paths { self.new.paths ≡ self.old.paths }
         ensures fault { OnErr result (result ≡ Err SessionFault.Memory) }
         ensures answer { IfOk result (λ t. IsTextAnswer (file_of file) path.now version.items
-            (standing self.old) (standing self.new) t.items) }
+            (standing A.counts self.old) (standing A.counts self.new) t.items) }
     {
         let mut text = Vec::new(alloc);
         let is_accepted = memory(self.accept(rt, alloc, file, path, version, &mut text))?;
@@ -310,12 +321,12 @@ impl<'a, A: Author> Run<'a, A> {
         path: &[u8],
         version: Version,
     ) -> Result<Vec<u8>, SessionFault>
-        requires ready { KnowsItsTexts A.seen self.old.watched }
-        ensures ready { OnOk result (KnowsItsTexts A.seen self.new.watched) }
+        requires ready { KnowsItsTexts A.seen A.counts self.old.watched }
+        ensures ready { OnOk result (KnowsItsTexts A.seen A.counts self.new.watched) }
         ensures paths { self.new.paths ≡ self.old.paths }
         ensures fault { OnErr result (result ≡ Err SessionFault.Memory) }
         ensures answer { IfOk result
-            (λ t. IsLineAnswer path.now (standing self.old) (standing self.new)
+            (λ t. IsLineAnswer path.now (standing A.counts self.old) (standing A.counts self.new)
             (Some (file_of file)) (record { path = path.now; version = version } ∷ [])
             t.items) }
     {
@@ -338,13 +349,13 @@ impl<'a, A: Author> Run<'a, A> {
         versions: &mut V,
         line: &[u8],
     ) -> Result<Vec<u8>, SessionFault>
-        requires ready { KnowsItsTexts A.seen self.old.watched }
-        ensures ready { OnOk result (KnowsItsTexts A.seen self.new.watched) }
+        requires ready { KnowsItsTexts A.seen A.counts self.old.watched }
+        ensures ready { OnOk result (KnowsItsTexts A.seen A.counts self.new.watched) }
         ensures paths { self.new.paths ≡ self.old.paths }
         ensures fault { OnErr result (result ≡ Err SessionFault.Memory) }
         ensures answer { IfOk result (λ t. IsLineAnswered line.now
             (file_at (model_paths self.old.paths) (test_paths self.old.paths) line.now)
-            (standing self.old) (standing self.new) (V.readings versions.old)
+            (standing A.counts self.old) (standing A.counts self.new) (V.readings versions.old)
             (V.readings versions.new) t.items) }
         ensures readings { OnErr result (HasReadAtMost 1 (V.readings versions.old)
             (V.readings versions.new)) }
@@ -372,16 +383,16 @@ impl<'a, A: Author> Run<'a, A> {
         line: &[u8],
         sink: &mut K,
     ) -> Result<(), SessionFault>
-        requires ready { KnowsItsTexts A.seen self.old.watched }
+        requires ready { KnowsItsTexts A.seen A.counts self.old.watched }
         requires sink { K.failed_calls sink.old < 2 ^ 64 - 1 }
-        ensures ready { OnOk result (KnowsItsTexts A.seen self.new.watched) }
+        ensures ready { OnOk result (KnowsItsTexts A.seen A.counts self.new.watched) }
         ensures paths { self.new.paths ≡ self.old.paths }
         ensures writes { OnOk result (K.failed_calls sink.new ≡ K.failed_calls sink.old) }
         ensures wrote { result ≡ Err SessionFault.Write
             → K.failed_calls sink.new ≡ K.failed_calls sink.old + 1 }
         ensures cut { OnErr result
             (HasAnswersPrefix (model_paths self.old.paths) (test_paths self.old.paths)
-            (IsPrefixOfLine line.now) (standing self.old) (V.readings versions.old)
+            (IsPrefixOfLine line.now) (standing A.counts self.old) (V.readings versions.old)
             (V.readings versions.new) (K.contents sink.old) (K.contents sink.new)) }
         ensures unfailed { result ≢ Err SessionFault.Write
             → K.failed_calls sink.new ≡ K.failed_calls sink.old }
@@ -389,8 +400,8 @@ impl<'a, A: Author> Run<'a, A> {
         ensures unshared { result ≢ Err SessionFault.Shared }
         // nothing for an empty line, and else one write, of what is answered to it
         ensures answers { OnOk result (HasLineAnswers (model_paths self.old.paths)
-            (test_paths self.old.paths) (IsLineAlone line.now) (standing self.old)
-            (standing self.new) (V.readings versions.old) (V.readings versions.new)
+            (test_paths self.old.paths) (IsLineAlone line.now) (standing A.counts self.old)
+            (standing A.counts self.new) (V.readings versions.old) (V.readings versions.new)
             (K.contents sink.old) (K.contents sink.new)) }
     {
         if line.is_empty() {
@@ -411,20 +422,20 @@ impl<'a, A: Author> Run<'a, A> {
         byte: u8,
         sink: &mut K,
     ) -> Result<(), SessionFault>
-        requires ready { KnowsItsTexts A.seen self.old.watched }
+        requires ready { KnowsItsTexts A.seen A.counts self.old.watched }
         requires sink { K.failed_calls sink.old < 2 ^ 64 - 1 }
-        ensures ready { OnOk result (KnowsItsTexts A.seen self.new.watched) }
+        ensures ready { OnOk result (KnowsItsTexts A.seen A.counts self.new.watched) }
         ensures paths { self.new.paths ≡ self.old.paths }
         ensures writes { OnOk result (K.failed_calls sink.new ≡ K.failed_calls sink.old) }
         ensures wrote { result ≡ Err SessionFault.Write
             → K.failed_calls sink.new ≡ K.failed_calls sink.old + 1 }
         ensures answers { OnOk result (HasLineAnswers (model_paths self.old.paths)
             (test_paths self.old.paths) (AreIn line.old.items (byte ∷ []) line.new.items)
-            (standing self.old) (standing self.new) (V.readings versions.old)
+            (standing A.counts self.old) (standing A.counts self.new) (V.readings versions.old)
             (V.readings versions.new) (K.contents sink.old) (K.contents sink.new)) }
         ensures cut { OnErr result
             (HasAnswersPrefix (model_paths self.old.paths) (test_paths self.old.paths)
-            (ArePrefixIn line.old.items (byte ∷ [])) (standing self.old)
+            (ArePrefixIn line.old.items (byte ∷ [])) (standing A.counts self.old)
             (V.readings versions.old) (V.readings versions.new) (K.contents sink.old)
             (K.contents sink.new)) }
         ensures unfailed { result ≢ Err SessionFault.Write
@@ -451,21 +462,22 @@ impl<'a, A: Author> Run<'a, A> {
         bytes: &[u8],
         sink: &mut K,
     ) -> Result<(), SessionFault>
-        requires ready { KnowsItsTexts A.seen self.old.watched }
+        requires ready { KnowsItsTexts A.seen A.counts self.old.watched }
         requires sink { K.failed_calls sink.old < 2 ^ 64 - 1 }
-        ensures ready { OnOk result (KnowsItsTexts A.seen self.new.watched) }
+        ensures ready { OnOk result (KnowsItsTexts A.seen A.counts self.new.watched) }
         ensures paths { self.new.paths ≡ self.old.paths }
         ensures writes { OnOk result (K.failed_calls sink.new ≡ K.failed_calls sink.old) }
         ensures wrote { result ≡ Err SessionFault.Write
             → K.failed_calls sink.new ≡ K.failed_calls sink.old + 1 }
         ensures answers { OnOk result (HasLineAnswers (model_paths self.old.paths)
             (test_paths self.old.paths) (AreIn line.old.items bytes.now line.new.items)
-            (standing self.old) (standing self.new) (V.readings versions.old)
+            (standing A.counts self.old) (standing A.counts self.new) (V.readings versions.old)
             (V.readings versions.new) (K.contents sink.old) (K.contents sink.new)) }
         ensures cut { OnErr result
             (HasAnswersPrefix (model_paths self.old.paths) (test_paths self.old.paths)
-            (ArePrefixIn line.old.items bytes.now) (standing self.old) (V.readings versions.old)
-            (V.readings versions.new) (K.contents sink.old) (K.contents sink.new)) }
+            (ArePrefixIn line.old.items bytes.now) (standing A.counts self.old)
+            (V.readings versions.old) (V.readings versions.new) (K.contents sink.old)
+            (K.contents sink.new)) }
         ensures unfailed { result ≢ Err SessionFault.Write
             → K.failed_calls sink.new ≡ K.failed_calls sink.old }
         ensures unread { result ≢ Err SessionFault.Read }
@@ -488,10 +500,10 @@ impl<'a, A: Author> Run<'a, A> {
         source: &mut S,
         sink: &mut K,
     ) -> Result<bool, SessionFault>
-        requires ready { KnowsItsTexts A.seen self.old.watched }
+        requires ready { KnowsItsTexts A.seen A.counts self.old.watched }
         requires source { S.failed_calls source.old < 2 ^ 64 - 1 }
         requires sink { K.failed_calls sink.old < 2 ^ 64 - 1 }
-        ensures ready { OnOk result (KnowsItsTexts A.seen self.new.watched) }
+        ensures ready { OnOk result (KnowsItsTexts A.seen A.counts self.new.watched) }
         ensures paths { self.new.paths ≡ self.old.paths }
         ensures reads { OnOk result (S.failed_calls source.new ≡ S.failed_calls source.old) }
         ensures writes { OnOk result (K.failed_calls sink.new ≡ K.failed_calls sink.old) }
@@ -501,15 +513,15 @@ impl<'a, A: Author> Run<'a, A> {
             (test_paths self.old.paths)
             (AreOfTurn goes_on line.old.items line.new.items (S.remaining source.old)
             (S.remaining source.new))
-            (standing self.old)
-            (standing self.new)
+            (standing A.counts self.old)
+            (standing A.counts self.new)
             (V.readings versions.old)
             (V.readings versions.new)
             (K.contents sink.old)
             (K.contents sink.new)) }
         ensures cut { OnErr result
             (HasAnswersPrefix (model_paths self.old.paths) (test_paths self.old.paths)
-            (ArePrefixOf line.old.items (S.remaining source.old)) (standing self.old)
+            (ArePrefixOf line.old.items (S.remaining source.old)) (standing A.counts self.old)
             (V.readings versions.old) (V.readings versions.new) (K.contents sink.old)
             (K.contents sink.new)) }
         ensures unfailed { result ≢ Err SessionFault.Write
@@ -546,22 +558,22 @@ impl<'a, A: Author> Run<'a, A> {
         source: &mut S,
         sink: &mut K,
     ) -> Result<(), SessionFault>
-        requires ready { KnowsItsTexts A.seen self.old.watched }
+        requires ready { KnowsItsTexts A.seen A.counts self.old.watched }
         requires source { S.failed_calls source.old < 2 ^ 64 - 1 }
         requires sink { K.failed_calls sink.old < 2 ^ 64 - 1 }
-        ensures ready { OnOk result (KnowsItsTexts A.seen self.new.watched) }
+        ensures ready { OnOk result (KnowsItsTexts A.seen A.counts self.new.watched) }
         ensures paths { self.new.paths ≡ self.old.paths }
         ensures reads { OnOk result (S.failed_calls source.new ≡ S.failed_calls source.old) }
         ensures writes { OnOk result (K.failed_calls sink.new ≡ K.failed_calls sink.old) }
         ensures wrote { result ≡ Err SessionFault.Write
             → K.failed_calls sink.new ≡ K.failed_calls sink.old + 1 }
         ensures answers { OnOk result (HasLineAnswers (model_paths self.old.paths)
-            (test_paths self.old.paths) (AreAll (S.remaining source.old)) (standing self.old)
-            (standing self.new) (V.readings versions.old) (V.readings versions.new)
-            (K.contents sink.old) (K.contents sink.new)) }
+            (test_paths self.old.paths) (AreAll (S.remaining source.old))
+            (standing A.counts self.old) (standing A.counts self.new) (V.readings versions.old)
+            (V.readings versions.new) (K.contents sink.old) (K.contents sink.new)) }
         ensures cut { OnErr result
             (HasAnswersPrefix (model_paths self.old.paths) (test_paths self.old.paths)
-            (ArePrefixOf [] (S.remaining source.old)) (standing self.old)
+            (ArePrefixOf [] (S.remaining source.old)) (standing A.counts self.old)
             (V.readings versions.old) (V.readings versions.new) (K.contents sink.old)
             (K.contents sink.new)) }
         ensures unfailed { result ≢ Err SessionFault.Write
@@ -593,8 +605,8 @@ impl<'a, A: Author> Run<'a, A> {
         source: &mut S,
         sink: &mut K,
     ) -> Result<bool, SessionFault>
-        requires ready { KnowsItsTexts A.seen self.old.watched }
-        requires first { standing self.old
+        requires ready { KnowsItsTexts A.seen A.counts self.old.watched }
+        requires first { standing A.counts self.old
             ≡ at_first (length (model_paths self.old.paths)) (length (test_paths self.old.paths))
             (lists_of self.old.lines.items) }
         requires source { S.failed_calls source.old < 2 ^ 64 - 1 }

@@ -1,6 +1,6 @@
 //! A later version of a file: the edits that make it of what the bench holds.
 
-ghost use Rattle.std.specs.Prelude.{◌≡◌, ◌<◌, Some, false, not, length, remove, slice_get, option_map, IfOk, OnOk, IfSome, IsSome, IsTrue};
+ghost use Rattle.std.specs.Prelude.{◌≡◌, ◌<◌, ◌↔◌, Some, None, false, not, length, remove, slice_get, option_map, is_none, IfOk, OnOk, OnErr, IfSome, IfNone, IsSome, IsTrue};
 ghost use Rattle.std.specs.List.{list_any};
 ghost use Rattle.text_values.specs.ModelValues.{clauses_of};
 ghost use Rattle.text_values.specs.TestValue.{Content, content_of};
@@ -10,9 +10,11 @@ ghost use Rattle.bench_texts.specs.Edits.{edit_of, RefusesEdit};
 ghost use Rattle.bench_texts.specs.Held.{plain_model, texts_of};
 ghost use Rattle.session_answers.specs.Cells.{test_named, model_named};
 ghost use Rattle.session_edits.specs.Faults.{HasFaultLine};
-ghost use Rattle.watch_run.specs.Holding.{bench_model_name, holds_name, without_unheld, held_name, is_leaving, HoldsItems, IsSameButModel, IsTestTaken, ModelFile, TestFile};
-ghost use Rattle.watch_run.specs.Edits.{IsEditTried, IsVersionTaken, IsModelEdit, AreChanges, AreTestParts, AreSameBut};
-ghost use Rattle.watch_run.specs.Boards.{KnowsItsTexts, holding};
+ghost use Rattle.watch_run.specs.Holding.{bench_model_name, holds_name, without_unheld, held_name, is_leaving, HoldsItems, IsSameButModel, IsTestTaken, IsFileHeld, ModelFile, TestFile};
+ghost use Rattle.watch_run.specs.Counts.{HasEditsFor, IsEditCounted};
+ghost use Rattle.watch_run.specs.Edits.{IsEditTried, AcceptsEdit, is_full_fault, IsFullBeside, IsVersionTaken, IsModelEdit, AreChanges, IsChangeEdit, IsChangeTried, AreTestParts, HasNoParts, IsPartTried, IsStillHeld, AreSameBut};
+ghost use Rattle.watch_run.specs.Edited.{AreItemsChanged, IsModelPut, IsModelEdited, ArePartsChanged, IsTestPut, IsTestDropped, IsTestEdited};
+ghost use Rattle.watch_run.specs.Boards.{KnowsItsTexts, IsUnedited, holding};
 
 use crate::author::Author;
 use crate::model_names::bench_model_name;
@@ -51,7 +53,9 @@ fn unread(refusal: Option<EditFault>) -> Result<Option<EditFault>, AllocError>
 }
 
 // Whether the bench is full.
-fn is_full(fault: &EditFault) -> bool {
+fn is_full(fault: &EditFault) -> bool
+    ensures { result ≡ is_full_fault fault.now }
+{
     match fault {
         EditFault::Full => true,
         _ => false,
@@ -74,15 +78,17 @@ fn held_test<'t>(texts: &'t Texts, name: &[u8]) -> Option<&'t Test>
 }
 
 // The changes that make this of the model of this name, or none where there is no such model.
-#[tactic(auto, using(crate::proofs::Taking::changes_of))]
+#[tactic(auto, using(crate::proofs::Changing::changes_of))]
 fn changes_to(
     alloc: Global,
     texts: &Texts,
     name: &[u8],
     new: &ModelText,
 ) -> Result<Option<Vec<ItemChange>>, AllocError>
-    ensures { IfOk result (λ o. IfSome o (λ cs.
+    ensures changes { IfOk result (λ o. IfSome o (λ cs.
         AreChanges name.now (texts_of texts.now) (clauses_of new.now.items.items) cs.items)) }
+    ensures none { IfOk result (λ o.
+        IfNone o (model_named (texts_of texts.now) name.now ≡ None)) }
 {
     match held_model(texts, name) {
         Some(model) => Ok(Some(item_changes(alloc, &model.text().items, &new.items)?)),
@@ -97,8 +103,8 @@ fn holds_items(
     name: &[u8],
     new: &ModelText,
 ) -> Result<bool, AllocError>
-    ensures { IfOk result (λ is. IsTrue is
-        → HoldsItems name.now (clauses_of new.now.items.items) (texts_of texts.now)) }
+    ensures { IfOk result (λ is. (IsTrue is)
+        ↔ (HoldsItems name.now (clauses_of new.now.items.items) (texts_of texts.now))) }
 {
     match changes_to(alloc, texts, name, new)? {
         Some(changes) => Ok(changes.is_empty()),
@@ -114,7 +120,10 @@ fn edit_to(
     new: &ModelText,
     change: ItemChange,
 ) -> Result<Option<Edit>, AllocError>
-    ensures { IfOk result (λ o. IfSome o (λ e. IsModelEdit name.now (edit_of e))) }
+    ensures edit { IfOk result (λ o. IfSome o (λ e. IsChangeEdit name.now (texts_of texts.now)
+        (clauses_of new.now.items.items) change (edit_of e))) }
+    ensures none { IfOk result (λ o.
+        IfNone o (model_named (texts_of texts.now) name.now ≡ None)) }
 {
     match held_model(texts, name) {
         Some(model) => Ok(Some(item_edit(alloc, model, &new.items, change)?)),
@@ -124,10 +133,12 @@ fn edit_to(
 
 // The parts that differ from the test of this name, or none where there is no such test or it has
 // another shape.
-#[tactic(auto, using(crate::proofs::Taking::parts_of))]
+#[tactic(auto, using(crate::proofs::Changing::parts_of, crate::proofs::Changing::no_parts_of, crate::proofs::Changing::no_test))]
 fn parts_to(alloc: Global, texts: &Texts, new: &Test) -> Result<Option<Vec<TestPart>>, AllocError>
-    ensures { IfOk result (λ o.
+    ensures parts { IfOk result (λ o.
         IfSome o (λ ps. AreTestParts (texts_of texts.now) (content_of new.now) ps.items)) }
+    ensures none { IfOk result (λ o.
+        IfNone o (HasNoParts (texts_of texts.now) (content_of new.now))) }
 {
     let old = match held_test(texts, new.name.as_bytes()) {
         Some(old) => old,
@@ -141,8 +152,8 @@ fn parts_to(alloc: Global, texts: &Texts, new: &Test) -> Result<Option<Vec<TestP
 
 // Whether the first test of this name is this one.
 fn holds_test(alloc: Global, texts: &Texts, new: &Test) -> Result<bool, AllocError>
-    ensures { IfOk result (λ is. IsTrue is
-        → test_named (texts_of texts.now) new.now.name ≡ Some (content_of new.now)) }
+    ensures { IfOk result (λ is. (IsTrue is)
+        ↔ (test_named (texts_of texts.now) new.now.name ≡ Some (content_of new.now))) }
 {
     match parts_to(alloc, texts, new)? {
         Some(parts) => Ok(parts.is_empty()),
@@ -215,10 +226,14 @@ impl<A: Author> Watched<A> {
         alloc: Global,
         edit: Edit,
     ) -> Result<Option<EditFault>, AllocError>
-        requires ready { KnowsItsTexts A.seen self.old }
-        ensures ready { OnOk result (KnowsItsTexts A.seen self.new) }
+        requires ready { KnowsItsTexts A.seen A.counts self.old }
+        ensures ready { OnOk result (KnowsItsTexts A.seen A.counts self.new) }
         ensures made { IfOk result (λ o.
             IsEditTried (texts_of self.old.texts) (edit_of edit) o (texts_of self.new.texts)) }
+        ensures counted { IfOk result (λ o. IsEditCounted (is_none o)
+            (A.counts self.old.author) (A.counts self.new.author)) }
+        ensures same { OnErr result (A.counts self.new.author ≡ A.counts self.old.author) }
+        ensures jobs { (A.counts self.new.author).jobs ≡ (A.counts self.old.author).jobs }
         ensures names { self.new.names ≡ self.old.names }
     {
         own_edits_are_counted(&self.texts);
@@ -226,18 +241,20 @@ impl<A: Author> Watched<A> {
             Ok(prepared) => prepared,
             Err(fault) => return Ok(Some(told_fault(fault)?)),
         };
-        self.last = self.author.give(rt, edit)?;
+        self.author.give(rt, edit)?;
         self.texts.commit(prepared);
-        self.made += 1;
         Ok(None)
     }
 
     // Why an edit would be refused, if it would. Nothing is changed.
     fn refusal(&mut self, alloc: Global, edit: &Edit) -> Result<Option<EditFault>, AllocError>
-        requires ready { KnowsItsTexts A.seen self.old }
-        ensures ready { KnowsItsTexts A.seen self.new }
+        requires ready { KnowsItsTexts A.seen A.counts self.old }
+        ensures ready { KnowsItsTexts A.seen A.counts self.new }
         ensures fault { IfOk result (λ o. IfSome o (λ fault. HasFaultLine fault
             × RefusesEdit (texts_of self.old.texts) false (edit_of edit.now) fault)) }
+        ensures accepts { IfOk result (λ o.
+            IfNone o (AcceptsEdit (texts_of self.old.texts) (edit_of edit.now))) }
+        ensures author { self.new.author ≡ self.old.author }
         ensures texts { texts_of self.new.texts ≡ texts_of self.old.texts }
         ensures names { self.new.names ≡ self.old.names }
     {
@@ -248,7 +265,7 @@ impl<A: Author> Watched<A> {
     }
 
     // Makes a change of the model of this name. Whether it is accepted.
-    #[tactic(auto, using(crate::proofs::Taking::model_alone))]
+    #[tactic(auto, using(crate::proofs::Changing::change_alone, crate::proofs::Changing::change_tried, crate::proofs::Counting::counted_if))]
     fn change_item<W: Wait>(
         &mut self,
         rt: &W,
@@ -257,10 +274,17 @@ impl<A: Author> Watched<A> {
         new: &ModelText,
         change: ItemChange,
     ) -> Result<bool, AllocError>
-        requires ready { KnowsItsTexts A.seen self.old }
-        ensures ready { OnOk result (KnowsItsTexts A.seen self.new) }
+        requires ready { KnowsItsTexts A.seen A.counts self.old }
+        ensures ready { OnOk result (KnowsItsTexts A.seen A.counts self.new) }
+        ensures tried { IfOk result (λ is. IsChangeTried name.now
+            (clauses_of new.now.items.items) change is (texts_of self.old.texts)
+            (texts_of self.new.texts)) }
         ensures others { OnOk result (IsSameButModel name.now (texts_of self.old.texts)
             (texts_of self.new.texts)) }
+        ensures counted { IfOk result (λ is. IsEditCounted is (A.counts self.old.author)
+            (A.counts self.new.author)) }
+        ensures same { OnErr result (A.counts self.new.author ≡ A.counts self.old.author) }
+        ensures jobs { (A.counts self.new.author).jobs ≡ (A.counts self.old.author).jobs }
         ensures names { self.new.names ≡ self.old.names }
     {
         match edit_to(alloc, &self.texts, name, new, change)? {
@@ -281,10 +305,16 @@ impl<A: Author> Watched<A> {
         name: &[u8],
         new: &ModelText,
     ) -> Result<(), AllocError>
-        requires ready { KnowsItsTexts A.seen self.old }
-        ensures ready { OnOk result (KnowsItsTexts A.seen self.new) }
+        requires ready { KnowsItsTexts A.seen A.counts self.old }
+        ensures ready { OnOk result (KnowsItsTexts A.seen A.counts self.new) }
+        ensures edits { OnOk result (HasEditsFor (AreItemsChanged name.now
+            (clauses_of new.now.items.items) (texts_of self.old.texts) (texts_of self.new.texts))
+            (A.counts self.old.author) (A.counts self.new.author)) }
         ensures others { OnOk result (IsSameButModel name.now (texts_of self.old.texts)
             (texts_of self.new.texts)) }
+        ensures kept { OnOk result (HoldsItems name.now (clauses_of new.now.items.items)
+            (texts_of self.old.texts) → IsUnedited A.counts self.old self.new) }
+        ensures jobs { (A.counts self.new.author).jobs ≡ (A.counts self.old.author).jobs }
         ensures names { self.new.names ≡ self.old.names }
     {
         let changes = match changes_to(alloc, &self.texts, name, new)? {
@@ -310,13 +340,19 @@ impl<A: Author> Watched<A> {
         new: &ModelText,
         whole: Edit,
     ) -> Result<(), AllocError>
-        requires ready { KnowsItsTexts A.seen self.old }
+        requires ready { KnowsItsTexts A.seen A.counts self.old }
         requires whole { IsModelEdit name.now (edit_of whole) }
-        ensures ready { OnOk result (KnowsItsTexts A.seen self.new) }
+        ensures ready { OnOk result (KnowsItsTexts A.seen A.counts self.new) }
         ensures items { OnOk result (HoldsItems name.now (clauses_of new.now.items.items)
             (texts_of self.new.texts)) }
+        ensures edits { OnOk result (HasEditsFor (IsModelPut name.now
+            (clauses_of new.now.items.items) (edit_of whole) (texts_of self.old.texts)
+            (texts_of self.new.texts)) (A.counts self.old.author) (A.counts self.new.author)) }
         ensures others { OnOk result (IsSameButModel name.now (texts_of self.old.texts)
             (texts_of self.new.texts)) }
+        ensures kept { OnOk result (HoldsItems name.now (clauses_of new.now.items.items)
+            (texts_of self.old.texts) → IsUnedited A.counts self.old self.new) }
+        ensures jobs { (A.counts self.new.author).jobs ≡ (A.counts self.old.author).jobs }
         ensures names { self.new.names ≡ self.old.names }
     {
         self.change_items(rt, alloc, name, new)?;
@@ -340,10 +376,18 @@ impl<A: Author> Watched<A> {
         index: usize,
         text: Vec<u8>,
     ) -> Result<Option<EditFault>, AllocError>
-        requires ready { KnowsItsTexts A.seen self.old }
-        ensures ready { OnOk result (KnowsItsTexts A.seen self.new) }
+        requires ready { KnowsItsTexts A.seen A.counts self.old }
+        ensures ready { OnOk result (KnowsItsTexts A.seen A.counts self.new) }
         ensures taken { IfOk result (λ o.
             IsVersionTaken (ModelFile index) text.items (holding self.old) o (holding self.new)) }
+        // The edits are of items that differ, or one of the whole text, and none where the version
+        // means what its file holds already.
+        ensures edits { IfOk result (λ o. HasEditsFor (IsModelEdited index text.items o
+            (texts_of self.old.texts) (texts_of self.new.texts)) (A.counts self.old.author)
+            (A.counts self.new.author)) }
+        ensures kept { OnOk result (IsFileHeld (ModelFile index) text.items (holding self.old)
+            → IsUnedited A.counts self.old self.new) }
+        ensures jobs { (A.counts self.new.author).jobs ≡ (A.counts self.old.author).jobs }
     {
         let name = bench_model_name(alloc, index)?;
         let whole = Edit::PutModel {
@@ -362,7 +406,7 @@ impl<A: Author> Watched<A> {
     }
 
     // Puts a part of a test. Whether it is accepted.
-    #[tactic(auto, using(crate::proofs::Taking::part_tests, crate::proofs::Taking::part_models))]
+    #[tactic(auto, using(crate::proofs::Taking::part_tests, crate::proofs::Taking::part_models, crate::proofs::Changing::part_tried, crate::proofs::Counting::counted_if))]
     fn put_part<W: Wait>(
         &mut self,
         rt: &W,
@@ -370,8 +414,14 @@ impl<A: Author> Watched<A> {
         new: &Test,
         part: TestPart,
     ) -> Result<bool, AllocError>
-        requires ready { KnowsItsTexts A.seen self.old }
-        ensures ready { OnOk result (KnowsItsTexts A.seen self.new) }
+        requires ready { KnowsItsTexts A.seen A.counts self.old }
+        ensures ready { OnOk result (KnowsItsTexts A.seen A.counts self.new) }
+        ensures tried { IfOk result (λ is. IsPartTried new.now.name is
+            (texts_of self.old.texts) (texts_of self.new.texts)) }
+        ensures counted { IfOk result (λ is. IsEditCounted is (A.counts self.old.author)
+            (A.counts self.new.author)) }
+        ensures same { OnErr result (A.counts self.new.author ≡ A.counts self.old.author) }
+        ensures jobs { (A.counts self.new.author).jobs ≡ (A.counts self.old.author).jobs }
         ensures tests { OnOk result (AreSameBut new.now.name (texts_of self.old.texts).tests
             (texts_of self.new.texts).tests) }
         ensures models { OnOk result ((texts_of self.new.texts).models
@@ -385,8 +435,14 @@ impl<A: Author> Watched<A> {
 
     // Makes the test of this name this one, part by part, as far as the parts are accepted.
     fn change_parts<W: Wait>(&mut self, rt: &W, alloc: Global, new: &Test) -> Result<(), AllocError>
-        requires ready { KnowsItsTexts A.seen self.old }
-        ensures ready { OnOk result (KnowsItsTexts A.seen self.new) }
+        requires ready { KnowsItsTexts A.seen A.counts self.old }
+        ensures ready { OnOk result (KnowsItsTexts A.seen A.counts self.new) }
+        ensures edits { OnOk result (HasEditsFor (ArePartsChanged (content_of new.now)
+            (texts_of self.old.texts) (texts_of self.new.texts)) (A.counts self.old.author)
+            (A.counts self.new.author)) }
+        ensures kept { OnOk result (test_named (texts_of self.old.texts) new.now.name
+            ≡ Some (content_of new.now) → IsUnedited A.counts self.old self.new) }
+        ensures jobs { (A.counts self.new.author).jobs ≡ (A.counts self.old.author).jobs }
         ensures tests { OnOk result (AreSameBut new.now.name (texts_of self.old.texts).tests
             (texts_of self.new.texts).tests) }
         ensures models { OnOk result ((texts_of self.new.texts).models
@@ -415,9 +471,15 @@ impl<A: Author> Watched<A> {
         new: &Test,
         text: Vec<u8>,
     ) -> Result<(), AllocError>
-        requires ready { KnowsItsTexts A.seen self.old }
+        requires ready { KnowsItsTexts A.seen A.counts self.old }
         requires only { (c : Content) → ReadsTest text.items c → content_of new.now ≡ c }
-        ensures ready { OnOk result (KnowsItsTexts A.seen self.new) }
+        ensures ready { OnOk result (KnowsItsTexts A.seen A.counts self.new) }
+        ensures edits { OnOk result (HasEditsFor (IsTestPut (content_of new.now) text.items
+            (texts_of self.old.texts) (texts_of self.new.texts)) (A.counts self.old.author)
+            (A.counts self.new.author)) }
+        ensures kept { OnOk result (test_named (texts_of self.old.texts) new.now.name
+            ≡ Some (content_of new.now) → IsUnedited A.counts self.old self.new) }
+        ensures jobs { (A.counts self.new.author).jobs ≡ (A.counts self.old.author).jobs }
         ensures tests { OnOk result ((texts_of self.new.texts).tests
             ≡ put_at (test_index new.now.name (texts_of self.old.texts).tests)
             (content_of new.now) (texts_of self.old.texts).tests) }
@@ -442,10 +504,16 @@ impl<A: Author> Watched<A> {
         alloc: Global,
         name: Option<Name>,
     ) -> Result<(), AllocError>
-        requires ready { KnowsItsTexts A.seen self.old }
-        ensures ready { OnOk result (KnowsItsTexts A.seen self.new) }
+        requires ready { KnowsItsTexts A.seen A.counts self.old }
+        ensures ready { OnOk result (KnowsItsTexts A.seen A.counts self.new) }
         ensures tests { OnOk result ((texts_of self.new.texts).tests
             ≡ without_unheld name self.old.names.items (texts_of self.old.texts).tests) }
+        ensures edits { OnOk result (HasEditsFor (IsTestDropped name self.old.names.items
+            (texts_of self.old.texts) (texts_of self.new.texts)) (A.counts self.old.author)
+            (A.counts self.new.author)) }
+        ensures kept { OnOk result (IsStillHeld name self.old.names.items
+            → IsUnedited A.counts self.old self.new) }
+        ensures jobs { (A.counts self.new.author).jobs ≡ (A.counts self.old.author).jobs }
         ensures models { OnOk result ((texts_of self.new.texts).models
             ≡ (texts_of self.old.texts).models) }
         ensures names { self.new.names ≡ self.old.names }
@@ -475,12 +543,18 @@ impl<A: Author> Watched<A> {
         new: &Test,
         text: Vec<u8>,
     ) -> Result<(), AllocError>
-        requires ready { KnowsItsTexts A.seen self.old }
+        requires ready { KnowsItsTexts A.seen A.counts self.old }
         requires reads { ReadsTest text.items (content_of new.now) }
         requires only { (c : Content) → ReadsTest text.items c → content_of new.now ≡ c }
-        ensures ready { OnOk result (KnowsItsTexts A.seen self.new) }
+        ensures ready { OnOk result (KnowsItsTexts A.seen A.counts self.new) }
         ensures taken { OnOk result (IsTestTaken index text.items (holding self.old)
             (holding self.new)) }
+        ensures edits { OnOk result (HasEditsFor (IsTestEdited index text.items None
+            (holding self.old) (holding self.new)) (A.counts self.old.author)
+            (A.counts self.new.author)) }
+        ensures kept { OnOk result (IsFileHeld (TestFile index) text.items (holding self.old)
+            → IsUnedited A.counts self.old self.new) }
+        ensures jobs { (A.counts self.new.author).jobs ≡ (A.counts self.old.author).jobs }
     {
         let name = new.name.copied(alloc)?;
         let old = put_name(&mut self.names, index, name);
@@ -498,10 +572,21 @@ impl<A: Author> Watched<A> {
         index: usize,
         text: Vec<u8>,
     ) -> Result<Option<EditFault>, AllocError>
-        requires ready { KnowsItsTexts A.seen self.old }
-        ensures ready { OnOk result (KnowsItsTexts A.seen self.new) }
+        requires ready { KnowsItsTexts A.seen A.counts self.old }
+        ensures ready { OnOk result (KnowsItsTexts A.seen A.counts self.new) }
         ensures taken { IfOk result (λ o. IsVersionTaken (TestFile index) text.items
             (holding self.old) o (holding self.new)) }
+        // It is refused for a full bench only where the test that the file holds stays.
+        ensures full { IfOk result (λ o.
+            IfSome o (IsFullBeside index text.items self.old.names.items)) }
+        // The edits drop the former test, and put no more parts than differ, or the whole text;
+        // none where the version means what its file holds already.
+        ensures edits { IfOk result (λ o. HasEditsFor (IsTestEdited index text.items o
+            (holding self.old) (holding self.new)) (A.counts self.old.author)
+            (A.counts self.new.author)) }
+        ensures kept { OnOk result (IsFileHeld (TestFile index) text.items (holding self.old)
+            → IsUnedited A.counts self.old self.new) }
+        ensures jobs { (A.counts self.new.author).jobs ≡ (A.counts self.old.author).jobs }
     {
         let whole = Edit::PutTest {
             text: Vec::from_slice(alloc, &text)?,
@@ -509,7 +594,8 @@ impl<A: Author> Watched<A> {
         let refusal = self.refusal(alloc, &whole)?;
         let new = match read_test(alloc, &text) {
             Ok(new) => new,
-            Err(_) => return unread(refusal),
+            Err(LitmusFault::OutOfMemory(error)) => return Err(error),
+            Err(LitmusFault::Refused { .. }) => return unread(refusal),
         };
         if let Some(fault) = refusal {
             if !is_full(&fault) || !is_leaving(&self.names, index, &new.name) {

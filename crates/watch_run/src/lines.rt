@@ -1,6 +1,6 @@
 //! What is written of the tests.
 
-ghost use Rattle.std.specs.Prelude.{◌≡◌, ◌≢◌, ◌++◌, [], map, get_or, IfOk, OnOk, IfSome, IfNone, IfErr};
+ghost use Rattle.std.specs.Prelude.{◌≡◌, ◌≢◌, ◌++◌, [], map, get_or, IfOk, OnOk, IfSome, IfNone};
 ghost use Rattle.std.specs.List.{AllByRecursion as Each};
 ghost use mathlib.Core.List.{IsPrefix};
 ghost use Rattle.outcome_texts.specs.Cells.{cell_of, Open};
@@ -269,8 +269,9 @@ impl<A: Author> Watched<A> {
         alloc: Global,
         models: &[Name],
     ) -> Result<Option<Vec<Vec<u8>>>, AllocError>
-        requires ready { KnowsItsTexts A.seen self.old }
-        ensures ready { KnowsItsTexts A.seen self.new }
+        requires ready { KnowsItsTexts A.seen A.counts self.old }
+        ensures ready { KnowsItsTexts A.seen A.counts self.new }
+        ensures same { A.counts self.new.author ≡ A.counts self.old.author }
         ensures texts { self.new.texts ≡ self.old.texts }
         ensures names { self.new.names ≡ self.old.names }
         ensures lines { IfOk result (λ o. IfSome o (λ v.
@@ -279,7 +280,6 @@ impl<A: Author> Watched<A> {
         ensures waits { IfOk result (λ o. IfNone o
             (HasOpenLine (A.seen self.new.author) models.now self.new.names.items)) }
     {
-        self.author
-            .lines(alloc, models, self.names.as_slice(), self.made)
+        self.author.lines(alloc, models, self.names.as_slice())
     }
 }

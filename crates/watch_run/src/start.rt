@@ -7,6 +7,7 @@ ghost use Rattle.watch_run.specs.Runs.{at_first};
 ghost use Rattle.watch_run.specs.Ends.{IsEnded};
 
 use crate::answers::Run;
+use crate::author::Counts;
 use crate::desk_author::{DeskAuthor, Hands};
 use crate::turnstile::{RunningTurnstile, Turnstile, beside_workers};
 use crate::versions::Versions;
@@ -44,10 +45,11 @@ fn run_at<'a, 'd, J: Naming + StoreName, R: AllocGlobal + Wait + Drop>(
 ) -> Result<Run<'a, DeskAuthor<'d, J, R>>, AllocError>
     ensures lines { IfOk result (λ run. run.lines.items ≡ []) }
     ensures paths { IfOk result (λ run. run.paths ≡ paths.entry) }
-    ensures first { IfOk result (λ run. standing run
+    ensures first { IfOk result (λ run. standing (λ a. a.counts) run
         ≡ at_first (length (model_paths run.paths)) (length (test_paths run.paths))
         (lists_of run.lines.items)) }
-    ensures ready { IfOk result (λ run. KnowsItsTexts (λ a. a.viewer) run.watched) }
+    ensures ready { IfOk result (λ run.
+        KnowsItsTexts (λ a. a.viewer) (λ a. a.counts) run.watched) }
 {
     let alloc = rt.alloc();
     let viewer = match desk.viewer(rt) {
@@ -60,10 +62,9 @@ fn run_at<'a, 'd, J: Naming + StoreName, R: AllocGlobal + Wait + Drop>(
             desk,
             viewer,
             hands,
+            counts: Counts::new(),
         },
         texts: Texts::new(alloc),
-        made: 0,
-        last: 0,
         names,
     };
     Ok(Run {

@@ -1,7 +1,8 @@
 //! Where the versions of files come from.
 
 ghost use Rattle.std.specs.Prelude.{◌≡◌, List, [], ◌∷◌, Option, None};
-ghost use Rattle.watch_run.specs.Readings.{FileReading, AreReadBetween, IsNoText};
+ghost use Rattle.std.specs.IoError.{error_kind};
+ghost use Rattle.watch_run.specs.Readings.{FileReading, AreReadBetween, unopened, IsReadOf};
 
 use command_answers::{OfRead, SessionFault, read_text};
 use std::alloc::Global;
@@ -51,7 +52,7 @@ impl<'a, R, W: Write> FileVersions<'a, R, W> {
 
     // What is said where the file cannot be opened.
     fn unopened(&mut self, path: &str, error: &io::Error) -> Version
-        ensures { IsNoText result }
+        ensures { result ≡ unopened (error_kind error.now) }
     {
         match error.kind() {
             io::ErrorKind::OutOfMemory => Version::OutOfMemory,
@@ -60,7 +61,9 @@ impl<'a, R, W: Write> FileVersions<'a, R, W> {
     }
 
     // What is read of the file of this path.
-    fn text_in<F: Read + Drop>(&mut self, alloc: Global, path: &str, file: F) -> Version {
+    fn text_in<F: Read + Drop>(&mut self, alloc: Global, path: &str, file: F) -> Version
+        ensures { IsReadOf (F.remaining file) result }
+    {
         match read_text(alloc, &mut OfRead::new(file)) {
             Ok(text) => Version::Text(text),
             Err(SessionFault::Memory) => Version::OutOfMemory,

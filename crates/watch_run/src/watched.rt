@@ -57,10 +57,6 @@ pub struct Watched<A> {
     pub author: A,
     /// The texts that the desk was given.
     pub texts: Texts,
-    /// How many edits the desk was given.
-    pub made: u64,
-    /// The number of the last edit.
-    pub last: u64,
     /// Of the file of each test the name of the test that it holds, where a version of it was
     /// accepted.
     pub names: Vec<Option<Name>>,

@@ -87,7 +87,7 @@ contents_push : (all : List BoardOp) (op : BoardOp)
     → contents_after (all ++ op ∷ []) ≡ contents_with (contents_after all) op
 contents_push all op = fold_push contents_with no_texts all op
 
-board_push : (all : List BoardOp) (op : BoardOp)
+pub board_push : (all : List BoardOp) (op : BoardOp)
     → board_after (all ++ op ∷ []) ≡ after_operation (board_after all) op
 board_push all op = fold_push after_operation no_board all op
 
@@ -152,7 +152,7 @@ verdicts_same t u test model sound last since =
     (λ (ms : List ModelRow). verdict_by (slice_get t.parts.table.tests.items i) (slice_get ms j))
     rows.models)
 
-prepared_held : (t u : StampedTexts) (e : Edit) (p : PreparedEdit) → IsPrepared t e p u
+pub prepared_held : (t u : StampedTexts) (e : Edit) (p : PreparedEdit) → IsPrepared t e p u
     → tests_and_models u.texts ≡ tests_and_models t.texts
 prepared_held t u e p h = held_alike t u ((h.same).state).tests (h.same).models
 

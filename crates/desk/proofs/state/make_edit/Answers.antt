@@ -43,6 +43,22 @@ returns-in-Ok-Some-clause-made g c =
       list = a.all;
     }
 
+pub returns-in-Ok-Some-clause-edited : goal.returns-in-Ok-Some-clause-edited
+returns-in-Ok-Some-clause-edited g c =
+    let told = rw c.in-Ok-Some.field-0-is at (rw c.in-Ok-Some.is at c.edit_told.ensures.told) in
+    let a = told.tells_it in
+    record {
+      valid = c.requires.valid;
+      after = c.requires.after;
+      ready = told.ready;
+      prepared = told.prepared;
+      op = a.op;
+      prepares_it = told.prepares_it;
+      announced = a.announced;
+      commits_it = told.commits_it;
+      list = a.all;
+    }
+
 pub returns-then-wants_memory-clause-published : goal.returns-then-wants_memory-clause-published
 returns-then-wants_memory-clause-published g c =
     ap (λ (l : Pressed _). l.published) c.in-Err.ensures.unseen

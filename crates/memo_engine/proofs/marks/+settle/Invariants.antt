@@ -5,6 +5,7 @@ use Rattle.memo_core.specs.declared.claims.Claim.{Claim}
 use Rattle.memo_core.specs.Views.{as_memos}
 use Rattle.memo_core.specs.Step.{Has}
 use Rattle.memo_core.specs.Marks.{unmarked_count, IsMarkedTo}
+use Rattle.memo_engine.specs.Matched.{AreMatched}
 use Rattle.memo_engine.specs.Waiting.{IsWholeTo}
 use Rattle.memo_engine.proofs.marks.+settle.Given as goal
 
@@ -17,11 +18,14 @@ invariant-loop-i g l =
     record {
       same : as_memos l.memos.entries ≡ as_memos l.fn.memos.entries;
       fewer : unmarked_count l.memos.entries < unmarked_count l.fn.memos.entries;
-      marks : g.T.Texts.is_valid l.texts → Has net.used l.node → (rest : List Node)
+      matched : g.T.Texts.is_valid l.texts → Has net.used l.node
+          → AreMatched net l.fn.memos.entries → AreMatched net l.memos.entries;
+      marks : g.T.Texts.is_valid l.texts → Has net.used l.node
+          → AreMatched net l.fn.memos.entries → (rest : List Node)
           → IsMarkedTo net l.fn.memos.entries (l.node ∷ rest)
           → IsMarkedTo net l.memos.entries (drop l.i (g.T.Texts.users l.texts l.node) ++ rest);
-      whole : g.T.Texts.is_valid l.texts → Has net.used l.node → (claims : List (ℕ × Claim))
-          (rest : List Node)
+      whole : g.T.Texts.is_valid l.texts → Has net.used l.node
+          → AreMatched net l.fn.memos.entries → (claims : List (ℕ × Claim)) (rest : List Node)
           → IsMarkedTo net l.fn.memos.entries (l.node ∷ rest)
           → IsWholeTo net l.fn.memos.entries claims l.fn.waiting (l.node ∷ rest)
           → IsWholeTo net l.memos.entries claims l.waiting

@@ -6,6 +6,7 @@ use Rattle.memo_core.specs.Marks.{mark_of}
 use Rattle.memo_core.proofs.JudgeLemmas.{true_false}
 use Rattle.memo_engine.proofs.MarkLemmas.{has_at}
 use Rattle.memo_engine.proofs.UnmarkLemmas.{as_memos-without_mark_at, unmarked_same, marked_count-less, without_no_mark, no_new_mark, closed_passed, closed_on, lost_here, lost_above}
+use Rattle.memo_engine.proofs.MatchLemmas.{unmarked_matched}
 use Rattle.memo_engine.proofs.marks.+unsettle.Goals as goal
 
 pub returns-then-not-unmark-clause-memos : goal.returns-then-not-unmark-clause-memos
@@ -28,6 +29,13 @@ returns-then-not-unmark-clause-unmarked g t c =
     let none = sym c.unmark.ensures.had ∙ c.if-not-unmark.true in
     let same = c.unmark.ensures.marks ∙ without_no_mark c.args.node ks none in
     rw same none
+
+pub returns-then-not-unmark-clause-matched : goal.returns-then-not-unmark-clause-matched
+returns-then-not-unmark-clause-matched g t c =
+    let ks = c.args.memos.now.entries in
+    let none = sym c.unmark.ensures.had ∙ c.if-not-unmark.true in
+    let same = c.unmark.ensures.marks ∙ without_no_mark c.args.node ks none in
+    λ n h. rw same at h
 
 pub returns-then-not-unmark-clause-old : goal.returns-then-not-unmark-clause-old
 returns-then-not-unmark-clause-old g t c =
@@ -62,6 +70,7 @@ loop-i-init g t c =
           rw c.unmark.ensures.marks (marked_count-less n ks
           (sym c.unmark.ensures.had ∙ c.if-not-unmark.false));
       unmarked = rw c.unmark.ensures.marks (unmarked_same n ks);
+      matched = rw c.unmark.ensures.marks (λ m h. sym (unmarked_matched n m ks) ∙ h);
       old = rw c.unmark.ensures.marks (no_new_mark net ks n);
       closed =
           λ valid rest p. rw c.unmark.ensures.marks (closed_on net ks n
@@ -83,6 +92,7 @@ loop-i-preserved g t c =
         | inl t ↦ absurd (true_false _ (c.unsettle.ensures.old c.args.node t) i.unmarked)
         | inr f ↦ f
       ];
+      matched = λ n h. i.matched n (c.unsettle.ensures.matched n h);
       old = λ n h. i.old n (c.unsettle.ensures.old n h);
       closed =
           λ valid rest p. c.unsettle.ensures.closed valid _ (rw c.user_at.ensures.rest at

@@ -3,6 +3,7 @@ use Rattle.indexmap.specs.IndexMap.{spare}
 use Rattle.memo_core.specs.declared.claims.Claim.{Claim}
 use Rattle.memo_core.specs.Views.{as_memos}
 use Rattle.memo_core.specs.Marks.{IsMarkedTo}
+use Rattle.memo_engine.specs.Matched.{AreMatched}
 use Rattle.memo_engine.specs.Waiting.{IsWholeTo}
 use Rattle.memo_engine.proofs.marks.mark_touched.Given as goal
 
@@ -12,9 +13,13 @@ invariant-loop-i g l =
     let touched = g.T.Texts.touched l.texts in
     record {
       same : as_memos l.memos.entries ≡ as_memos l.fn.memos.entries;
-      marks : g.T.Texts.is_valid l.texts → IsMarkedTo net l.fn.memos.entries touched
+      matched : g.T.Texts.is_valid l.texts → AreMatched net l.fn.memos.entries
+          → AreMatched net l.memos.entries;
+      marks : g.T.Texts.is_valid l.texts → AreMatched net l.fn.memos.entries
+          → IsMarkedTo net l.fn.memos.entries touched
           → IsMarkedTo net l.memos.entries (drop l.i touched);
-      whole : g.T.Texts.is_valid l.texts → (claims : List (ℕ × Claim))
+      whole : g.T.Texts.is_valid l.texts → AreMatched net l.fn.memos.entries
+          → (claims : List (ℕ × Claim))
           → IsMarkedTo net l.fn.memos.entries touched
           → IsWholeTo net l.fn.memos.entries claims l.fn.waiting touched
           → IsWholeTo net l.memos.entries claims l.waiting (drop l.i touched);

@@ -10,6 +10,7 @@ returns-in-Some-clause-marks g c =
       inputs = c.in-Some.kept.now.inputs;
       outputs = c.in-Some.kept.now.outputs;
       settled = false;
+      matched = c.in-Some.kept.now.matched;
     })).0
     ∙ unmark_written c.args.node c.args.memos.now.entries c.in-Some.kept.now
     (rw c.in-Some.is at c.get_mut.ensures.value)

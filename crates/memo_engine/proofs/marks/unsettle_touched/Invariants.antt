@@ -5,6 +5,7 @@ use Rattle.memo_core.specs.Graph.{Matches}
 use Rattle.memo_core.specs.Views.{as_memos}
 use Rattle.memo_core.specs.Step.{Has}
 use Rattle.memo_core.specs.Marks.{mark_of}
+use Rattle.memo_engine.specs.Matched.{AreMatchedTo}
 use Rattle.memo_engine.specs.Unmarked.{HasMarkedInputs, IsClosedTo, IsMarkedBut, HasNoNewMark}
 use Rattle.memo_engine.proofs.marks.unsettle_touched.Given as goal
 
@@ -16,6 +17,7 @@ invariant-loop-i g l =
     record {
       same : as_memos ks ≡ as_memos l.fn.memos.entries;
       old : HasNoNewMark l.fn.memos.entries ks;
+      matched : AreMatchedTo net l.fn.memos.entries touched → AreMatchedTo net ks (drop l.i touched);
       closed : g.T.Texts.is_valid l.texts → IsMarkedBut net l.fn.memos.entries touched
           → IsClosedTo net ks (drop l.i touched);
       left : g.T.Texts.is_valid l.texts → IsMarkedBut net l.fn.memos.entries touched

@@ -1,8 +1,8 @@
 use Rattle.bench_texts.specs.Held.{texts_of}
-use Rattle.watch_run.proofs.Taking.{change_of_model}
+use Rattle.watch_run.proofs.Changing.{change_edit}
 use Rattle.watch_run.proofs.changes.edit_to.Goals as goal
 
-pub returns-in_ok-item_edit-in-Some : goal.returns-in_ok-item_edit-in-Some
-returns-in_ok-item_edit-in-Some c =
-    change_of_model _ (texts_of c.args.texts.now) c.in-Some.model.now _ _ _ c.args.change
-    c.in-Some.ensures c.in_ok-item_edit-in-Some.ensures
+pub returns-in_ok-item_edit-in-Some-clause-edit : goal.returns-in_ok-item_edit-in-Some-clause-edit
+returns-in_ok-item_edit-in-Some-clause-edit c =
+    change_edit _ (texts_of c.args.texts.now) c.in-Some.model.now _ _ c.args.change
+    c.in-Some.ensures (rw c.deref.ensures.value at c.in_ok-item_edit-in-Some.ensures)

@@ -10,16 +10,27 @@ use Rattle.desk.proofs.Refusing.{never, not_ok, not_seat, other_closed, other_se
 use Rattle.desk.proofs.Returning.{ahead_of, behind_of, has_edit, posted_refused, was_so}
 use Rattle.desk.proofs.state.DeskState.edit.Goals as goal
 
+pub post_edit-requires-clause-edited : goal.post_edit-requires-clause-edited
+post_edit-requires-clause-edited g c owed = record {
+  before = c.self.inside.bench;
+  edit = c.args.edit;
+  number = c.in_ok-number.number;
+  ops = c.self.inside.ledger.all;
+  step = (c.in_ok-number.ensures.made).step;
+  made = c.in_ok-number.ensures.edited;
+  posted = (c.self.invariant.3 owed).1;
+}
+
 pub invariant_of-self-2 : goal.invariant_of-self-2
 invariant_of-self-2 g c =
     let means = meaning g.X.Texts.net g.X.Texts.is_valid g.X.Texts.since g.X.Texts.makes g.X.Texts.keeps g.X.Texts.edited g.X.Texts.last in
     let p = c.if-not-publish.ensures in
-    let q = c.post.ensures in
+    let q = c.post_edit.ensures in
     let made = c.in_ok-number.ensures in (
       made.valid,
       rw p.all q.posts.after,
       rw (p.all, q.posts.number) made.last,
-      λ owes. (p.published ∙ sym p.all, rw p.all (q.posted (was_so c.post.result owes))),
+      λ owes. (p.published ∙ sym p.all, rw p.all (q.posted (was_so c.post_edit.result owes))),
       reached_by means c.self.inside.bench c.make_edit.new.bench (Edit c.args.edit)
           c.self.invariant.4 (made.made).step,
     )
@@ -28,7 +39,7 @@ pub returns-clause-published : goal.returns-clause-published
 returns-clause-published g c =
     let p = c.if-not-publish.ensures in
     let made = c.in_ok-number.ensures.made in
-    let posts = c.post.ensures.posts in
+    let posts = c.post_edit.ensures.posts in
     let behind = c.if-not-begins_with.ensures.begins refl in
     let begins = subst (λ (l : List _). IsPrefix c.args.me.now l) (sym p.all) (begins_edit _ _ made.op _ posts.more _ behind made.list posts.all) in
     (p.published ∙ sym p.all, c.tell_all.ensures.told begins)
@@ -37,26 +48,26 @@ pub returns-clause-told : goal.returns-clause-told
 returns-clause-told g c =
     let p = c.if-not-publish.ensures in
     let made = c.in_ok-number.ensures.made in
-    let posts = c.post.ensures.posts in
+    let posts = c.post_edit.ensures.posts in
     let behind = c.if-not-begins_with.ensures.begins refl in
     let begins = subst (λ (l : List _). IsPrefix c.args.me.now l) (sym p.all) (begins_edit _ _ made.op _ posts.more _ behind made.list posts.all) in
     let told = c.tell_all.ensures.told begins in
     has_edit _ g.X.Operations.is_legal g.X.BoardTexts.is_edit g.X.BoardTexts.is_settle c.args.edit
-    c.in_ok-number.number _ _ c.args.me.now _ _ posts.more c.post.new.self.all _ behind made
+    c.in_ok-number.number _ _ c.args.me.now _ _ posts.more c.post_edit.new.ledger.all _ behind made
     posts.are_settles posts.all (told ∙ p.all) (rw told c.tell_all.ensures.legal)
 
 pub returns-then-not-publish-clause-told : goal.returns-then-not-publish-clause-told
 returns-then-not-publish-clause-told g c =
     let p = c.if-not-publish.ensures in
     let made = c.in_ok-number.ensures.made in
-    let posts = c.post.ensures.posts in
+    let posts = c.post_edit.ensures.posts in
     let behind = c.if-not-begins_with.ensures.begins refl in (
       refl,
       (
         c.publish.new.self.all,
         has_edit _ g.X.Operations.is_legal g.X.BoardTexts.is_edit
             g.X.BoardTexts.is_settle c.args.edit c.in_ok-number.number _ _ c.args.me.now
-            _ _ posts.more c.post.new.self.all _ behind made posts.are_settles posts.all
+            _ _ posts.more c.post_edit.new.ledger.all _ behind made posts.are_settles posts.all
             p.all p.legal,
       ),
     )
@@ -88,7 +99,7 @@ pub invariant_of-self-then-not-publish : goal.invariant_of-self-then-not-publish
 invariant_of-self-then-not-publish g c =
     let means = meaning g.X.Texts.net g.X.Texts.is_valid g.X.Texts.since g.X.Texts.makes g.X.Texts.keeps g.X.Texts.edited g.X.Texts.last in
     let p = c.if-not-publish.ensures in
-    let posts = c.post.ensures.posts in
+    let posts = c.post_edit.ensures.posts in
     let made = c.in_ok-number.ensures in (
       made.valid,
       rw p.all posts.after,
@@ -101,7 +112,7 @@ invariant_of-self-then-not-publish g c =
 pub returns-then-not-publish-clause-published : goal.returns-then-not-publish-clause-published
 returns-then-not-publish-clause-published g c = (
   c.if-not-publish.ensures.published
-      ∙ (c.post.ensures.posts.published
+      ∙ (c.post_edit.ensures.posts.published
       ∙ (c.in_ok-number.ensures.published
       ∙ ap (λ (h : Held _ _ _). h.published) c.self.view_is)),
   refl,
@@ -127,8 +138,10 @@ returns-then-not-publish-clause-shown g c = λ owes. absurd (never owes)
 
 pub returns-clause-shown : goal.returns-clause-shown
 returns-clause-shown g c = λ owes.
-    let p = c.if-not-publish.ensures in
-    (p.published ∙ sym p.all, rw p.published (c.post.ensures.posted (was_so c.post.result owes)))
+    let p = c.if-not-publish.ensures in (
+      p.published ∙ sym p.all,
+      rw p.published (c.post_edit.ensures.posted (was_so c.post_edit.result owes)),
+    )
 
 pub returns-then-not-publish-clause-no_seat : goal.returns-then-not-publish-clause-no_seat
 returns-then-not-publish-clause-no_seat g c =

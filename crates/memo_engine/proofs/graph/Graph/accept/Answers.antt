@@ -10,7 +10,7 @@ use Rattle.std.specs.BTreeMap.{is_at}
 use Rattle.memo_engine.proofs.MarkLemmas.{put_pending, put_whole}
 use Rattle.memo_core.specs.Right.{CountsAsComputed}
 use Rattle.memo_core.proofs.Counted.{counted_now}
-use Rattle.memo_engine.proofs.AcceptLemmas.{accepted, claimed, due_unsettled, finishes}
+use Rattle.memo_engine.proofs.AcceptLemmas.{accepted, accepted_matched, claimed, due_unsettled, finishes}
 use Rattle.memo_engine.proofs.KeepLemmas.{put_kept, same_kept}
 use Rattle.memo_engine.proofs.WaitingLemmas.{whole_closed}
 use Rattle.memo_engine.proofs.graph.Graph.accept.Goals as goal
@@ -50,9 +50,11 @@ returns-clause-taken g c =
           present.keys c.requires.computed;
     })) (as_memos c.settle.new.memos.entries)
     c.remove.new.self.entries
-    (c.settle.ensures.memos
+    (c.settle.ensures.memos ∙ c.doubt_users.ensures.memos
     ∙ rw (c.restamp_all.ensures.outputs, c.into_results-outputs.ensures.outputs) at
     c.store_memo.ensures.memos) c.remove.ensures.entries in
+    let known = accepted_matched t.makes t.same net s.memos.entries c.doubt_users.new.memos.entries s.claims.entries s.taken d.claim d.node d.given d.keys.items values outputs (shown_outputs c.restamp_all.new.outputs.items)
+    c.in-Some.claim c.as_slice.result.now (t.users s.texts) (t.rank s.texts) (t.is_there s.texts) (sym c.in-Some.is ∙ c.remove.ensures.value) c.requires.due c.requires.computed (rw c.into_results-outputs.ensures.outputs at c.restamp_all.ensures.outputs) (c.as_slice.ensures.value ∙ (rw c.into_results-outputs.ensures.outputs at c.restamp_all.ensures.names)) (g.met.T.Texts.users_are s.texts c.requires.right.0) (g.met.T.Texts.falls s.texts c.requires.right.0) (g.met.T.Texts.sound s.texts c.requires.right.0) (g.met.T.Texts.used_there s.texts c.requires.right.0) (c.doubt_users.ensures.memos ∙ c.store_memo.ensures.memos) (λ n f h. sym (rw f at (c.store_memo.ensures.matched n)) ∙ c.doubt_users.ensures.old n h) c.doubt_users.ensures.doubted s.matched in
     let old = state net s.memos.entries s.claims.entries s.taken in
     let new = state net c.settle.new.memos.entries c.remove.new.self.entries (s.taken + 1) in
     let m : Memo g.row.T-Value.Denot = record { node = d.node; inputs = c.in-Some.claim.inputs.items; outputs = shown_outputs c.restamp_all.new.outputs.items } in
@@ -65,9 +67,10 @@ returns-clause-taken g c =
             c.requires.fresh.1)),
       );
       marks =
-          c.settle.ensures.marks c.requires.right.0 used [] (put_pending net s.memos.entries
-          c.store_memo.new.memos.entries m c.requires.marks c.store_memo.ensures.memos
-          (λ n. c.store_memo.ensures.flags n)
+          c.settle.ensures.marks c.requires.right.0 used known [] (put_pending net s.memos.entries
+          c.doubt_users.new.memos.entries m c.requires.marks
+          (c.doubt_users.ensures.memos ∙ c.store_memo.ensures.memos)
+          (λ n. c.doubt_users.ensures.marks n ∙ c.store_memo.ensures.flags n)
           (accept_unsettled old new r c.requires.fresh.0 a.1));
       step =
           finishes old new r c.restamp_all.new.names.items c.finish_of.result c.finish_of.ensures
@@ -82,10 +85,23 @@ invariant_of-self-clause-kept g c =
     let used : Has (t.net s.texts).used d.node = subst (Has (t.net s.texts).used) c.requires.due.1.same c.requires.due.2.used in
     let m : Memo g.row.T-Value.Denot = record { node = d.node; inputs = c.in-Some.claim.inputs.items; outputs = shown_outputs c.restamp_all.new.outputs.items } in
     same_kept (t.keeps s.texts) c.store_memo.new.memos.entries c.settle.new.memos.entries
-    c.settle.ensures.memos
+    (c.settle.ensures.memos ∙ c.doubt_users.ensures.memos)
     (put_kept (t.keeps s.texts) m s.memos.entries c.store_memo.new.memos.entries
     c.store_memo.ensures.memos
     (g.met.T.Texts.used_kept s.texts c.requires.right.0 d.node used) s.kept)
+
+pub invariant_of-self-clause-matched : goal.invariant_of-self-clause-matched
+invariant_of-self-clause-matched g c =
+    let s = c.args.self.now in
+    let d = c.args.done in
+    let t = g.T.Texts in
+    let net = t.net s.texts in
+    let values = shown_values d.values.items in
+    let outputs = shown_outputs d.outputs.items in
+    let used : Has net.used d.node = subst (Has net.used) c.requires.due.1.same c.requires.due.2.used in
+    let known = accepted_matched t.makes t.same net s.memos.entries c.doubt_users.new.memos.entries s.claims.entries s.taken d.claim d.node d.given d.keys.items values outputs (shown_outputs c.restamp_all.new.outputs.items)
+    c.in-Some.claim c.as_slice.result.now (t.users s.texts) (t.rank s.texts) (t.is_there s.texts) (sym c.in-Some.is ∙ c.remove.ensures.value) c.requires.due c.requires.computed (rw c.into_results-outputs.ensures.outputs at c.restamp_all.ensures.outputs) (c.as_slice.ensures.value ∙ (rw c.into_results-outputs.ensures.outputs at c.restamp_all.ensures.names)) (g.met.T.Texts.users_are s.texts c.requires.right.0) (g.met.T.Texts.falls s.texts c.requires.right.0) (g.met.T.Texts.sound s.texts c.requires.right.0) (g.met.T.Texts.used_there s.texts c.requires.right.0) (c.doubt_users.ensures.memos ∙ c.store_memo.ensures.memos) (λ n f h. sym (rw f at (c.store_memo.ensures.matched n)) ∙ c.doubt_users.ensures.old n h) c.doubt_users.ensures.doubted s.matched in
+    c.settle.ensures.matched c.requires.right.0 used known
 
 pub invariant_of-self-clause-whole : goal.invariant_of-self-clause-whole
 invariant_of-self-clause-whole g c =
@@ -94,20 +110,23 @@ invariant_of-self-clause-whole g c =
     let t = g.T.Texts in
     let net = t.net s.texts in
     let ks = s.memos.entries in
-    let put = c.store_memo.new.memos.entries in
+    let put = c.doubt_users.new.memos.entries in
+    let stored = c.doubt_users.ensures.memos ∙ c.store_memo.ensures.memos in
     let cs = c.remove.new.self.entries in
     let values = shown_values d.values.items in
     let outputs = shown_outputs d.outputs.items in
     let r = return_of d.claim d.node d.given d.keys.items values outputs in
     let used : Has net.used d.node = subst (Has net.used) c.requires.due.1.same c.requires.due.2.used in
     let m : Memo g.row.T-Value.Denot = record { node = d.node; inputs = c.in-Some.claim.inputs.items; outputs = shown_outputs c.restamp_all.new.outputs.items } in
+    let known = accepted_matched t.makes t.same net s.memos.entries c.doubt_users.new.memos.entries s.claims.entries s.taken d.claim d.node d.given d.keys.items values outputs (shown_outputs c.restamp_all.new.outputs.items)
+    c.in-Some.claim c.as_slice.result.now (t.users s.texts) (t.rank s.texts) (t.is_there s.texts) (sym c.in-Some.is ∙ c.remove.ensures.value) c.requires.due c.requires.computed (rw c.into_results-outputs.ensures.outputs at c.restamp_all.ensures.outputs) (c.as_slice.ensures.value ∙ (rw c.into_results-outputs.ensures.outputs at c.restamp_all.ensures.names)) (g.met.T.Texts.users_are s.texts c.requires.right.0) (g.met.T.Texts.falls s.texts c.requires.right.0) (g.met.T.Texts.sound s.texts c.requires.right.0) (g.met.T.Texts.used_there s.texts c.requires.right.0) (c.doubt_users.ensures.memos ∙ c.store_memo.ensures.memos) (λ n f h. sym (rw f at (c.store_memo.ensures.matched n)) ∙ c.doubt_users.ensures.old n h) c.doubt_users.ensures.doubted s.matched in
     let unsettled = due_unsettled t.same g.met.T.Texts.same_exact net (as_memos ks) s.claims.entries s.taken d.claim d.node d.given d.keys.items values outputs c.requires.due c.requires.fresh.0 in
     let found = sym c.in-Some.is ∙ c.remove.ensures.value in
     let by = claimed net (as_memos ks) s.claims.entries s.taken r c.in-Some.claim found c.requires.due.0 c.requires.due.1 in
-    c.settle.ensures.whole c.requires.right.0 used cs []
-    (put_pending net ks put m c.requires.marks c.store_memo.ensures.memos
-    (λ n. c.store_memo.ensures.flags n) unsettled)
-    (put_whole net ks put m c.requires.marks c.store_memo.ensures.memos
-    (λ n. c.store_memo.ensures.flags n) unsettled cs s.waiting
+    c.settle.ensures.whole c.requires.right.0 used known cs []
+    (put_pending net ks put m c.requires.marks stored
+    (λ n. c.doubt_users.ensures.marks n ∙ c.store_memo.ensures.flags n) unsettled)
+    (put_whole net ks put m c.requires.marks stored
+    (λ n. c.doubt_users.ensures.marks n ∙ c.store_memo.ensures.flags n) unsettled cs s.waiting
     (whole_closed net ks s.claims.entries cs s.waiting (is_at (nat_cmp d.claim)) c.in-Some.claim
     (d.node ∷ []) found c.remove.ensures.entries (λ n used e i. inl (sym by.1 ∙ e)) s.whole))

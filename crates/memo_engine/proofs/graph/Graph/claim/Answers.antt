@@ -1,8 +1,8 @@
-use Rattle.std.proofs.Common.{◌+◌, refl, ap, sym}
-use Rattle.memo_core.specs.Graph.{at}
+use Rattle.std.proofs.Common.{◌≡◌, ◌+◌, List, refl, ap, subst, sym}
+use Rattle.memo_core.specs.Graph.{Net, at}
 use Rattle.memo_core.specs.Right.{CountsAsComputed}
 use Rattle.memo_core.proofs.Counted.{counted_made}
-use Rattle.memo_core.specs.Views.{as_memos, shown_values}
+use Rattle.memo_core.specs.Views.{MemoEntry, as_memos, shown_values}
 use Rattle.memo_engine.proofs.WorkLemmas.{values_there, values_present, has_there}
 use Rattle.memo_core.proofs.ClaimLemmas.{opened, numbered_opened}
 use Rattle.memo_engine.proofs.MarkLemmas.{is_work_of, marked_none}
@@ -12,6 +12,7 @@ use Rattle.memo_core.specs.Step.{open_claim, open_claims, state}
 use Rattle.memo_engine.proofs.WaitingLemmas.{whole_opened, whole_same}
 use Rattle.memo_engine.proofs.KeepLemmas.{same_kept}
 use Rattle.memo_core.proofs.Runs.{right_later}
+use Rattle.memo_engine.specs.Matched.{AreMatched}
 use Rattle.memo_engine.proofs.graph.Graph.claim.Goals as goal
 
 pub returns-in-None-clause-none : goal.returns-in-None-clause-none
@@ -98,6 +99,18 @@ invariant_of-self-2-clause-kept g c =
     let s = c.args.self.now in
     same_kept (g.T.Texts.keeps s.texts) s.memos.entries c.open_claim.new.memos.entries
     (ap as_memos c.in_ok-open_claim.ensures.memos) s.kept
+
+-- what is known to match does where the memos are the same
+matched_memos : {V G : Type 0} (net : Net G) (old new : List (MemoEntry V)) → new ≡ old
+    → AreMatched net old → AreMatched net new
+matched_memos {V} net old new e are =
+    subst (λ (ks : List (MemoEntry V)). AreMatched net ks) (sym e) are
+
+pub invariant_of-self-2-clause-matched : goal.invariant_of-self-2-clause-matched
+invariant_of-self-2-clause-matched g c =
+    let s = c.args.self.now in
+    matched_memos (g.T.Texts.net s.texts) s.memos.entries c.open_claim.new.memos.entries
+    c.in_ok-open_claim.ensures.memos s.matched
 
 pub invariant_of-self-2-clause-whole : goal.invariant_of-self-2-clause-whole
 invariant_of-self-2-clause-whole g c =

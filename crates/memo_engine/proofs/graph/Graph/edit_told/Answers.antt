@@ -8,6 +8,7 @@ use Rattle.memo_core.proofs.Counted.{counted_later}
 use Rattle.memo_core.proofs.Headline.{edit_right}
 use Rattle.memo_core.proofs.Runs.{right_kept}
 use Rattle.memo_engine.proofs.KeepLemmas.{left_kept, kept_by}
+use Rattle.memo_engine.proofs.MatchLemmas.{matched_same}
 use Rattle.memo_engine.proofs.WaitingLemmas.{whole_noted, whole_same}
 use Rattle.memo_engine.proofs.graph.Graph.edit_told.Goals as goal
 
@@ -47,6 +48,7 @@ returns-clause-marks g c =
     (rw c.prepare.ensures.net (laws.touches_only s.texts c.prepare.new.self
     c.put_in_place.new.texts c.args.edit c.in-Ok.prepared _ c.requires.right.0
     c.in-Ok.ensures.prepares c.put_in_place.ensures.commits))
+    (rw c.prepare.ensures.net s.matched)
     (rw c.prepare.ensures.net c.requires.marks)
 
 pub returns-in-Err-clause-right : goal.returns-in-Err-clause-right
@@ -118,6 +120,18 @@ invariant_of-self-2-clause-kept g c =
     left_kept (g.T.Texts.keeps c.put_in_place.new.texts) c.args.self.now.memos.entries
     c.put_in_place.new.memos.entries c.put_in_place.ensures.memos
 
+pub invariant_of-self-2-clause-matched : goal.invariant_of-self-2-clause-matched
+invariant_of-self-2-clause-matched g c =
+    let s = c.args.self.now in
+    let laws = g.met.T.Texts in
+    let edited = laws.commits_edit s.texts c.prepare.new.self c.put_in_place.new.texts c.args.edit c.in-Ok.prepared _ c.in-Ok.ensures.prepares c.put_in_place.ensures.commits in
+    c.put_in_place.ensures.matched (c.prepare.ensures.valid c.requires.right.0)
+    (laws.valid_edited s.texts c.put_in_place.new.texts c.args.edit _ c.requires.right.0 edited)
+    (rw c.prepare.ensures.net (laws.touches_only s.texts c.prepare.new.self
+    c.put_in_place.new.texts c.args.edit c.in-Ok.prepared _ c.requires.right.0
+    c.in-Ok.ensures.prepares c.put_in_place.ensures.commits))
+    (rw c.prepare.ensures.net s.matched) (rw c.prepare.ensures.net c.requires.marks)
+
 pub invariant_of-self-2-clause-whole : goal.invariant_of-self-2-clause-whole
 invariant_of-self-2-clause-whole g c =
     let s = c.args.self.now in
@@ -129,6 +143,7 @@ invariant_of-self-2-clause-whole g c =
     (rw c.prepare.ensures.net (laws.touches_only s.texts c.prepare.new.self
     c.put_in_place.new.texts c.args.edit c.in-Ok.prepared _ c.requires.right.0
     c.in-Ok.ensures.prepares c.put_in_place.ensures.commits))
+    (rw c.prepare.ensures.net s.matched)
     s.claims.entries (rw c.prepare.ensures.net c.requires.marks)
     (rw c.prepare.ensures.net (whole_noted net s.memos.entries s.claims.entries s.waiting
     c.reserve.new.self [] [] c.reserve.ensures s.whole))
@@ -145,6 +160,9 @@ invariant_of-self-in-Err-reserve g c =
       kept =
           kept_by (t.keeps s.texts) (t.keeps c.prepare.new.self)
           (λ n h. c.prepare.ensures.keeps n ∙ h) s.memos.entries s.kept;
+      matched =
+          matched_same (t.net s.texts) (t.net c.prepare.new.self) s.memos.entries
+          c.prepare.ensures.net s.matched;
       whole =
           whole_same (t.net s.texts) (t.net c.prepare.new.self) s.memos.entries s.memos.entries
           s.claims.entries c.reserve.new.self c.prepare.ensures.net refl
@@ -158,6 +176,12 @@ invariant_of-self-then-not-tell-clause-kept g c =
     let t = g.T.Texts in
     kept_by (t.keeps s.texts) (t.keeps c.prepare.new.self) (λ n h. c.prepare.ensures.keeps n ∙ h)
     s.memos.entries s.kept
+
+pub invariant_of-self-then-not-tell-clause-matched : goal.invariant_of-self-then-not-tell-clause-matched
+invariant_of-self-then-not-tell-clause-matched g c =
+    let s = c.args.self.now in
+    matched_same (g.T.Texts.net s.texts) (g.T.Texts.net c.prepare.new.self) s.memos.entries
+    c.prepare.ensures.net s.matched
 
 pub invariant_of-self-then-not-tell-clause-whole : goal.invariant_of-self-then-not-tell-clause-whole
 invariant_of-self-then-not-tell-clause-whole g c =

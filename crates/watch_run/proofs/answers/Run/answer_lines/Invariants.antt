@@ -14,9 +14,10 @@ invariant-loop-turn g l =
     let remaining = g.S.ByteSource.remaining in
     let calls = g.K.ByteSink.failed_calls in
     let contents = g.K.ByteSink.contents in
+    let counts = g.A.Author.counts in
     let readings = g.V.Versions.readings in
     record {
-      ready : KnowsItsTexts g.A.Author.seen l.self.watched;
+      ready : KnowsItsTexts g.A.Author.seen counts l.self.watched;
       paths : l.self.paths ≡ l.initial.self.paths;
       reads : reads l.source ≡ reads l.initial.source;
       writes : calls l.sink ≡ calls l.initial.sink;
@@ -25,7 +26,7 @@ invariant-loop-turn g l =
       paid : IsPaid l._turn 0 (remaining l.initial.source) (remaining l.source);
       answers : HasLineAnswers (model_paths l.initial.self.paths) (test_paths l.initial.self.paths)
           (AreOfTurn true [] l.line.items (remaining l.initial.source) (remaining l.source))
-          (standing l.initial.self) (standing l.self)
+          (standing counts l.initial.self) (standing counts l.self)
           (readings l.initial.versions) (readings l.versions) (contents l.initial.sink)
           (contents l.sink);
     }

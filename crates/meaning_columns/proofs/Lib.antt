@@ -1,5 +1,0 @@
-pub mod Bodies
-pub mod Recursive
-pub mod State
-pub mod Steps
-pub mod Columns

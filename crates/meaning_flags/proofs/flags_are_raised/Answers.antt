@@ -1,6 +1,0 @@
-use Rattle.meaning_flags.proofs.Raised.{all_raised}
-use Rattle.meaning_flags.proofs.flags_are_raised.Goals as goal
-
-pub returns : goal.returns
-returns c = λ t s lists items resolved faultless made labelled checks flags said.
-    all_raised t s lists items resolved faultless made labelled checks flags said

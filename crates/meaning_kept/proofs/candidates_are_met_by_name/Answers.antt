@@ -1,5 +1,0 @@
-use Rattle.meaning_kept.proofs.Carrying.{met_by_name}
-use Rattle.meaning_kept.proofs.candidates_are_met_by_name.Goals as goal
-
-pub returns : goal.returns
-returns c = λ t y one named items. met_by_name t y one named items

@@ -1,4 +1,0 @@
-pub mod Used
-pub mod Naming
-pub mod Seen
-pub mod Growing

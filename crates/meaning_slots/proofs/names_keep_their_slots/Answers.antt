@@ -1,5 +1,0 @@
-use Rattle.meaning_slots.proofs.Naming.{naming_more}
-use Rattle.meaning_slots.proofs.names_keep_their_slots.Goals as goal
-
-pub returns : goal.returns
-returns c = λ names m slot n there. naming_more names m slot n there
