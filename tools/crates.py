@@ -21,6 +21,11 @@ def is_program(crate):
     return os.path.isfile(f"{folder_of(crate)}/src/main.rt")
 
 
+def is_static(crate):
+    """Returns whether nothing may stand on the crate, so that its proof leaves no library."""
+    return "staticlib" in read_lines()[crate].split(":")[0].split()
+
+
 def read_lines():
     """Returns the line of each crate of crates.txt, without its comment."""
     with open(f"{TOP}/crates.txt", encoding="utf-8") as lines:

@@ -1,15 +1,21 @@
-//! The program: what its words ask for, over the bench's library.
+//! The program: what its words ask for.
 #![tactic(auto)]
 
-use litmusbench::{
-    Asked, DrawRequest, Form, Format, InnerListFault, Lines, ListEntry, NoGate, NoProgress, OfRead,
-    OfWrite, PageRequest, ProgressTeller, ReadFault, RefusalTeller, Report, ResultFormat, RunEnd,
-    SessionFault, TextFile, UsageFault, WantedFile, difference_report, draw_report, draw_request,
-    eval_report, eval_stream_heard, exit_status, file_of_entry, file_of_word, form_of, inner_files,
-    line_report, list_entries, model_fault, model_refusal_lines, page_report, read_prefix,
-    read_text, refusal_lines, session_heard, table_report, test_refusal_lines, watch_files,
-    write_answer, write_drawings, write_report, write_why,
+mod watched_files;
+
+use command_answers::{
+    Asked, DrawRequest, Form, Format, NoProgress, OfRead, OfWrite, ProgressTeller, ReadFault,
+    RefusalTeller, Report, ResultFormat, RunEnd, SessionFault, TextFile, UsageFault,
+    difference_report, draw_report, draw_request, eval_stream_heard, exit_status, form_of,
+    model_fault, model_refusal_lines, read_prefix, read_text, refusal_lines, table_report,
+    test_refusal_lines, write_answer, write_drawings, write_report, write_why,
 };
+use line_answers::{Lines, eval_report, line_report};
+use path_lists::{
+    InnerListFault, ListEntry, WantedFile, file_of_entry, file_of_word, inner_files, list_entries,
+};
+use report_answers::{PageRequest, page_report};
+use session_run::{NoGate, session_heard};
 use std::alloc::{AllocError, Global};
 use std::fmt::Display;
 use std::fs::File;
@@ -19,6 +25,7 @@ use std::rt::{Clock, Env, Files};
 use std::sync::Wait;
 use std::thread::Threads;
 use std::{env, io};
+use watched_files::watch_files;
 
 fn tell_fault<R: Eprint>(rt: &R, fault: SessionFault) -> RunEnd {
     let _ = rt.eprintln(format_args!("fault: {fault}"));

@@ -1,4 +1,5 @@
-//! The form of the program: files of the system, standard input and standard output.
+//! Watching the host's files: models over some tests, by `watch_run::watch`. Changes are found by
+//! looking at the files (`watch_polls`), or named by standard input.
 
 ghost use Rattle.std.specs.Prelude.{◌≡◌, IfOk};
 
