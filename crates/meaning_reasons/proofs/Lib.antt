@@ -1,3 +1,10 @@
+pub mod Arrows
+pub mod Boxes
+pub mod Values
+pub mod Graphs
+pub mod Drawings
+pub mod Pictures
+pub mod DrawingsAnswered
 pub mod At
 pub mod Meeting
 pub mod Inputs

@@ -1,3 +1,6 @@
+pub mod Graphs
+pub mod Drawings
+pub mod DrawingAnswers
 pub mod Told
 pub mod Findings
 pub mod Answers

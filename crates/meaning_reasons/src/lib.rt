@@ -1,13 +1,16 @@
-//! What `why` says, by the definitions of `meaning`: how many executions of a test a model keeps
-//! in which the condition holds, and of each other one the first check that is not met, with what
-//! shows it. Read in specs/: Told, Findings, Answers.
+//! What `why` and `draw` write, by the definitions of `meaning`. Of `why`: how many executions of a
+//! test a model keeps in which the condition holds, and of each other one the first check that it
+//! does not meet, with what shows it. Of `draw`: which executions of a test are drawn under a
+//! model, their events, the arrows between them, and why the model does not keep an execution. Read
+//! in specs/: Told, Findings, Answers; then Graphs, Drawings, DrawingAnswers.
 #![tactic(auto)]
 
 ghost use Rattle.std.specs.Prelude.{IfOk, IfErr};
 ghost use Rattle.command_answers.specs.Answer.{IsEvalRefusal};
 ghost use Rattle.meaning_reasons.specs.Answers.{WhysAreSaid, WhysAgree, IsWhySaidOf, ReportsAreSaid};
+ghost use Rattle.meaning_reasons.specs.DrawingAnswers.{DrawingsAreSaid, IsPictureSaidOf, PicturesAreSaid};
 
-use command_answers::{Asked, EvalFault};
+use command_answers::{Asked, DrawRequest, EvalFault};
 use std::alloc::Global;
 
 /// What `why` says of a test under a model is so by the definitions.
@@ -36,4 +39,27 @@ pub fn why_report(
 {
     whys_are_said();
     command_answers::why_report(alloc, asked, model, test)
+}
+
+/// What `draw` writes of a test under a model is so by the definitions.
+pub fn drawings_are_said()
+    ensures said { DrawingsAreSaid }
+    ensures pictures { PicturesAreSaid }
+{}
+
+/// Does what `command_answers::draw_report` does: the report is so by the definitions. Errors:
+/// those of `eval`.
+pub fn draw_report(
+    alloc: Global,
+    model: &[u8],
+    test: &[u8],
+    request: DrawRequest,
+) -> Result<Vec<u8>, EvalFault>
+    // A report is what is drawn of the test and the model that the texts mean.
+    ensures report { IfOk result (λ text. IsPictureSaidOf request model.now test.now text.items) }
+    // A refusal is that of the first text that means nothing.
+    ensures refusal { IfErr result (IsEvalRefusal model.now test.now) }
+{
+    drawings_are_said();
+    command_answers::draw_report(alloc, model, test, request)
 }

@@ -21,10 +21,10 @@ use Rattle.meaning_faults.proofs.Models.{no_fault_is_none}
 use Rattle.meaning_refusals.proofs.Finishing.{is_accepted}
 use Rattle.meaning_words.specs.Words.{IsTestOfWords}
 use Rattle.meaning_reasons.proofs.Whys.{result_said}
-use Rattle.meaning_drawings.specs.Answers.{DrawingsAreSaid}
-use Rattle.meaning_drawings.specs.Drawings.{AreDrawingsSaid, IsPictureSaid, DrawsFault, DrawsRefusal, DrawsGraphs}
-use Rattle.meaning_drawings.proofs.Drawings.{drawings_said}
-use Rattle.meaning_drawings.proofs.Values.{all_named}
+use Rattle.meaning_reasons.specs.DrawingAnswers.{DrawingsAreSaid}
+use Rattle.meaning_reasons.specs.Drawings.{AreDrawingsSaid, IsPictureSaid, DrawsFault, DrawsRefusal, DrawsGraphs}
+use Rattle.meaning_reasons.proofs.Drawings.{drawings_said}
+use Rattle.meaning_reasons.proofs.Values.{all_named}
 
 module _ (request : DrawRequest) (test : Test) (words : IsTestOfWords (content_of test))
     (model : ModelText) where

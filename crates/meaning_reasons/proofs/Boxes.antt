@@ -27,7 +27,7 @@ use Rattle.meaning_states.proofs.Listing.{IsPair, names_of_pair}
 use Rattle.meaning_reasons.specs.Told as told
 use Rattle.meaning_reasons.specs.Told.{IsEventTold, IsOfEvent}
 use Rattle.meaning_reasons.proofs.Events.{events_are_same}
-use Rattle.meaning_drawings.specs.Graphs.{IsEventDrawn, IsNumberDrawn, IsNumberDrawnOf, AreBoxesSaid, IsClusterSaid}
+use Rattle.meaning_reasons.specs.Graphs.{IsEventDrawn, IsNumberDrawn, IsNumberDrawnOf, AreBoxesSaid, IsClusterSaid}
 
 module _ (t : Test) (s : Space) (lists : ListsExecutions t s) (k : ℕ) (y : Execution)
     (pair : IsPair t s lists k y) where

@@ -45,10 +45,10 @@ use Rattle.meaning_states.proofs.Listing.{IsPair, all_named, pair_at}
 use Rattle.meaning_words.specs.Words.{IsTestOfWords}
 use Rattle.meaning_reasons.proofs.Checks.{map_at}
 use Rattle.meaning_reasons.proofs.Found.{AreChosen, none_chosen, one_left, one_more, all_chosen, executions, long, twice, listed, found_at, condition_alike}
-use Rattle.meaning_drawings.specs.Graphs.{IsFateSaid, IsGraphSaid}
-use Rattle.meaning_drawings.specs.Drawings.{IsWanted, IsGraphOf, AreDrawingsSaid}
-use Rattle.meaning_drawings.proofs.Graphs.{graph_said, refused_out, kept_in}
-use Rattle.meaning_drawings.proofs.Values.{AreNamed}
+use Rattle.meaning_reasons.specs.Graphs.{IsFateSaid, IsGraphSaid}
+use Rattle.meaning_reasons.specs.Drawings.{IsWanted, IsGraphOf, AreDrawingsSaid}
+use Rattle.meaning_reasons.proofs.Graphs.{graph_said, refused_out, kept_in}
+use Rattle.meaning_reasons.proofs.Values.{AreNamed}
 
 both_true : (a b : Bool) (P Q : Type 0) → IsTrue a ↔ P → IsTrue b ↔ Q → IsTrue (a && b) ↔ (P × Q)
 both_true true true P Q h g = (λ e. (h.0 refl, g.0 refl), λ p. refl)

@@ -23,7 +23,7 @@ use Rattle.meaning.specs.Evaluates.{Evaluates, Faulty, Refused}
 use Rattle.meaning_refusals.specs.Refusals.{refusal_by_name}
 use Rattle.meaning_outcomes.specs.Outcomes.{fault_by_name}
 use Rattle.meaning_reasons.specs.Findings.{IsPositive, IsForbidden}
-use Rattle.meaning_drawings.specs.Graphs.{IsGraphSaid}
+use Rattle.meaning_reasons.specs.Graphs.{IsGraphSaid}
 
 -- The execution is asked for: the condition holds in it, and the model keeps it or does not; or any.
 abbrev pub IsWanted : Wanted → Content → List Clause → Execution → Type 0

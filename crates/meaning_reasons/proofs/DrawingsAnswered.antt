@@ -8,8 +8,8 @@ use Rattle.command_answers.specs.declared.fault.EvalFault.{EvalFault}
 use Rattle.command_answers.specs.Pictures.{IsPictureOf}
 use Rattle.why_forbidden.specs.declared.drawing.DrawRequest.{DrawRequest}
 use Rattle.meaning_texts.proofs.Reading.{all_read}
-use Rattle.meaning_drawings.specs.Answers.{IsPictureSaidOf, PicturesAreSaid}
-use Rattle.meaning_drawings.proofs.Pictures as law
+use Rattle.meaning_reasons.specs.DrawingAnswers.{IsPictureSaidOf, PicturesAreSaid}
+use Rattle.meaning_reasons.proofs.Pictures as law
 
 pub pictures_said : PicturesAreSaid
 pictures_said request model test text h = record {

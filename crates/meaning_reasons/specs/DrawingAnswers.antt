@@ -13,7 +13,7 @@ use Rattle.command_answers.specs.Pictures.{IsPictureOf}
 use Rattle.why_forbidden.specs.declared.drawing.DrawRequest.{DrawRequest}
 use Rattle.why_forbidden.specs.Drawings.{IsDrawn}
 use Rattle.meaning_words.specs.Words.{IsTestOfWords}
-use Rattle.meaning_drawings.specs.Drawings.{IsPictureSaid}
+use Rattle.meaning_reasons.specs.Drawings.{IsPictureSaid}
 
 -- What `draw` writes of a test that writes numbers of 32 bits is so by the definitions.
 abbrev pub DrawingsAreSaid : Type 0

@@ -51,7 +51,7 @@ use Rattle.meaning_reasons.specs.Told.{IsPair, names_seen}
 use Rattle.meaning_reasons.proofs.Carried.{event_at, event_is, term_pair, term_pair_back, pair_there}
 use Rattle.meaning_reasons.proofs.Checks.{IsMeantAt, code_meant, from_map}
 use Rattle.meaning_reasons.proofs.Coded.{IsMeantBy, pair_below, column_pairs}
-use Rattle.meaning_drawings.specs.Graphs.{ShownPairs}
+use Rattle.meaning_reasons.specs.Graphs.{ShownPairs}
 
 -- ---- definitions alone
 

@@ -45,10 +45,10 @@ use Rattle.meaning_states.proofs.Listing.{IsPair, all_named, pair_at, names_of_p
 use Rattle.meaning_reasons.specs.Told.{IsReasonSaid}
 use Rattle.meaning_reasons.proofs.Meeting.{one_met}
 use Rattle.meaning_reasons.proofs.Reasons.{kept_by_name, first_unmet, reason_said}
-use Rattle.meaning_drawings.specs.Graphs.{AreArrowsOf, AreArrowsShown, IsFateSaid, Kept, Forbidden, IsGraphSaid}
-use Rattle.meaning_drawings.proofs.Arrows.{edges_same}
-use Rattle.meaning_drawings.proofs.Boxes.{drawn_alike, boxes_said, cluster_said, language_alike}
-use Rattle.meaning_drawings.proofs.Values.{AreNamed, shown_alike}
+use Rattle.meaning_reasons.specs.Graphs.{AreArrowsOf, AreArrowsShown, IsFateSaid, Kept, Forbidden, IsGraphSaid}
+use Rattle.meaning_reasons.proofs.Arrows.{edges_same}
+use Rattle.meaning_reasons.proofs.Boxes.{drawn_alike, boxes_said, cluster_said, language_alike}
+use Rattle.meaning_reasons.proofs.Values.{AreNamed, shown_alike}
 
 -- three lists side by side
 zipped : {X Y Z : Type 0} (P : X → Y → Type 0) (Q : Y → Z → Type 0) (R : X → Z → Type 0)
