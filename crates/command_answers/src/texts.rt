@@ -14,9 +14,9 @@ ghost use Rattle.command_answers.specs.Whys.{IsWhyOf};
 use crate::fault::EvalFault;
 use cat_syntax::{CatFault, ModelText, read_model};
 use command_line::{Drawn, Pictures};
-use cut_spaces::eval_cell;
 use litmus_ppc::{LitmusFault, Test, read_test};
 use outcome_texts::outcome_log;
+use session_answers::eval_cell;
 use std::alloc::{AllocError, Global};
 use why_forbidden::{Asked, DrawRequest, Format, Wanted, draw, why};
 

@@ -11,9 +11,9 @@ ghost use Rattle.line_answers.specs.Evaluations.{IsOutcomeText, IsEvalLine, IsEv
 use crate::refusal::{refusal_of, rule_text};
 use cat_syntax::{CatFault, ModelText, read_model};
 use command_answers::{Report, TextFile, model_stem, refusal_lines};
-use cut_spaces::eval_cell;
 use litmus_ppc::{LitmusFault, Test, read_test};
 use outcome_lines::{Subject, put_eval_json, put_refused_json};
+use session_answers::eval_cell;
 use std::alloc::{AllocError, Global};
 
 fn refused_line(

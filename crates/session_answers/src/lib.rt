@@ -7,6 +7,7 @@ mod outcomes;
 mod progress;
 mod rows;
 
+pub use cut_spaces::eval_cell;
 pub use outcomes::{outcomes_of, tell_rows, test_outcomes};
 pub use progress::{NoProgress, Progress, ProgressListener};
 pub use rows::{TestOutcomes, test_pairs, test_rows};
