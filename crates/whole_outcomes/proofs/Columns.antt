@@ -17,9 +17,9 @@ use Rattle.cat_eval.specs.Values.{AnswersOf}
 use Rattle.from_scratch.specs.Answers.{AreNamed, AreLeast, LeastOf, AreItemColumns, HasAnswers}
 use Rattle.order_growth.specs.Within.{AreBodyExpressions}
 use Rattle.coded_items.specs.Coded.{IsOfExpressions, AreOfExpressions}
-use Rattle.whole_columns.specs.Whole.{AreAmong, AreInputsKept, AreColumnsKept, AreAnswersKept, IsColumnBelow, AreBelowAll}
-use Rattle.whole_columns.proofs.Below.{columns_below}
-use Rattle.whole_columns.proofs.Wholes.{columns_whole, answers_whole}
+use Rattle.whole_outcomes.specs.Whole.{AreAmong, AreInputsKept, AreColumnsKept, AreAnswersKept, IsColumnBelow, AreBelowAll}
+use Rattle.whole_outcomes.proofs.Below.{columns_below}
+use Rattle.whole_outcomes.proofs.Wholes.{columns_whole, answers_whole}
 
 no_column : (cs : List Column) (p : ℕ) (c : Column) → cs ≡ [] → slice_get cs p ≡ Some c → ⊥
 no_column cs p c none at =

@@ -11,12 +11,12 @@ use Rattle.candidates.specs.declared.candidate.Space.{Space}
 use Rattle.candidates.specs.Space.{Candidate, Shown, candidates_in, shown_of, shown_in}
 use Rattle.verdict.specs.Evaluated.{IsEvaluation}
 use Rattle.verdict.specs.Kept.{Flag, holds_at, is_kept, kept}
-use Rattle.fewer_executions.specs.Fewer.{AgreeAt, FlagsAgreeAt, flag_names, AreFewer}
-use Rattle.fewer_executions.proofs.Counted as counting
+use Rattle.whole_outcomes.specs.Fewer.{AgreeAt, FlagsAgreeAt, flag_names, AreFewer}
+use Rattle.whole_outcomes.proofs.Counted as counting
 use Rattle.from_scratch.specs.Answers.{AreSaid}
 use Rattle.from_scratch.proofs.Ordered.{all_reverse}
 use Rattle.coded_items.specs.Coded.{IsOfExpressions, AreOfExpressions}
-use Rattle.whole_columns.specs.Whole.{AreAlike, AreAmong, AreAnswersKept}
+use Rattle.whole_outcomes.specs.Whole.{AreAlike, AreAmong, AreAnswersKept}
 use Rattle.whole_outcomes.specs.Cut.{IsRefusedAt, IsCut}
 use Rattle.whole_outcomes.specs.Laws.{EvaluationOverCut}
 use Rattle.whole_outcomes.proofs.Leaving.{indexes_of, as_many, stands, with_indexes, mapped}

@@ -1,4 +1,4 @@
--- What the law of this crate says. Read `Cut` first.
+-- A cut leaves the evaluation the same. Read `Cut` first.
 use Rattle.std.specs.Prelude.{◌≡◌, List, ◌∷◌, ◌++◌, None, reverse}
 use Rattle.text_values.specs.declared.test.Test.{Test}
 use Rattle.binding_graph.specs.declared.resolved.CheckCode.{CheckCode}

@@ -1,2 +1,10 @@
+pub mod ColumnLaws
 pub mod Cut
+pub mod Fewer
+pub mod FewerLaws
 pub mod Laws
+pub mod NameLaws
+pub mod RelationLaws
+pub mod ValueLaws
+pub mod Values
+pub mod Whole

@@ -1,2 +1,0 @@
-pub mod Fewer
-pub mod Laws

@@ -1,5 +1,0 @@
-use Rattle.whole_columns.proofs.Below.{columns_below}
-use Rattle.whole_columns.proofs.columns_are_below.Goals as goal
-
-pub returns : goal.returns
-returns c = columns_below c.args.recursive c.args.bodies.now

@@ -1,5 +1,0 @@
-use Rattle.whole_columns.proofs.Wholes.{answers_whole}
-use Rattle.whole_columns.proofs.whole_answers_exist.Goals as goal
-
-pub returns : goal.returns
-returns c = answers_whole c.args.check.now

@@ -1,5 +1,0 @@
-use Rattle.whole_columns.proofs.Wholes.{columns_whole}
-use Rattle.whole_columns.proofs.whole_columns_exist.Goals as goal
-
-pub returns : goal.returns
-returns c = columns_whole c.args.recursive c.args.bodies.now
