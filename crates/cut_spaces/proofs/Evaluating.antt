@@ -26,8 +26,8 @@ use Rattle.from_scratch.specs.Cell.{IsSaidFromSome, IsEvaluationBy, IsEvaluation
 use Rattle.from_scratch.specs.FromScratch.{bare_items, IsFaultless, AreItemsOf, IsResultOf, IsFromScratch}
 use Rattle.from_scratch.proofs.Ordered.{resolved_ordered}
 use Rattle.from_scratch.proofs.Rising.{resolved_rising}
-use Rattle.coded_items.specs.Coded.{IsOfExpressions, AreOfExpressions}
-use Rattle.coded_items.proofs.Coding.{coded_items}
+use Rattle.order_growth.specs.Coded.{IsOfExpressions, AreOfExpressions}
+use Rattle.order_growth.proofs.Coding.{coded_items}
 use Rattle.whole_outcomes.proofs.Outcomes.{evaluation_kept}
 use Rattle.cut_spaces.specs.Spaces.{IsEvaluable}
 use Rattle.cut_spaces.proofs.Spaces.{is_cut, whole_of}

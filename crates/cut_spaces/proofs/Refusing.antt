@@ -20,7 +20,7 @@ use Rattle.from_scratch.specs.Answers.{AreNamed, AreItemColumns}
 use Rattle.order_growth.specs.Within.{IsWithin, AreInputsGrown, HasExpression}
 use Rattle.order_growth.proofs.Refused as checks
 use Rattle.order_growth.proofs.Rows.{row_within}
-use Rattle.coded_items.specs.Coded.{IsOfExpressions}
+use Rattle.order_growth.specs.Coded.{IsOfExpressions}
 use Rattle.whole_outcomes.specs.Cut.{IsRefusedAt}
 use Rattle.cut_spaces.specs.Rows.{IsTried, IsRefusedByRow}
 

@@ -16,7 +16,7 @@ use Rattle.candidates.specs.declared.space_parts.SpaceParts.{SpaceParts}
 use Rattle.candidates.specs.Parts.{IsWholeOf}
 use Rattle.candidates.specs.Space.{Candidate, candidates_in, shown_of, registers_at}
 use Rattle.kept_orders.specs.Sublists.{LeavesOut, nothing_left, stays, is_left}
-use Rattle.coded_items.specs.Coded.{IsOfExpressions}
+use Rattle.order_growth.specs.Coded.{IsOfExpressions}
 use Rattle.whole_outcomes.specs.Cut.{IsRefusedAt, IsCut}
 use Rattle.whole_outcomes.proofs.Leaving.{indexes_of, with_indexes, changed}
 use Rattle.cut_spaces.specs.Rows.{IsTried, IsRefusedByRow}

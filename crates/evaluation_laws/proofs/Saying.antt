@@ -32,7 +32,7 @@ use Rattle.cat_eval_laws.specs.Laws.{AreSameItems}
 use Rattle.cat_eval_laws.proofs.Keeping.{columns_kept, answers_kept, later}
 use Rattle.evaluation_laws.specs.Laws.{IsCoded, HasOneOutcomeFromScratch}
 use Rattle.evaluation_laws.proofs.Sole.{one_columns, one_answers}
-use Rattle.coded_items.proofs.Coding.{coded_items}
+use Rattle.order_growth.proofs.Coding.{coded_items}
 use Rattle.evaluation_laws.proofs.Resolving.{one_resolution}
 use Rattle.from_scratch.proofs.Ordered.{all_reverse}
 

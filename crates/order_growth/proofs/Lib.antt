@@ -1,3 +1,4 @@
+pub mod Coding
 pub mod Least
 pub mod Naming
 pub mod Refused

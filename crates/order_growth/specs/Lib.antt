@@ -1,3 +1,4 @@
+pub mod Coded
 pub mod Growth
 pub mod Laws
 pub mod Stacks

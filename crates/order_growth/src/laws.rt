@@ -1,10 +1,12 @@
-//! Laws of growths. Read `specs/Laws` first.
+//! Laws of growths, and of items that are expressions. Read `specs/Laws` and `specs/Coded` first.
 
 ghost use Rattle.candidates.specs.Space.{Candidate};
+ghost use Rattle.order_growth.specs.Coded.{AreItemsExpressions};
 ghost use Rattle.order_growth.specs.Laws.{PredefinedNamesGrow, RowsLieWithin, ColumnsGrow, RefusalsStay};
 
 use binding_graph::{Body, CheckCode};
 use candidates::Combination;
+use text_values::ModelText;
 
 /// A predefined name stays, or grows where it is made of reads-from or coherence.
 pub fn predefined_names_grow()
@@ -31,4 +33,11 @@ pub fn refusals_stay(check: &CheckCode)
     ensures { RefusalsStay check.now }
 {
     let _check = check;
+}
+
+/// The bodies and checks of a model without fault are expressions.
+pub fn items_are_expressions(model: &ModelText)
+    ensures { AreItemsExpressions model.now }
+{
+    let _model = model;
 }

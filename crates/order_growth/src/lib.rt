@@ -1,7 +1,8 @@
 //! How the values of a model change from a candidate to one that has more pairs of reads-from and
-//! of coherence: what a check refuses in the first it refuses in the second.
+//! of coherence: what a check refuses in the first it refuses in the second. It is told of
+//! expressions, and those are the items of a model without fault.
 //!
-//! Read specs/Growth first, then specs/Within and specs/Laws, the laws (`laws`).
+//! Read specs/Growth first, then specs/Within, specs/Laws and specs/Coded, the laws (`laws`).
 #![tactic(auto)]
 
 mod growth;

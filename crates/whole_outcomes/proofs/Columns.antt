@@ -16,7 +16,7 @@ use Rattle.cat_eval.specs.Named.{InputEvents, InputPairs}
 use Rattle.cat_eval.specs.Values.{AnswersOf}
 use Rattle.from_scratch.specs.Answers.{AreNamed, AreLeast, LeastOf, AreItemColumns, HasAnswers}
 use Rattle.order_growth.specs.Within.{AreBodyExpressions}
-use Rattle.coded_items.specs.Coded.{IsOfExpressions, AreOfExpressions}
+use Rattle.order_growth.specs.Coded.{IsOfExpressions, AreOfExpressions}
 use Rattle.whole_outcomes.specs.Whole.{AreAmong, AreInputsKept, AreColumnsKept, AreAnswersKept, IsColumnBelow, AreBelowAll}
 use Rattle.whole_outcomes.proofs.Below.{columns_below}
 use Rattle.whole_outcomes.proofs.Wholes.{columns_whole, answers_whole}

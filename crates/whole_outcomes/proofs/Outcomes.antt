@@ -15,7 +15,7 @@ use Rattle.whole_outcomes.specs.Fewer.{AgreeAt, FlagsAgreeAt, flag_names, AreFew
 use Rattle.whole_outcomes.proofs.Counted as counting
 use Rattle.from_scratch.specs.Answers.{AreSaid}
 use Rattle.from_scratch.proofs.Ordered.{all_reverse}
-use Rattle.coded_items.specs.Coded.{IsOfExpressions, AreOfExpressions}
+use Rattle.order_growth.specs.Coded.{IsOfExpressions, AreOfExpressions}
 use Rattle.whole_outcomes.specs.Whole.{AreAlike, AreAmong, AreAnswersKept}
 use Rattle.whole_outcomes.specs.Cut.{IsRefusedAt, IsCut}
 use Rattle.whole_outcomes.specs.Laws.{EvaluationOverCut}

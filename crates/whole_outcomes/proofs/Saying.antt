@@ -11,7 +11,7 @@ use Rattle.candidates.specs.declared.candidate.Space.{Space}
 use Rattle.candidates.specs.Space.{candidates_in}
 use Rattle.verdict.specs.Kept.{Flag}
 use Rattle.from_scratch.specs.Answers.{AreItemColumns, HasAnswers, IsSaidAs, IsSaidBy, AreSaid}
-use Rattle.coded_items.specs.Coded.{AreOfExpressions}
+use Rattle.order_growth.specs.Coded.{AreOfExpressions}
 use Rattle.whole_outcomes.specs.Whole.{AreAmong, AreAnswersKept}
 use Rattle.whole_outcomes.proofs.Columns.{answers_over_all}
 

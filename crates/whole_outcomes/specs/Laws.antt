@@ -7,7 +7,7 @@ use Rattle.binding_graph.specs.declared.resolved.Role.TheVariants.{Check}
 use Rattle.candidates.specs.declared.candidate.Space.{Space}
 use Rattle.verdict.specs.declared.answer.Evaluation.{Evaluation}
 use Rattle.from_scratch.specs.Cell.{IsEvaluationBy}
-use Rattle.coded_items.specs.Coded.{AreOfExpressions}
+use Rattle.order_growth.specs.Coded.{AreOfExpressions}
 use Rattle.whole_outcomes.specs.Cut.{IsCut}
 
 -- One of the items is a check that is no flag. An evaluation over the candidates without some that

@@ -1,4 +1,4 @@
-use Rattle.coded_items.proofs.Coding.{coded_items}
+use Rattle.order_growth.proofs.Coding.{coded_items}
 use Rattle.evaluation_laws.proofs.items_are_coded.Goals as goal
 
 pub returns : goal.returns

@@ -28,7 +28,7 @@ use Rattle.from_scratch.specs.Answers.{AreRisingBodies, IsRisingRole}
 use Rattle.from_scratch.specs.FromScratch.{bare_items}
 use Rattle.from_scratch.proofs.Rising.{resolved_rising}
 use Rattle.order_growth.specs.Within.{HasExpression, AreBodyExpressions}
-use Rattle.coded_items.specs.Coded.{IsOfExpressions, AreItemsExpressions}
+use Rattle.order_growth.specs.Coded.{IsOfExpressions, AreItemsExpressions}
 
 tree_of_kind : (k : Kind) (steps : List Step) (s : SetTree) (r : RelTree) → steps ≡ steps_of k s r
     → HasExpression k steps

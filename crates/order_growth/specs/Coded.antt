@@ -1,4 +1,4 @@
--- Items whose steps are those of expressions. Read `Within` of order_growth first.
+-- Items whose steps are those of expressions. Read `Within` first.
 use Rattle.std.specs.Prelude.{List}
 use Rattle.std.specs.List.{AllByRecursion}
 use Rattle.text_values.specs.declared.model.ModelText.{ModelText}
