@@ -57,7 +57,7 @@ use Rattle.meaning_items.specs.Slots.{candidate_value}
 use Rattle.meaning_items.proofs.Naming.{values_named}
 use Rattle.meaning_items.proofs.Bodies.{used_as, known_kind}
 use Rattle.meaning_items.proofs.State.{IsState}
-use Rattle.meaning_events.proofs.Lists.{at_right}
+use Rattle.meaning_executions.proofs.Lists.{at_right}
 use Rattle.meaning_reasons.proofs.At.{IsAt, at_model}
 use Rattle.meaning_reasons.proofs.Coded.{IsMeantBy, is_met, is_unmet}
 use Rattle.meaning_reasons.proofs.Inputs.{inputs_named}

@@ -59,8 +59,8 @@ use Rattle.meaning_terms.specs.Behind.{outer_bound}
 use Rattle.meaning_terms.specs.Laws.{AreFaultless}
 use Rattle.meaning_items.specs.Slots.{candidate_value}
 use Rattle.meaning_items.proofs.Growing.{columns_below}
-use Rattle.meaning_names.specs.Names.{AreNamesMeant}
-use Rattle.meaning_events.proofs.Lists.{at_right, member}
+use Rattle.meaning_executions.specs.Names.{AreNamesMeant}
+use Rattle.meaning_executions.proofs.Lists.{at_right, member}
 use Rattle.meaning_reasons.specs.Told as told
 use Rattle.meaning_reasons.specs.Told.{BindsPair, NameRelates, ByLanguage, ByItem, IsLabel, OneName, TwoNames, names_seen}
 use Rattle.meaning_reasons.proofs.At.{IsAt, at_model}
