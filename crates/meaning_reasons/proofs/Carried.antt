@@ -13,7 +13,7 @@ use Rattle.meaning.specs.Executions.{Event, Execution, IsEvent}
 use Rattle.meaning.specs.Predefined.{EventsOf, PairsOf, predefined_names}
 use Rattle.meaning.specs.Cat.{ASet, ARelation, ToMeaning, Names, HasPair, IsChosen, Least, choice_of, meaning_of, names_after, with_group, IsMet, AreMet}
 use Rattle.meaning.specs.Evaluates.{outermost, predefined_bound}
-use Rattle.meaning_terms.specs.Behind.{bound_behind, outer_bound}
+use Rattle.meaning_items.specs.Behind.{bound_behind, outer_bound}
 use Rattle.meaning_items.specs.Slots.{candidate_value}
 use Rattle.meaning_executions.specs.Events.{IsNumbered, named_events}
 use Rattle.meaning_executions.proofs.Numbering.{named_once}

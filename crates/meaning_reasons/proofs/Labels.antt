@@ -55,8 +55,8 @@ use Rattle.why_forbidden.specs.Language.{IsOfLanguage}
 use Rattle.why_forbidden.specs.Steps.{StepLeg, pair_of}
 use Rattle.meaning.specs.Cat.{ARelation}
 use Rattle.meaning.specs.Executions.{Event, Execution}
-use Rattle.meaning_terms.specs.Behind.{outer_bound}
-use Rattle.meaning_terms.specs.Laws.{AreFaultless}
+use Rattle.meaning_items.specs.Behind.{outer_bound}
+use Rattle.meaning_items.specs.FunctionLaws.{AreFaultless}
 use Rattle.meaning_items.specs.Slots.{candidate_value}
 use Rattle.meaning_items.proofs.Growing.{columns_below}
 use Rattle.meaning_executions.specs.Names.{AreNamesMeant}

@@ -42,7 +42,7 @@ use Rattle.draw_relations.specs.Values.{IsLast, IsCheckValue, IsLastValue, IsSho
 use Rattle.meaning.specs.Sets.{Set}
 use Rattle.meaning.specs.Executions.{Event, Execution, IsEvent}
 use Rattle.meaning.specs.Cat.{Meaning, ASet, ARelation, Nothing, Names, HasPair, meaning_of, names_after}
-use Rattle.meaning_terms.specs.Behind.{bound_behind, outer_bound}
+use Rattle.meaning_items.specs.Behind.{bound_behind, outer_bound}
 use Rattle.meaning_items.specs.Slots.{candidate_value}
 use Rattle.meaning_executions.specs.Names.{AreNamesMeant}
 use Rattle.meaning_executions.specs.Events.{IsNumbered, named_events}

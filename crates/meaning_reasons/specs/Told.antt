@@ -18,7 +18,7 @@ use Rattle.meaning.specs.Executions.{Event, Execution, IsEvent}
 use Rattle.meaning.specs.Predefined.{PairsOf}
 use Rattle.meaning.specs.Cat.{Meaning, ASet, ARelation, Names, HasPair, HasProperty, Least, meaning_of, IsMet, AreMet}
 use Rattle.meaning.specs.Evaluates.{outermost}
-use Rattle.meaning_terms.specs.Behind.{bound_behind}
+use Rattle.meaning_items.specs.Behind.{bound_behind}
 use Rattle.meaning_executions.specs.Events.{IsNumbered, IsSameEvent, named_events}
 
 -- ---- events

@@ -12,7 +12,7 @@ use Rattle.meaning.specs.Executions.{Event, Execution, IsEvent}
 use Rattle.meaning.specs.Predefined.{EventsOf, PairsOf, predefined_names}
 use Rattle.meaning.specs.Cat.{ASet, ARelation, ToMeaning, Names, choice_of, names_after, IsMet}
 use Rattle.meaning.specs.Evaluates.{outermost, predefined_bound}
-use Rattle.meaning_terms.specs.Behind.{outer_bound}
+use Rattle.meaning_items.specs.Behind.{outer_bound}
 use Rattle.meaning_items.specs.Slots.{candidate_value}
 use Rattle.meaning_items.specs.Laws.{AreMeant}
 use Rattle.meaning_executions.specs.Events.{named_events}

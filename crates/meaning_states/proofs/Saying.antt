@@ -51,7 +51,7 @@ use Rattle.meaning.proofs.Counting.{here, behind, head_or_tail}
 use Rattle.meaning_executions.proofs.Lists.{as_long}
 use Rattle.meaning_executions.specs.Executions.{IsSameExecution}
 use Rattle.meaning_executions.proofs.Located.{numbered_are, rises}
-use Rattle.meaning_terms.specs.Laws.{AreFaultless}
+use Rattle.meaning_items.specs.FunctionLaws.{AreFaultless}
 use Rattle.meaning_items.proofs.Kept.{kept_are_met}
 use Rattle.meaning_states.proofs.Carrying.{met_alike}
 use Rattle.meaning_states.proofs.Listing.{IsPair, all_named, pair_at, names_of_pair}
