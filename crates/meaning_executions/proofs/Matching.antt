@@ -21,14 +21,14 @@ use Rattle.meaning.specs.Names.{locations}
 use Rattle.meaning.specs.Runs.{IsRun}
 use Rattle.meaning.specs.Domain.{InDomain}
 use Rattle.meaning.specs.Executions.{Event, Execution, Stores, AreRuns, IsEvent, IsExecution, IsOrder, MayRead, loads_in}
-use Rattle.meaning_runs.specs.Domain.{IsNumberedRun}
-use Rattle.meaning_events.specs.Events.{AreSameEvents, IsNumbered, IsSameEvent, named_events}
+use Rattle.meaning_executions.specs.Domain.{IsNumberedRun}
+use Rattle.meaning_executions.specs.Events.{AreSameEvents, IsNumbered, IsSameEvent, named_events}
 use Rattle.meaning_executions.specs.Executions.{IsSameExecution, IsProgramExecution, AreSameExecutions}
-use Rattle.meaning_events.proofs.Lists.{at_left, chosen, turned, each_second}
+use Rattle.meaning_executions.proofs.Lists.{at_left, chosen, turned, each_second}
 use Rattle.meaning_executions.proofs.Ordering.{all_of, orders_by_name, orders_by_number}
-use Rattle.meaning_events.proofs.Reading.{reads_by_name, reads_by_number}
+use Rattle.meaning_executions.proofs.Reading.{reads_by_name, reads_by_number}
 use Rattle.meaning_executions.proofs.Relating.{acyclic_named, acyclic_numbered}
-use Rattle.meaning_events.proofs.Knowing.{initial_are, correspond, number_at}
+use Rattle.meaning_executions.proofs.Knowing.{initial_are, correspond, number_at}
 use Rattle.meaning_executions.proofs.Threads.{threads_run, runs_of_threads, same_long, many_threads, runs_named, runs_numbered}
 use Rattle.meaning_executions.proofs.Sole.{one_named, one_numbered}
 

@@ -17,10 +17,10 @@ use Rattle.meaning.specs.Sets.{IsOnce}
 use Rattle.meaning.specs.Names.{Name, locations}
 use Rattle.meaning.specs.Executions.{Event, Initial, Execution, Stores, HasAction, IsStoreOf, IsOrder}
 use Rattle.meaning.proofs.Counting.{here, behind, head_or_tail}
-use Rattle.meaning_events.specs.Events.{AreSameEvents, IsNumbered, IsSameEvent}
-use Rattle.meaning_events.proofs.Lists.{carried, turned, at_left, at_right, left_there, right_there, index_of, member, StandsOnce, none_twice, one_more_once}
-use Rattle.meaning_events.proofs.Numbering.{names_once}
-use Rattle.meaning_events.proofs.Reading.{stores_by_name, stores_by_number}
+use Rattle.meaning_executions.specs.Events.{AreSameEvents, IsNumbered, IsSameEvent}
+use Rattle.meaning_executions.proofs.Lists.{carried, turned, at_left, at_right, left_there, right_there, index_of, member, StandsOnce, none_twice, one_more_once}
+use Rattle.meaning_executions.proofs.Numbering.{names_once}
+use Rattle.meaning_executions.proofs.Reading.{stores_by_name, stores_by_number}
 
 -- ---- Lists in which nothing stands twice
 

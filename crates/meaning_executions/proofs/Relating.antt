@@ -23,13 +23,13 @@ use Rattle.meaning.specs.Dependencies as depends
 use Rattle.meaning.specs.Dependencies.{Instructions}
 use Rattle.meaning.specs.Executions.{Event, Initial, Does, Execution, instructions_of, loads_in, ReadsFrom, Dependency, NeedOrReads}
 use Rattle.meaning.proofs.Counting.{here, behind, head_or_tail}
-use Rattle.meaning_runs.specs.Dependencies.{DependAlike}
-use Rattle.meaning_runs.proofs.Executed.{runs_depend_alike}
-use Rattle.meaning_events.specs.Events.{IsNumbered}
-use Rattle.meaning_events.specs.Runs as same
-use Rattle.meaning_events.specs.Runs.{IsSameThreadRun, AreSameThreadRuns}
-use Rattle.meaning_events.proofs.Pairing.{run_named, run_numbered}
-use Rattle.meaning_events.proofs.Lists.{at_left, at_right, StandsOnce}
+use Rattle.meaning_executions.specs.Dependencies.{DependAlike}
+use Rattle.meaning_executions.proofs.Executed.{runs_depend_alike}
+use Rattle.meaning_executions.specs.Events.{IsNumbered}
+use Rattle.meaning_executions.specs.ThreadRuns as same
+use Rattle.meaning_executions.specs.ThreadRuns.{IsSameThreadRun, AreSameThreadRuns}
+use Rattle.meaning_executions.proofs.Pairing.{run_named, run_numbered}
+use Rattle.meaning_executions.proofs.Lists.{at_left, at_right, StandsOnce}
 
 -- ---- Paths
 

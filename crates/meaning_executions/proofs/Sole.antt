@@ -19,23 +19,23 @@ use Rattle.meaning.specs.Machine.{Value, is_load}
 use Rattle.meaning.specs.Runs.{Instance, Run, IsRun, run_of, lines_of_thread, initial_state}
 use Rattle.meaning.specs.Domain.{InDomain}
 use Rattle.meaning.specs.Executions.{Event, Execution}
-use Rattle.meaning_runs.specs.Values as values
-use Rattle.meaning_runs.specs.Values.{IsSameValue, AreSameValues, AreOneToOne}
-use Rattle.meaning_runs.specs.Runs as runs
-use Rattle.meaning_runs.specs.Runs.{AreSameSteps, RunsAlike}
-use Rattle.meaning_runs.specs.Domain.{IsNumberedRun}
-use Rattle.meaning_runs.proofs.Located.{rises}
-use Rattle.meaning_runs.proofs.Machines.{apart, one_to_one, loading}
-use Rattle.meaning_runs.proofs.Starts.{runs_alike}
-use Rattle.meaning_runs.proofs.Rounds.{values_down, run_by_name}
-use Rattle.meaning_runs.proofs.Domains.{same_domain}
-use Rattle.meaning_events.specs.Events.{IsNumbered, named_events}
-use Rattle.meaning_events.specs.Runs.{IsSameThreadRun, AreSameThreadRuns}
+use Rattle.meaning_executions.specs.Values as values
+use Rattle.meaning_executions.specs.Values.{IsSameValue, AreSameValues, AreOneToOne}
+use Rattle.meaning_executions.specs.Runs as runs
+use Rattle.meaning_executions.specs.Runs.{AreSameSteps, RunsAlike}
+use Rattle.meaning_executions.specs.Domain.{IsNumberedRun}
+use Rattle.meaning_executions.proofs.Located.{rises}
+use Rattle.meaning_executions.proofs.Machines.{apart, one_to_one, loading}
+use Rattle.meaning_executions.proofs.Starts.{runs_alike}
+use Rattle.meaning_executions.proofs.Rounds.{values_down, run_by_name}
+use Rattle.meaning_executions.proofs.Domains.{same_domain}
+use Rattle.meaning_executions.specs.Events.{IsNumbered, named_events}
+use Rattle.meaning_executions.specs.ThreadRuns.{IsSameThreadRun, AreSameThreadRuns}
 use Rattle.meaning_executions.specs.Executions.{IsSameExecution}
-use Rattle.meaning_events.proofs.Lists.{turned, one_left}
-use Rattle.meaning_events.proofs.Taking.{loaded_values, thread_took}
-use Rattle.meaning_events.proofs.Numbering.{named_once}
-use Rattle.meaning_events.proofs.Pairing.{run_named, run_numbered}
+use Rattle.meaning_executions.proofs.Lists.{turned, one_left}
+use Rattle.meaning_executions.proofs.Taking.{loaded_values, thread_took}
+use Rattle.meaning_executions.proofs.Numbering.{named_once}
+use Rattle.meaning_executions.proofs.Pairing.{run_named, run_numbered}
 use Rattle.meaning_executions.proofs.Threads.{same_long}
 
 -- ---- Values

@@ -16,10 +16,10 @@ use Rattle.ppc_semantics.specs.Lowering.{IsProgram}
 use Rattle.candidates.proofs.Elements.{in_first, behind_first}
 use Rattle.meaning.specs.Runs.{Run, IsRun}
 use Rattle.meaning.specs.Domain.{InDomain}
-use Rattle.meaning_runs.specs.Domain.{IsNumberedRun, AreSameRuns}
-use Rattle.meaning_runs.proofs.Domains.{same_runs}
-use Rattle.meaning_events.specs.Runs.{AreSameThreadRuns, none, more}
-use Rattle.meaning_events.proofs.Lists.{at_right, as_long}
+use Rattle.meaning_executions.specs.Domain.{IsNumberedRun, AreSameRuns}
+use Rattle.meaning_executions.proofs.Domains.{same_runs}
+use Rattle.meaning_executions.specs.ThreadRuns.{AreSameThreadRuns, none, more}
+use Rattle.meaning_executions.proofs.Lists.{at_right, as_long}
 
 -- ---- The threads of a program
 

@@ -1,4 +1,4 @@
--- Executions by number and by name that are the same.
+-- Executions by number and by name that are the same. Read next: Refusals.
 use Rattle.std.specs.Prelude.{ℕ, suc, ◌≡◌, List, [], ◌∷◌, flat_map, Contains}
 use Rattle.std.specs.List.{AllZip}
 use Rattle.text_values.specs.TestValue.{Content}
@@ -11,9 +11,9 @@ use Rattle.candidates.specs.Executions as numbered
 use Rattle.meaning.specs.Names.{Name, locations}
 use Rattle.meaning.specs.Runs.{Run, lines_of_thread}
 use Rattle.meaning.specs.Executions.{Execution, IsExecution}
-use Rattle.meaning_runs.specs.Runs.{IsSameRun}
-use Rattle.meaning_events.specs.Runs.{AreSameThreadRuns}
-use Rattle.meaning_events.specs.Events.{IsNumbered, named_events}
+use Rattle.meaning_executions.specs.Runs.{IsSameRun}
+use Rattle.meaning_executions.specs.ThreadRuns.{AreSameThreadRuns}
+use Rattle.meaning_executions.specs.Events.{IsNumbered, named_events}
 
 -- The two are the same execution: they have the same runs, each load reads the same store, and the
 -- stores of each location are in the same order.

@@ -1,1 +1,13 @@
+pub mod Values
+pub mod Instructions
+pub mod Runs
+pub mod Domain
+pub mod Dependencies
+pub mod ThreadRuns
+pub mod Events
 pub mod Executions
+pub mod Refusals
+pub mod Counts
+pub mod Names
+pub mod Ends
+pub mod Satisfied

@@ -42,12 +42,12 @@ use Rattle.from_scratch.specs.Answers.{AreItemColumns, HasAnswers, IsSaidAs, IsS
 use Rattle.meaning.specs.Names.{Name}
 use Rattle.meaning.specs.Cat as cat
 use Rattle.meaning.specs.Cat.{ASet, ARelation, ToMeaning, Names, choice_of, meaning_of, NegatedIf, HasProperty, IsMet}
-use Rattle.meaning_terms.specs.Behind.{outer_bound}
-use Rattle.meaning_terms.proofs.Applying.{none_first}
-use Rattle.meaning_terms.proofs.Items.{outer_sound, no_first}
+use Rattle.meaning_items.specs.Behind.{outer_bound}
+use Rattle.meaning_items.proofs.Applying.{none_first}
+use Rattle.meaning_items.proofs.Items.{outer_sound, no_first}
 use Rattle.base_names.specs.Candidate.{SetIn, RelationIn}
 use Rattle.cat_eval.specs.declared.column.Column.{Column}
-use Rattle.meaning_cat.specs.Alike.{IsAs}
+use Rattle.meaning_items.specs.Alike.{IsAs}
 use Rattle.meaning_items.specs.Slots.{candidate_value, IsSlotMeant, AreSlotsMeant}
 use Rattle.meaning_items.specs.Laws.{AreMeant, AnswersAreMeant}
 use Rattle.meaning_items.proofs.Bodies.{used_as, known_kind}

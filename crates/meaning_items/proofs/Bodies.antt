@@ -34,10 +34,10 @@ use Rattle.cat_eval.specs.Values.{IsFor, IsMeaning}
 use Rattle.cat_eval.proofs.Codes.{code_leads}
 use Rattle.from_scratch.specs.Answers.{AreItemColumns, AreNamed as AreNamedColumns}
 use Rattle.meaning.specs.Cat.{Names, meaning_of}
-use Rattle.meaning_terms.specs.Formulas.{HasNames}
-use Rattle.meaning_terms.proofs.Items.{AreSound}
-use Rattle.meaning_cat.specs.Alike.{IsAs}
-use Rattle.meaning_cat.specs.Groups.{term_at}
+use Rattle.meaning_items.specs.Formulas.{HasNames}
+use Rattle.meaning_items.proofs.Items.{AreSound}
+use Rattle.meaning_items.specs.Alike.{IsAs}
+use Rattle.meaning_items.specs.Groups.{term_at}
 use Rattle.meaning_items.specs.Slots.{AreSlotsMeant}
 use Rattle.meaning_items.proofs.Naming.{AreNamedSenses, AreUsedNames, formula_named}
 use Rattle.meaning_items.proofs.Seen.{column_as, seen_as}

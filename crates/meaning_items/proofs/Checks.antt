@@ -15,8 +15,8 @@ use Rattle.cat_eval.specs.Meaning.{MeansSet, MeansRelation}
 use Rattle.cat_eval.specs.Named.{OwnPairs, WithOwn}
 use Rattle.cat_eval.specs.Values.{Unless, IsCheckAnswer}
 use Rattle.meaning.specs.Cat.{Meaning, ASet, ARelation, Nothing, HasProperty, NegatedIf}
-use Rattle.meaning_cat.specs.Alike.{IsAs}
-use Rattle.meaning_cat.proofs.Operators.{paths_same}
+use Rattle.meaning_items.specs.Alike.{IsAs}
+use Rattle.meaning_items.proofs.Operators.{paths_same}
 
 set_holds : (w : CheckWord) (m : Meaning ℕ) (T : ℕ → Type 0) (R : ℕ → ℕ → Type 0)
     → IsTrue (takes_body w kinds.OfSet) → IsAs kinds.OfSet m T R → HasProperty w m ↔ IsEmptySet T

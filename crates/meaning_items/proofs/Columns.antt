@@ -20,14 +20,14 @@ use Rattle.candidates.specs.declared.candidate.Space.{Space}
 use Rattle.candidates.specs.Space.{Candidate, candidates_in}
 use Rattle.cat_eval.specs.Executions.{events_of}
 use Rattle.base_names.specs.Candidate.{SetIn, RelationIn}
-use Rattle.meaning_cat.specs.Alike.{IsAs}
+use Rattle.meaning_items.specs.Alike.{IsAs}
 use Rattle.meaning_items.proofs.Growing.{slots_more}
 use Rattle.meaning.specs.Cat as cat
 use Rattle.meaning.specs.Cat.{ASet, ARelation, ToMeaning, Names, choice_of}
 use Rattle.meaning.specs.Names.{Name}
-use Rattle.meaning_terms.specs.Behind.{namings_behind, bound_behind, outer_bound}
-use Rattle.meaning_terms.proofs.Applying.{none_first}
-use Rattle.meaning_terms.proofs.Items.{outer_sound, no_first}
+use Rattle.meaning_items.specs.Behind.{namings_behind, bound_behind, outer_bound}
+use Rattle.meaning_items.proofs.Applying.{none_first}
+use Rattle.meaning_items.proofs.Items.{outer_sound, no_first}
 use Rattle.meaning_items.specs.Slots.{candidate_value, IsSlotMeant, AreSlotsMeant}
 use Rattle.meaning_items.specs.ColumnLaws.{ColumnsAreMeant}
 use Rattle.meaning_items.proofs.State.{IsState}

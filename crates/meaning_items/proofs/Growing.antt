@@ -17,11 +17,11 @@ use Rattle.cat_eval.specs.declared.column.Column.{Column}
 use Rattle.cat_eval.specs.Executions.{events_of}
 use Rattle.cat_eval.specs.Named.{ColumnEvents, ColumnPairs}
 use Rattle.from_scratch.specs.Answers.{AreItemColumns}
-use Rattle.meaning_cat.specs.Alike.{IsAs}
+use Rattle.meaning_items.specs.Alike.{IsAs}
 use Rattle.meaning.specs.Names.{Name}
 use Rattle.meaning.specs.Cat.{Meaning, Bound, Names, of_name}
-use Rattle.meaning_terms.specs.Bound.{value_at}
-use Rattle.meaning_terms.proofs.Slots.{names_more, older_values, latest_value}
+use Rattle.meaning_items.specs.Bound.{value_at}
+use Rattle.meaning_items.proofs.Slots.{names_more, older_values, latest_value}
 use Rattle.meaning_items.specs.Slots.{naming_in, IsSlotMeant, AreSlotsMeant}
 use Rattle.meaning_items.proofs.Naming.{naming_below, IsNamed, AreNamedSenses, AreUsedNames, AreNamedUsages}
 

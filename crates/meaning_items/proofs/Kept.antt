@@ -9,7 +9,7 @@ use Rattle.cat_eval.specs.Executions.{events_of}
 use Rattle.verdict.specs.Kept.{Flag, holds_at, is_kept}
 use Rattle.meaning.specs.Sets.{Set}
 use Rattle.meaning.specs.Cat.{Names, names_after, AreMet}
-use Rattle.meaning_terms.specs.Behind.{outer_bound}
+use Rattle.meaning_items.specs.Behind.{outer_bound}
 use Rattle.meaning_items.specs.Slots.{candidate_value}
 use Rattle.meaning_items.specs.Laws.{AreMeant, KeptAreMet}
 use Rattle.meaning_items.proofs.Answers.{answers_meant}

@@ -1,3 +1,13 @@
+pub mod Applying
+pub mod Slots
+pub mod Items
+pub mod Putting
+pub mod Operators
+pub mod Trees
+pub mod Terms
+pub mod Least
+pub mod Own
+pub mod TreeLaws
 pub mod Bodies
 pub mod Recursive
 pub mod State

@@ -21,9 +21,9 @@ use Rattle.binding_kinds.specs.Senses.{Sense, count_of}
 use Rattle.binding_graph.specs.Inputs.{index_of, with_used, with_binder, with_name, inputs_of}
 use Rattle.binding_graph.specs.Usages.{Usage, with_all_used, values_of, usage_at, usage_seen, with_meaning, with_values, with_values_among}
 use Rattle.meaning.specs.Names.{Name}
-use Rattle.meaning_terms.specs.Formulas.{HasNames}
+use Rattle.meaning_items.specs.Formulas.{HasNames}
 use Rattle.meaning_items.specs.Slots.{naming_in}
-use Rattle.meaning_terms.proofs.Slots.{formula_names}
+use Rattle.meaning_items.proofs.Slots.{formula_names}
 
 -- ---- the naming in a slot
 

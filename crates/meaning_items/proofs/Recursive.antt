@@ -36,14 +36,14 @@ use Rattle.cat_eval.specs.Rising.{AreCodes}
 use Rattle.cat_eval.specs.Values.{IsFor}
 use Rattle.from_scratch.specs.Answers.{AreItemColumns, AreNamed as AreNamedColumns}
 use Rattle.meaning.specs.Cat.{ARelation, Names, Least}
-use Rattle.meaning_terms.specs.Formulas.{HasNames}
-use Rattle.meaning_terms.specs.Bound.{value_at}
-use Rattle.meaning_terms.proofs.Items.{AreSound}
-use Rattle.meaning_terms.proofs.Slots.{names_more, names_both}
-use Rattle.meaning_cat.specs.Alike.{IsAs, HasSource, HasOuterSources}
-use Rattle.meaning_cat.specs.Groups.{name_at, term_at}
-use Rattle.meaning_cat.specs.Laws.{AreTrees}
-use Rattle.meaning_cat.proofs.Laws.{group_least}
+use Rattle.meaning_items.specs.Formulas.{HasNames}
+use Rattle.meaning_items.specs.Bound.{value_at}
+use Rattle.meaning_items.proofs.Items.{AreSound}
+use Rattle.meaning_items.proofs.Slots.{names_more, names_both}
+use Rattle.meaning_items.specs.Alike.{IsAs, HasSource, HasOuterSources}
+use Rattle.meaning_items.specs.Groups.{name_at, term_at}
+use Rattle.meaning_items.specs.TreeLaws.{AreTrees}
+use Rattle.meaning_items.proofs.TreeLaws.{group_least}
 use Rattle.meaning_items.specs.Slots.{naming_in, AreSlotsMeant}
 use Rattle.meaning_items.proofs.Bodies.{used_at, at_extends, at_covered, code_at, as_many_bodies, one_tree, column_at}
 use Rattle.meaning_items.proofs.Growing.{Grows, senses_grown}

@@ -36,13 +36,13 @@ use Rattle.cat_eval.specs.Named.{PairsFound, ColumnEvents, ColumnPairs, InputEve
 use Rattle.cat_eval.specs.Values.{IsFor, IsMeaning}
 use Rattle.from_scratch.specs.Answers.{AreItemColumns, IsNamed as IsNamedColumn, AreNamed as AreNamedColumns}
 use Rattle.meaning.specs.Cat.{Meaning, ASet, ARelation, Nothing, Names, meaning_of}
-use Rattle.meaning_terms.specs.Formulas.{HasNames}
-use Rattle.meaning_terms.specs.Bound.{value_at}
-use Rattle.meaning_terms.proofs.Items.{AreSound}
-use Rattle.meaning_terms.proofs.Slots.{names_more, names_both, formula_below}
-use Rattle.meaning_cat.specs.Alike.{IsAs, HasSource}
-use Rattle.meaning_cat.proofs.Own.{outer_pairs}
-use Rattle.meaning_cat.proofs.Terms.{term_as}
+use Rattle.meaning_items.specs.Formulas.{HasNames}
+use Rattle.meaning_items.specs.Bound.{value_at}
+use Rattle.meaning_items.proofs.Items.{AreSound}
+use Rattle.meaning_items.proofs.Slots.{names_more, names_both, formula_below}
+use Rattle.meaning_items.specs.Alike.{IsAs, HasSource}
+use Rattle.meaning_items.proofs.Own.{outer_pairs}
+use Rattle.meaning_items.proofs.Terms.{term_as}
 use Rattle.meaning_items.specs.Slots.{naming_in, IsInputMeant, IsSlotMeant, AreSlotsMeant}
 use Rattle.meaning_items.proofs.Naming.{IsNamed, IsUsedName, AreUsedNames, input_at}
 use Rattle.meaning_items.proofs.Used.{Extends, IsUsed, IsCovered}

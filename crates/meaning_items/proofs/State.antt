@@ -21,11 +21,11 @@ use Rattle.from_scratch.proofs.Ordered.{all_reverse}
 use Rattle.meaning.specs.Names.{Name}
 use Rattle.meaning.specs.Sets.{Relation}
 use Rattle.meaning.specs.Cat.{ARelation, Bound, ToMeaning, Names, meaning_of, with_group, with_bodies}
-use Rattle.meaning_terms.specs.Formulas.{HasNames}
-use Rattle.meaning_terms.specs.Bound.{value_at}
-use Rattle.meaning_terms.proofs.Items.{AreSound}
-use Rattle.meaning_terms.proofs.Slots.{names_more, names_both, formula_below}
-use Rattle.meaning_cat.specs.Groups.{name_at, term_at}
+use Rattle.meaning_items.specs.Formulas.{HasNames}
+use Rattle.meaning_items.specs.Bound.{value_at}
+use Rattle.meaning_items.proofs.Items.{AreSound}
+use Rattle.meaning_items.proofs.Slots.{names_more, names_both, formula_below}
+use Rattle.meaning_items.specs.Groups.{name_at, term_at}
 use Rattle.meaning_items.specs.Slots.{IsSlotMeant, AreSlotsMeant}
 use Rattle.meaning_items.proofs.Growing.{Grows, senses_grown, usages_grown, named_grown, used_grown, slots_more}
 use Rattle.meaning_items.proofs.Naming.{IsNamed, naming_more, AreNamedSenses, AreUsedNames, IsUsedName, AreNamedUsages, formula_named, values_named}

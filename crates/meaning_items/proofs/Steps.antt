@@ -35,11 +35,11 @@ use Rattle.from_scratch.specs.Answers.{AreItemColumns, HasColumns, LeastOf, AreL
 use Rattle.meaning.specs.Names.{Name}
 use Rattle.meaning.specs.Cat as cat
 use Rattle.meaning.specs.Cat.{Meaning, ARelation, Bound, ToFunction, Names, Least, meaning_of, with_arguments}
-use Rattle.meaning_terms.proofs.Applying.{none_first}
-use Rattle.meaning_terms.proofs.Items.{item_sound}
-use Rattle.meaning_cat.specs.Alike.{IsAs}
-use Rattle.meaning_cat.specs.Groups.{name_at, term_at}
-use Rattle.meaning_cat.proofs.Own.{AreFaultless, faultless_group}
+use Rattle.meaning_items.proofs.Applying.{none_first}
+use Rattle.meaning_items.proofs.Items.{item_sound}
+use Rattle.meaning_items.specs.Alike.{IsAs}
+use Rattle.meaning_items.specs.Groups.{name_at, term_at}
+use Rattle.meaning_items.proofs.Own.{AreFaultless, faultless_group}
 use Rattle.meaning_items.specs.Slots.{IsSlotMeant}
 use Rattle.meaning_items.proofs.Bodies.{plain_column}
 use Rattle.meaning_items.proofs.Growing.{Grows, senses_grown, usages_grown, columns_below, slots_later, slots_more}

@@ -20,9 +20,9 @@ use Rattle.binding_kinds.specs.Senses.{Sense, count_of}
 use Rattle.binding_graph.specs.Inputs.{index_of, with_used, with_binder, with_found}
 use Rattle.binding_graph.specs.Usages.{Usage, with_all_used, values_of, usage_at, usage_seen, with_meaning, with_values, with_values_among}
 use Rattle.meaning.specs.Names.{Name}
-use Rattle.meaning_terms.specs.Formulas.{HasNames}
-use Rattle.meaning_terms.proofs.Applying.{IsSeen, seen}
-use Rattle.meaning_terms.proofs.Slots.{names_more, AllHaveNames, filled_names}
+use Rattle.meaning_items.specs.Formulas.{HasNames}
+use Rattle.meaning_items.proofs.Applying.{IsSeen, seen}
+use Rattle.meaning_items.proofs.Slots.{names_more, AllHaveNames, filled_names}
 
 -- ---- more names are used
 

@@ -1,4 +1,4 @@
--- What the law of this crate says.
+-- What the law of columns says. Read next: Laws.
 use Rattle.std.specs.Prelude.{ℕ, ◌≡◌, ◌<◌, List, [], map, reverse, Some, slice_get}
 use Rattle.text_values.specs.declared.model.Item.{Item}
 use Rattle.binding_kinds.specs.Outermost.{outermost_names}
@@ -8,8 +8,8 @@ use Rattle.binding_graph.specs.Resolved.{AreResolved}
 use Rattle.candidates.specs.declared.candidate.Space.{Space}
 use Rattle.candidates.specs.Space.{Candidate, candidates_in}
 use Rattle.cat_eval.specs.Executions.{events_of}
-use Rattle.meaning_terms.specs.Behind.{namings_of, bound_of_items}
-use Rattle.meaning_terms.specs.Laws.{AreFaultless}
+use Rattle.meaning_items.specs.Behind.{namings_of, bound_of_items}
+use Rattle.meaning_items.specs.FunctionLaws.{AreFaultless}
 use Rattle.meaning_items.specs.Slots.{candidate_value, AreSlotsMeant}
 
 -- Behind the items of a model without fault each column of a name has, for the candidate of that

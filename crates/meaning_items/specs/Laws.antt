@@ -1,5 +1,5 @@
--- What the law of this crate says: the answers of the checks and the flags of a model are those that
--- the definitions give, candidate by candidate.
+-- What the laws of answers say: the answers of the checks and the flags of a model are those that the
+-- definitions give, candidate by candidate.
 use Rattle.std.specs.Prelude.{ℕ, ◌≡◌, ◌<◌, ◌↔◌, List, [], ◌∷◌, map, reverse, Bool, IsTrue, Some, slice_get}
 use Rattle.text_values.specs.declared.model.Item.{Item}
 use Rattle.text_values.specs.ModelValue.{Clause, Checking, Flagging}
@@ -15,8 +15,8 @@ use Rattle.verdict.specs.Kept.{Flag, holds_at, is_kept}
 use Rattle.from_scratch.specs.Answers.{AreSaid}
 use Rattle.meaning.specs.Sets.{Set}
 use Rattle.meaning.specs.Cat.{Names, names_after, IsMet, AreMet}
-use Rattle.meaning_terms.specs.Behind.{outer_bound}
-use Rattle.meaning_terms.specs.Laws.{AreFaultless}
+use Rattle.meaning_items.specs.Behind.{outer_bound}
+use Rattle.meaning_items.specs.FunctionLaws.{AreFaultless}
 use Rattle.meaning_items.specs.Slots.{candidate_value}
 
 -- The answers of the checks and the flags among the items, in the order of the text, are true for

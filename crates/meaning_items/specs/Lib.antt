@@ -1,3 +1,10 @@
-pub mod ColumnLaws
+pub mod Formulas
+pub mod Bound
+pub mod Behind
+pub mod FunctionLaws
+pub mod Alike
+pub mod Groups
+pub mod TreeLaws
 pub mod Slots
+pub mod ColumnLaws
 pub mod Laws

@@ -1,5 +1,5 @@
 -- What the names that an item sees stand for in a candidate: the columns have, for the candidate of
--- that number, what the definitions bind.
+-- that number, what the definitions bind. Read next: ColumnLaws.
 use Rattle.std.specs.Prelude.{ℕ, ◌≡◌, ◌<◌, List, [], ◌∷◌, length, nat_eq, if◌then◌else◌, Option, Some, None, slice_get}
 use Rattle.text_values.specs.declared.predefined.Predefined.{Predefined}
 use Rattle.text_values.specs.PredefinedNames.{is_set}
@@ -17,8 +17,8 @@ use Rattle.cat_eval.specs.Executions.{events_of}
 use Rattle.cat_eval.specs.Named.{ColumnEvents, ColumnPairs}
 use Rattle.from_scratch.specs.Answers.{AreItemColumns}
 use Rattle.meaning.specs.Cat.{Meaning, ASet, ARelation, Names, choice_of}
-use Rattle.meaning_terms.specs.Bound.{value_at}
-use Rattle.meaning_cat.specs.Alike.{IsAs}
+use Rattle.meaning_items.specs.Bound.{value_at}
+use Rattle.meaning_items.specs.Alike.{IsAs}
 
 -- the naming in a slot
 abbrev pub naming_in : List Naming → ℕ → Option Naming

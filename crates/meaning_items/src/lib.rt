@@ -1,9 +1,13 @@
-//! Laws of the items of a model: the columns of its names, and what its checks and flags answer
-//! over the candidates of a space, are what the definitions say. Read in specs/: Slots, after
-//! `Answers` of `from_scratch/specs` and `Cat` of `meaning/specs`; then ColumnLaws and Laws.
+//! Laws of the expressions and items of a model: what trees of the program mean, columns of names,
+//! and answers of checks and flags over the candidates of a space are what the definitions say.
+//! Read in specs/: Formulas, then each file names the next. Formulas: after `Cat` of
+//! `meaning/specs` and `Functions` of `binding_kinds/specs`. Alike: after `Meaning` and `Least` of
+//! `cat_eval/specs`. Slots: after `Answers` of `from_scratch/specs`.
 #![tactic(auto)]
 
 ghost use Rattle.std.specs.Prelude.{ℕ, ◌≡◌, List, ◌∷◌, Some};
+ghost use Rattle.meaning_items.specs.FunctionLaws.{FunctionsArePutIn};
+ghost use Rattle.meaning_items.specs.TreeLaws.{OperatorsMeanTheSame, TermsMeanTheSame, ApplyingBinds, LetRecIsLeast};
 ghost use Rattle.binding_kinds.specs.Value.{Naming};
 ghost use Rattle.meaning_items.specs.Slots.{naming_in};
 ghost use Rattle.text_values.specs.declared.model.Item.{Item};
@@ -11,6 +15,32 @@ ghost use Rattle.binding_graph.specs.declared.resolved.ResolvedItem.{ResolvedIte
 ghost use Rattle.candidates.specs.declared.candidate.Space.{Space};
 ghost use Rattle.meaning_items.specs.ColumnLaws.{ColumnsAreMeant};
 ghost use Rattle.meaning_items.specs.Laws.{AnswersAreMeant, KeptAreMet};
+
+/// An expression without fault means what it means with the functions that it applies put in.
+pub fn functions_are_put_in()
+    ensures { FunctionsArePutIn }
+{}
+
+/// The operators of cat make of sets and relations what the definitions say.
+pub fn operators_mean_the_same()
+    ensures { OperatorsMeanTheSame }
+{}
+
+/// The tree of an expression without fault, behind items without fault, is the set or the relation
+/// that the definitions say.
+pub fn terms_mean_the_same()
+    ensures { TermsMeanTheSame }
+{}
+
+/// Applying a function means its body where its parameters are bound to the arguments.
+pub fn applying_binds()
+    ensures { ApplyingBinds }
+{}
+
+/// The least values that satisfy the equations of a recursive group are its least solution.
+pub fn let_rec_is_least()
+    ensures { LetRecIsLeast }
+{}
 
 /// A name keeps its slot behind one more name.
 pub fn names_keep_their_slots()

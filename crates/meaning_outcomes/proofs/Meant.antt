@@ -18,7 +18,7 @@ use Rattle.meaning.specs.Refusals.{IsAccepted}
 use Rattle.meaning.proofs.Meanings.{meanings_are_one}
 use Rattle.meaning_faults.specs.Laws.{fault_of, head_of}
 use Rattle.meaning_faults.proofs.Models.{first_is_head, no_fault_is_none}
-use Rattle.meaning_refusals.proofs.Finishing.{is_refused, is_accepted}
+use Rattle.meaning_executions.proofs.Finishing.{is_refused, is_accepted}
 use Rattle.meaning_words.specs.Words.{IsTestOfWords}
 use Rattle.meaning_states.specs.ByName.{evaluation_by_name}
 use Rattle.meaning_states.specs.States.{IsEvaluationSaid}

@@ -14,7 +14,7 @@ use Rattle.from_scratch.specs.FromScratch.{IsFromScratch}
 use Rattle.meaning.specs.Names.{Name, locations}
 use Rattle.meaning.specs.Faults.{ModelFault, Unbound, Kind, NotMonotone, Duplicate, SetInRec, Arity, TooLarge}
 use Rattle.meaning.specs.Evaluates.{Evaluates, Outcome, Faulty, Refused, Evaluated}
-use Rattle.meaning_refusals.specs.Refusals.{refusal_by_name}
+use Rattle.meaning_executions.specs.Refusals.{refusal_by_name}
 use Rattle.meaning_words.specs.Words.{IsTestOfWords}
 use Rattle.meaning_states.specs.ByName.{evaluation_by_name}
 

@@ -19,10 +19,10 @@ use Rattle.candidates.specs.Space.{Candidate, candidates_in}
 use Rattle.cat_eval.specs.Executions.{events_of}
 use Rattle.meaning.specs.Cat as cat
 use Rattle.meaning.specs.Cat.{Names}
-use Rattle.meaning_terms.specs.Behind.{bound_behind, outer_bound}
-use Rattle.meaning_terms.specs.Laws.{AreFaultless}
-use Rattle.meaning_terms.proofs.Applying.{none_first}
-use Rattle.meaning_terms.proofs.Items.{no_first}
+use Rattle.meaning_items.specs.Behind.{bound_behind, outer_bound}
+use Rattle.meaning_items.specs.FunctionLaws.{AreFaultless}
+use Rattle.meaning_items.proofs.Applying.{none_first}
+use Rattle.meaning_items.proofs.Items.{no_first}
 use Rattle.meaning_items.specs.Slots.{candidate_value}
 use Rattle.meaning_items.proofs.Columns.{append_one, first_state}
 use Rattle.meaning_items.proofs.State.{IsState}

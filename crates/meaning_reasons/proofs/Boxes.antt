@@ -19,10 +19,10 @@ use Rattle.why_forbidden.specs.Drawings.{IsBox, AreBoxesOf, IsBoxed, IsCluster, 
 use Rattle.why_forbidden.specs.Told.{Scene}
 use Rattle.meaning.specs.Executions.{Event, Initial, Does, Execution}
 use Rattle.meaning.specs.Predefined.{PairsOf}
-use Rattle.meaning_events.specs.Events.{IsNumbered, IsSameEvent, AreSameEvents, named_events, thread_of_event}
-use Rattle.meaning_events.proofs.Numbering.{named_once}
-use Rattle.meaning_events.proofs.Lists.{at_left, at_right, left_there, right_there}
-use Rattle.meaning_names.specs.Names.{AreNamesMeant}
+use Rattle.meaning_executions.specs.Events.{IsNumbered, IsSameEvent, AreSameEvents, named_events, thread_of_event}
+use Rattle.meaning_executions.proofs.Numbering.{named_once}
+use Rattle.meaning_executions.proofs.Lists.{at_left, at_right, left_there, right_there}
+use Rattle.meaning_executions.specs.Names.{AreNamesMeant}
 use Rattle.meaning_states.proofs.Listing.{IsPair, names_of_pair}
 use Rattle.meaning_reasons.specs.Told as told
 use Rattle.meaning_reasons.specs.Told.{IsEventTold, IsOfEvent}

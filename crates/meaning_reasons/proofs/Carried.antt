@@ -13,11 +13,11 @@ use Rattle.meaning.specs.Executions.{Event, Execution, IsEvent}
 use Rattle.meaning.specs.Predefined.{EventsOf, PairsOf, predefined_names}
 use Rattle.meaning.specs.Cat.{ASet, ARelation, ToMeaning, Names, HasPair, IsChosen, Least, choice_of, meaning_of, names_after, with_group, IsMet, AreMet}
 use Rattle.meaning.specs.Evaluates.{outermost, predefined_bound}
-use Rattle.meaning_terms.specs.Behind.{bound_behind, outer_bound}
+use Rattle.meaning_items.specs.Behind.{bound_behind, outer_bound}
 use Rattle.meaning_items.specs.Slots.{candidate_value}
-use Rattle.meaning_events.specs.Events.{IsNumbered, named_events}
-use Rattle.meaning_events.proofs.Numbering.{named_once}
-use Rattle.meaning_names.specs.Names.{AreNamesMeant}
+use Rattle.meaning_executions.specs.Events.{IsNumbered, named_events}
+use Rattle.meaning_executions.proofs.Numbering.{named_once}
+use Rattle.meaning_executions.specs.Names.{AreNamesMeant}
 use Rattle.meaning_carried.proofs.Operators.{Same, sets, relations, pair_same}
 use Rattle.meaning_carried.proofs.Expressions.{meanings, SameNames, no_name, one_more, group_same, meaning_same}
 use Rattle.meaning_carried.proofs.Extending.{Numbering, numbering, is_it, set_along, relation_along}

@@ -50,14 +50,14 @@ use Rattle.why_forbidden.specs.declared.checks.FirstRefusal.{FirstRefusal}
 use Rattle.why_forbidden.specs.Checked.{IsChecked, Accepts, AcceptBelow, IsFirstRefusal, is_unnamed, is_unnamed_check, index_if, check_indexes, checked_items}
 use Rattle.meaning.specs.Sets.{Set}
 use Rattle.meaning.specs.Cat.{Meaning, Names, HasProperty, NegatedIf, meaning_of, IsMet, IsItemMet, AreMet}
-use Rattle.meaning_terms.specs.Behind.{bound_behind, outer_bound}
-use Rattle.meaning_terms.specs.Laws.{AreFaultless}
-use Rattle.meaning_terms.proofs.Applying.{none_first}
+use Rattle.meaning_items.specs.Behind.{bound_behind, outer_bound}
+use Rattle.meaning_items.specs.FunctionLaws.{AreFaultless}
+use Rattle.meaning_items.proofs.Applying.{none_first}
 use Rattle.meaning_items.specs.Slots.{candidate_value}
 use Rattle.meaning_items.proofs.Naming.{values_named}
 use Rattle.meaning_items.proofs.Bodies.{used_as, known_kind}
 use Rattle.meaning_items.proofs.State.{IsState}
-use Rattle.meaning_events.proofs.Lists.{at_right}
+use Rattle.meaning_executions.proofs.Lists.{at_right}
 use Rattle.meaning_reasons.proofs.At.{IsAt, at_model}
 use Rattle.meaning_reasons.proofs.Coded.{IsMeantBy, is_met, is_unmet}
 use Rattle.meaning_reasons.proofs.Inputs.{inputs_named}

@@ -26,7 +26,7 @@ use Rattle.why_witness.specs.declared.witness.Witness.TheVariants as shown
 use Rattle.why_witness.specs.Pairs as program
 use Rattle.why_witness.specs.Witnesses.{Breaks, BreaksSet, IsMetWitness, IsExplanation, IsExplained}
 use Rattle.meaning.specs.Cat.{Meaning, ASet, ARelation, Nothing, HasPair, HasProperty, NegatedIf}
-use Rattle.meaning_cat.specs.Alike.{IsAs}
+use Rattle.meaning_items.specs.Alike.{IsAs}
 use Rattle.meaning_items.proofs.Checks.{check_met}
 
 -- what shows that what is meant has not the property

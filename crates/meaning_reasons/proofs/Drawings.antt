@@ -38,9 +38,9 @@ use Rattle.meaning.specs.Executions.{Execution, IsExecution, IsEvent}
 use Rattle.meaning.specs.Evaluates.{outermost, IsKept}
 use Rattle.meaning.specs.Outcome.{Satisfies}
 use Rattle.meaning.proofs.Counting.{here, behind}
-use Rattle.meaning_events.proofs.Lists.{member}
+use Rattle.meaning_executions.proofs.Lists.{member}
 use Rattle.meaning_executions.proofs.Ordering.{once_apart}
-use Rattle.meaning_terms.specs.Laws.{AreFaultless}
+use Rattle.meaning_items.specs.FunctionLaws.{AreFaultless}
 use Rattle.meaning_states.proofs.Listing.{IsPair, all_named, pair_at}
 use Rattle.meaning_words.specs.Words.{IsTestOfWords}
 use Rattle.meaning_reasons.proofs.Checks.{map_at}

@@ -16,9 +16,9 @@ use Rattle.why_forbidden.specs.Told.{Scene, told_as, told_at, told_events, numbe
 use Rattle.why_forbidden.proofs.Stepping.{drop_at}
 use Rattle.meaning.specs.Names.{locations}
 use Rattle.meaning.specs.Executions.{Event, Initial, Execution}
-use Rattle.meaning_events.specs.Events.{IsNumbered, IsSameEvent, AreSameEvents, events_in, named_events}
-use Rattle.meaning_events.proofs.Knowing.{correspond}
-use Rattle.meaning_events.proofs.Lists.{at_left, as_long, turned}
+use Rattle.meaning_executions.specs.Events.{IsNumbered, IsSameEvent, AreSameEvents, events_in, named_events}
+use Rattle.meaning_executions.proofs.Knowing.{correspond}
+use Rattle.meaning_executions.proofs.Lists.{at_left, as_long, turned}
 use Rattle.meaning_states.proofs.Listing.{IsPair}
 use Rattle.meaning_reasons.specs.Told.{IsEventTold, IsOfEvent}
 

@@ -31,10 +31,10 @@ use Rattle.meaning.specs.Names.{Name}
 use Rattle.meaning.specs.Executions.{Execution, IsExecution, IsEvent}
 use Rattle.meaning.specs.Evaluates.{outermost, IsKept}
 use Rattle.meaning.specs.Outcome.{Satisfies}
-use Rattle.meaning_runs.proofs.Located.{numbered_are}
-use Rattle.meaning_events.specs.Events.{events_in}
-use Rattle.meaning_events.proofs.Lists.{member}
-use Rattle.meaning_terms.specs.Laws.{AreFaultless}
+use Rattle.meaning_executions.proofs.Located.{numbered_are}
+use Rattle.meaning_executions.specs.Events.{events_in}
+use Rattle.meaning_executions.proofs.Lists.{member}
+use Rattle.meaning_items.specs.FunctionLaws.{AreFaultless}
 use Rattle.meaning_states.proofs.Listing.{all_named}
 use Rattle.meaning_words.specs.Words.{IsTestOfWords}
 use Rattle.meaning_reasons.specs.Told.{IsEventTold, IsReasonSaid}

@@ -16,14 +16,14 @@ use Rattle.meaning.specs.Sets.{IsListOf}
 use Rattle.meaning.specs.Names.{Name}
 use Rattle.meaning.specs.Executions.{Execution, IsExecution}
 use Rattle.meaning.specs.Outcome.{Satisfies}
-use Rattle.meaning_runs.proofs.Located.{numbered_are}
-use Rattle.meaning_events.proofs.Lists.{StandsOnce, none_twice, one_more_once, both_once, index_of, member, as_long, at_left, at_right}
+use Rattle.meaning_executions.proofs.Located.{numbered_are}
+use Rattle.meaning_executions.proofs.Lists.{StandsOnce, none_twice, one_more_once, both_once, index_of, member, as_long, at_left, at_right}
 use Rattle.meaning_executions.specs.Executions.{IsSameExecution}
 use Rattle.meaning_executions.proofs.Ordering.{once_apart}
 use Rattle.meaning_states.proofs.Listing.{IsPair, all_named, pair_at}
 use Rattle.meaning_words.specs.Words.{IsTestOfWords}
-use Rattle.meaning_satisfied.specs.Satisfied.{IsShownAs}
-use Rattle.meaning_satisfied.proofs.Conditions.{all_meant}
+use Rattle.meaning_executions.specs.Satisfied.{IsShownAs}
+use Rattle.meaning_executions.proofs.Conditions.{all_meant}
 
 -- ---- what is chosen of a list of executions, before an index
 

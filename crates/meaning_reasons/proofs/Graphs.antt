@@ -40,7 +40,7 @@ use Rattle.draw_relations.specs.Shown.{names_shown}
 use Rattle.draw_relations.specs.Values.{IsShownValue}
 use Rattle.meaning.specs.Executions.{Execution, IsEvent}
 use Rattle.meaning.specs.Evaluates.{outermost, IsKept}
-use Rattle.meaning_terms.specs.Laws.{AreFaultless}
+use Rattle.meaning_items.specs.FunctionLaws.{AreFaultless}
 use Rattle.meaning_states.proofs.Listing.{IsPair, all_named, pair_at, names_of_pair}
 use Rattle.meaning_reasons.specs.Told.{IsReasonSaid}
 use Rattle.meaning_reasons.proofs.Meeting.{one_met}

@@ -55,12 +55,12 @@ use Rattle.why_forbidden.specs.Language.{IsOfLanguage}
 use Rattle.why_forbidden.specs.Steps.{StepLeg, pair_of}
 use Rattle.meaning.specs.Cat.{ARelation}
 use Rattle.meaning.specs.Executions.{Event, Execution}
-use Rattle.meaning_terms.specs.Behind.{outer_bound}
-use Rattle.meaning_terms.specs.Laws.{AreFaultless}
+use Rattle.meaning_items.specs.Behind.{outer_bound}
+use Rattle.meaning_items.specs.FunctionLaws.{AreFaultless}
 use Rattle.meaning_items.specs.Slots.{candidate_value}
 use Rattle.meaning_items.proofs.Growing.{columns_below}
-use Rattle.meaning_names.specs.Names.{AreNamesMeant}
-use Rattle.meaning_events.proofs.Lists.{at_right, member}
+use Rattle.meaning_executions.specs.Names.{AreNamesMeant}
+use Rattle.meaning_executions.proofs.Lists.{at_right, member}
 use Rattle.meaning_reasons.specs.Told as told
 use Rattle.meaning_reasons.specs.Told.{BindsPair, NameRelates, ByLanguage, ByItem, IsLabel, OneName, TwoNames, names_seen}
 use Rattle.meaning_reasons.proofs.At.{IsAt, at_model}

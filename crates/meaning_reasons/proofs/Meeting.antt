@@ -5,7 +5,7 @@ use Rattle.std.proofs.lemmas.Option.{same_Some}
 use Rattle.text_values.specs.ModelValue.{Clause}
 use Rattle.meaning.specs.Sets.{Set}
 use Rattle.meaning.specs.Cat.{Names, names_after, IsItemMet, AreMet}
-use Rattle.meaning_terms.specs.Behind.{bound_behind}
+use Rattle.meaning_items.specs.Behind.{bound_behind}
 
 module _ {E : Type 0} (all : Set E) where
   abbrev pub MetAt : Names E → List Clause → ℕ → Clause → Type 0

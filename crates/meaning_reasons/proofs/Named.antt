@@ -46,10 +46,10 @@ use Rattle.why_labels.specs.Inside.{body_at}
 use Rattle.meaning.specs.Names.{Name}
 use Rattle.meaning.specs.Sets.{Set}
 use Rattle.meaning.specs.Cat.{Meaning, ASet, ARelation, Nothing, Names, Least, HasPair, meaning_of}
-use Rattle.meaning_terms.proofs.Applying.{none_first}
-use Rattle.meaning_cat.specs.Alike.{IsAs}
-use Rattle.meaning_cat.specs.Groups.{name_at, term_at}
-use Rattle.meaning_cat.proofs.Own.{AreFaultless, faultless_group}
+use Rattle.meaning_items.proofs.Applying.{none_first}
+use Rattle.meaning_items.specs.Alike.{IsAs}
+use Rattle.meaning_items.specs.Groups.{name_at, term_at}
+use Rattle.meaning_items.proofs.Own.{AreFaultless, faultless_group}
 use Rattle.meaning_items.proofs.Growing.{Grows, usages_grown}
 use Rattle.meaning_items.proofs.Naming.{AreUsedNames, AreNamedUsages, values_named}
 use Rattle.meaning_items.proofs.Bodies.{used_at, at_extends, at_covered, code_at, as_many_bodies, column_at, used_as, known_kind}

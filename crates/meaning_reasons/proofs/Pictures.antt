@@ -16,9 +16,9 @@ use Rattle.why_forbidden.specs.Drawings as program
 use Rattle.why_forbidden.specs.Drawings.{IsDrawn, AreDrawn, judgement}
 use Rattle.why_forbidden.proofs.Sound.{sound_items}
 use Rattle.meaning.specs.Names.{Name, locations}
-use Rattle.meaning_runs.proofs.Located.{numbered_are}
+use Rattle.meaning_executions.proofs.Located.{numbered_are}
 use Rattle.meaning_faults.proofs.Models.{no_fault_is_none}
-use Rattle.meaning_refusals.proofs.Finishing.{is_accepted}
+use Rattle.meaning_executions.proofs.Finishing.{is_accepted}
 use Rattle.meaning_words.specs.Words.{IsTestOfWords}
 use Rattle.meaning_reasons.proofs.Whys.{result_said}
 use Rattle.meaning_reasons.specs.DrawingAnswers.{DrawingsAreSaid}

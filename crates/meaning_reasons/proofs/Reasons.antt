@@ -47,8 +47,8 @@ use Rattle.why_forbidden.specs.Told.{Scene, IsReason, told_events, written}
 use Rattle.meaning.specs.Executions.{Execution, IsEvent}
 use Rattle.meaning.specs.Cat.{Meaning, ASet, HasPair, HasProperty, meaning_of, IsMet, AreMet}
 use Rattle.meaning.specs.Evaluates.{outermost, IsKept}
-use Rattle.meaning_terms.specs.Laws.{AreFaultless}
-use Rattle.meaning_names.specs.Names.{AreNamesMeant}
+use Rattle.meaning_items.specs.FunctionLaws.{AreFaultless}
+use Rattle.meaning_executions.specs.Names.{AreNamesMeant}
 use Rattle.meaning_states.proofs.Listing.{IsPair, all_named, pair_at, names_of_pair}
 use Rattle.meaning_reasons.specs.Told.{IsOfEvent, names_seen, IsFirstUnmet, IsShownBy, IsShown, IsReasonSaid}
 use Rattle.meaning_reasons.proofs.Carried.{term_same, check_same, checks_same}

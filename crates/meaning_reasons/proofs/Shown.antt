@@ -19,8 +19,8 @@ use Rattle.why_forbidden.specs.Steps.{StepStart, AreStepStarts, AreStartsBack, A
 use Rattle.meaning.specs.Sets.{Relation, Set}
 use Rattle.meaning.specs.Executions.{Event, Execution}
 use Rattle.meaning.specs.Cat.{Meaning, ASet, ARelation, Nothing, HasPair}
-use Rattle.meaning_names.specs.Names.{AreNamesMeant}
-use Rattle.meaning_events.proofs.Lists.{as_long}
+use Rattle.meaning_executions.specs.Names.{AreNamesMeant}
+use Rattle.meaning_executions.proofs.Lists.{as_long}
 use Rattle.meaning_carried.proofs.Operators.{Same, sets, relations, nothing}
 use Rattle.meaning_reasons.specs.Told.{IsPair, AreStepsOver, AnyTwo, IsShownBy}
 use Rattle.meaning_reasons.proofs.Carried.{event_at, numbered_at, pair_there}

@@ -22,8 +22,8 @@ use Rattle.why_forbidden.specs.Labels.{Judgement, IsStepLabel}
 use Rattle.why_forbidden.specs.Steps.{StepStart, StepLeg, IsToldStep, start_at, starts_at, starts_through, next_event, leg_from, legs_to, pair_of}
 use Rattle.meaning.specs.Sets.{Relation}
 use Rattle.meaning.specs.Executions.{Event, Execution}
-use Rattle.meaning_names.specs.Names.{AreNamesMeant}
-use Rattle.meaning_events.proofs.Lists.{as_long}
+use Rattle.meaning_executions.specs.Names.{AreNamesMeant}
+use Rattle.meaning_executions.proofs.Lists.{as_long}
 use Rattle.meaning_reasons.specs.Told.{IsPair, IsLabel, AreStepsOver}
 use Rattle.meaning_reasons.proofs.Carried.{event_at, pair_there}
 

@@ -42,11 +42,11 @@ use Rattle.draw_relations.specs.Values.{IsLast, IsCheckValue, IsLastValue, IsSho
 use Rattle.meaning.specs.Sets.{Set}
 use Rattle.meaning.specs.Executions.{Event, Execution, IsEvent}
 use Rattle.meaning.specs.Cat.{Meaning, ASet, ARelation, Nothing, Names, HasPair, meaning_of, names_after}
-use Rattle.meaning_terms.specs.Behind.{bound_behind, outer_bound}
+use Rattle.meaning_items.specs.Behind.{bound_behind, outer_bound}
 use Rattle.meaning_items.specs.Slots.{candidate_value}
-use Rattle.meaning_names.specs.Names.{AreNamesMeant}
-use Rattle.meaning_events.specs.Events.{IsNumbered, named_events}
-use Rattle.meaning_events.proofs.Lists.{as_long, member}
+use Rattle.meaning_executions.specs.Names.{AreNamesMeant}
+use Rattle.meaning_executions.specs.Events.{IsNumbered, named_events}
+use Rattle.meaning_executions.proofs.Lists.{as_long, member}
 use Rattle.meaning_reasons.specs.Told.{IsPair, names_seen}
 use Rattle.meaning_reasons.proofs.Carried.{event_at, event_is, term_pair, term_pair_back, pair_there}
 use Rattle.meaning_reasons.proofs.Checks.{IsMeantAt, code_meant, from_map}

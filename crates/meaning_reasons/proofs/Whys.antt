@@ -30,9 +30,9 @@ use Rattle.meaning.specs.Faults.{faults}
 use Rattle.meaning.specs.Outcome.{Evaluation}
 use Rattle.meaning.specs.Evaluates.{Evaluates, Evaluated}
 use Rattle.meaning.proofs.Counting.{counts_are_one}
-use Rattle.meaning_runs.proofs.Located.{numbered_are}
+use Rattle.meaning_executions.proofs.Located.{numbered_are}
 use Rattle.meaning_faults.proofs.Models.{no_fault_is_none}
-use Rattle.meaning_refusals.proofs.Finishing.{is_accepted}
+use Rattle.meaning_executions.proofs.Finishing.{is_accepted}
 use Rattle.meaning_words.specs.Words.{IsTestOfWords}
 use Rattle.meaning_outcomes.specs.Outcomes.{outcome_by_name}
 use Rattle.meaning_outcomes.proofs.Meant.{all_meant}

@@ -20,7 +20,7 @@ use Rattle.meaning.specs.Executions.{Execution, IsExecution}
 use Rattle.meaning.specs.Faults.{faults}
 use Rattle.meaning.specs.Refusals.{IsAccepted}
 use Rattle.meaning.specs.Evaluates.{Evaluates, Faulty, Refused}
-use Rattle.meaning_refusals.specs.Refusals.{refusal_by_name}
+use Rattle.meaning_executions.specs.Refusals.{refusal_by_name}
 use Rattle.meaning_outcomes.specs.Outcomes.{fault_by_name}
 use Rattle.meaning_reasons.specs.Findings.{IsPositive, IsForbidden}
 use Rattle.meaning_reasons.specs.Graphs.{IsGraphSaid}

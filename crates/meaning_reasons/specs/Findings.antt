@@ -21,8 +21,8 @@ use Rattle.meaning.specs.Faults.{faults}
 use Rattle.meaning.specs.Refusals.{IsAccepted}
 use Rattle.meaning.specs.Outcome.{Satisfies}
 use Rattle.meaning.specs.Evaluates.{IsKept, Evaluates, Faulty, Refused}
-use Rattle.meaning_events.specs.Events.{events_in}
-use Rattle.meaning_refusals.specs.Refusals.{refusal_by_name}
+use Rattle.meaning_executions.specs.Events.{events_in}
+use Rattle.meaning_executions.specs.Refusals.{refusal_by_name}
 use Rattle.meaning_outcomes.specs.Outcomes.{fault_by_name}
 use Rattle.meaning_reasons.specs.Told.{IsEventTold, IsReasonSaid}
 

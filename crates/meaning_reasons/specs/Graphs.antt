@@ -24,7 +24,7 @@ use Rattle.meaning.specs.Executions.{Event, Initial, Does, Execution, IsEvent}
 use Rattle.meaning.specs.Predefined.{PairsOf}
 use Rattle.meaning.specs.Cat.{HasPair, meaning_of}
 use Rattle.meaning.specs.Evaluates.{IsKept}
-use Rattle.meaning_events.specs.Events.{IsNumbered, named_events, thread_of_event}
+use Rattle.meaning_executions.specs.Events.{IsNumbered, named_events, thread_of_event}
 use Rattle.meaning_reasons.specs.Told.{IsOfEvent, IsPair, IsReasonSaid, names_seen}
 
 -- ---- boxes

@@ -1,6 +1,6 @@
 -- What is told of an execution, by the definitions of `meaning`: its events, and why a model does
 -- not keep it. Read before it: `Evaluates` of `meaning/specs`, and `Events` of
--- `meaning_events/specs`, which numbers the events. Read next: Findings.
+-- `meaning_executions/specs`, which numbers the events. Read next: Findings.
 use Rattle.std.specs.Prelude.{ℕ, ◌≡◌, ◌<◌, ◌++◌, List, [], ◌∷◌, length, take, Bool, true, false, Option, Some, None, slice_get, codes, All, Contains}
 use Rattle.text_values.specs.declared.model.CheckWord.{CheckWord}
 use Rattle.text_values.specs.declared.model.CheckWord.TheVariants as words
@@ -18,8 +18,8 @@ use Rattle.meaning.specs.Executions.{Event, Execution, IsEvent}
 use Rattle.meaning.specs.Predefined.{PairsOf}
 use Rattle.meaning.specs.Cat.{Meaning, ASet, ARelation, Names, HasPair, HasProperty, Least, meaning_of, IsMet, AreMet}
 use Rattle.meaning.specs.Evaluates.{outermost}
-use Rattle.meaning_terms.specs.Behind.{bound_behind}
-use Rattle.meaning_events.specs.Events.{IsNumbered, IsSameEvent, named_events}
+use Rattle.meaning_items.specs.Behind.{bound_behind}
+use Rattle.meaning_executions.specs.Events.{IsNumbered, IsSameEvent, named_events}
 
 -- ---- events
 

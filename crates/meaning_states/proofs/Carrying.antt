@@ -12,12 +12,12 @@ use Rattle.meaning.specs.Executions.{Event, Execution, IsEvent}
 use Rattle.meaning.specs.Predefined.{EventsOf, PairsOf, predefined_names}
 use Rattle.meaning.specs.Cat.{ASet, ARelation, ToMeaning, Names, choice_of, names_after, IsMet}
 use Rattle.meaning.specs.Evaluates.{outermost, predefined_bound}
-use Rattle.meaning_terms.specs.Behind.{outer_bound}
+use Rattle.meaning_items.specs.Behind.{outer_bound}
 use Rattle.meaning_items.specs.Slots.{candidate_value}
 use Rattle.meaning_items.specs.Laws.{AreMeant}
-use Rattle.meaning_events.specs.Events.{named_events}
-use Rattle.meaning_events.proofs.Numbering.{named_once}
-use Rattle.meaning_names.specs.Names.{AreNamesMeant}
+use Rattle.meaning_executions.specs.Events.{named_events}
+use Rattle.meaning_executions.proofs.Numbering.{named_once}
+use Rattle.meaning_executions.specs.Names.{AreNamesMeant}
 use Rattle.meaning_carried.proofs.Operators.{Same, sets, relations}
 use Rattle.meaning_carried.proofs.Expressions.{meanings, SameNames, no_name, one_more}
 use Rattle.meaning_carried.proofs.Extending.{Numbering, numbering, set_along, relation_along}

@@ -22,14 +22,14 @@ use Rattle.meaning.specs.Names.{Name, locations}
 use Rattle.meaning.specs.Machine.{Value, Number}
 use Rattle.meaning.specs.Executions.{Execution}
 use Rattle.meaning.specs.Outcome.{EndsWith, final_register}
-use Rattle.meaning_runs.specs.Values as values
-use Rattle.meaning_runs.specs.Values.{IsSameValue}
-use Rattle.meaning_ends.specs.Ends.{HoldsAlike}
+use Rattle.meaning_executions.specs.Values as values
+use Rattle.meaning_executions.specs.Values.{IsSameValue}
+use Rattle.meaning_executions.specs.Ends.{HoldsAlike}
 use Rattle.meaning_words.specs.Words.{IsTestOfWords}
 use Rattle.meaning_words.proofs.Ending as words_end
-use Rattle.meaning_satisfied.specs.Satisfied.{IsShownAs}
-use Rattle.meaning_satisfied.proofs.Values.{address_is}
-use Rattle.meaning_satisfied.proofs.Holding.{are_one_to_one, holds, held_small}
+use Rattle.meaning_executions.specs.Satisfied.{IsShownAs}
+use Rattle.meaning_executions.proofs.Values.{address_is}
+use Rattle.meaning_executions.proofs.Observables.{are_one_to_one, holds, held_small}
 use Rattle.meaning_states.specs.ByName.{value_by_name}
 use Rattle.meaning_states.proofs.Signed.{IsProper, number, address, nothing}
 

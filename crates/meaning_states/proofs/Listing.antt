@@ -21,14 +21,14 @@ use Rattle.verdict.specs.Kept.{Flag, is_kept}
 use Rattle.meaning.specs.Executions.{Execution, IsEvent, IsExecution}
 use Rattle.meaning.specs.Cat.{AreMet}
 use Rattle.meaning.specs.Evaluates.{outermost, IsKept}
-use Rattle.meaning_events.proofs.Lists.{as_long, at_left, at_right, member}
+use Rattle.meaning_executions.proofs.Lists.{as_long, at_left, at_right, member}
 use Rattle.meaning_executions.specs.Executions.{IsSameExecution, IsProgramExecution}
-use Rattle.meaning_refusals.specs.Counts.{AreListed}
-use Rattle.meaning_refusals.proofs.Listing.{is_one, listed}
+use Rattle.meaning_executions.specs.Counts.{AreListed}
+use Rattle.meaning_executions.proofs.Listing.{is_one, listed}
 use Rattle.meaning_items.proofs.Answers.{answers_meant}
 use Rattle.meaning_items.proofs.Kept.{kept_are_met}
-use Rattle.meaning_names.specs.Names.{AreNamesMeant}
-use Rattle.meaning_names.proofs.Meant.{names_meant}
+use Rattle.meaning_executions.specs.Names.{AreNamesMeant}
+use Rattle.meaning_executions.proofs.Meant.{names_meant}
 use Rattle.meaning_states.specs.Listed.{AreKeptByName, KeptByName}
 use Rattle.meaning_states.proofs.Carrying.{met_alike, meant_alike}
 

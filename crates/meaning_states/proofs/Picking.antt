@@ -7,7 +7,7 @@ use Rattle.verdict.specs.Evaluated.{number_that}
 use Rattle.verdict.specs.Kept.{is_kept, kept}
 use Rattle.meaning.specs.Sets.{Set, IsOnce, IsListOf, HasCount}
 use Rattle.meaning.proofs.Counting.{here, behind, head_or_tail, first_pair, later_pairs}
-use Rattle.meaning_events.proofs.Lists.{index_of, member}
+use Rattle.meaning_executions.proofs.Lists.{index_of, member}
 
 -- a list with one element before
 pub with_first : {X : Type 0} (R : X → X → Type 0) (x : X) (xs : List X)

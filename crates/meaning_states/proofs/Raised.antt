@@ -18,7 +18,7 @@ use Rattle.meaning.specs.Executions.{Event, Execution, IsEvent, IsExecution}
 use Rattle.meaning.specs.Cat.{Names, names_after, IsMet, IsFlagMet}
 use Rattle.meaning.specs.Evaluates.{outermost, IsKept, MeetsFlag}
 use Rattle.meaning.specs.Outcome.{AreRaised, each_once}
-use Rattle.meaning_events.proofs.Lists.{as_long, index_of}
+use Rattle.meaning_executions.proofs.Lists.{as_long, index_of}
 use Rattle.meaning_executions.specs.Executions.{IsSameExecution}
 use Rattle.meaning_items.specs.Laws.{AreMeant}
 use Rattle.meaning_states.specs.Listed.{AreKeptByName}

@@ -48,17 +48,17 @@ use Rattle.meaning.specs.Executions.{Execution, IsExecution}
 use Rattle.meaning.specs.Evaluates.{IsKept, MeetsFlag}
 use Rattle.meaning.specs.Outcome.{CountedState, IsCounted, AreStates, IsStateBefore, EndsIn, EndsWith, Satisfies, observables_of, observables, observation_of, is_met, AreFlags}
 use Rattle.meaning.proofs.Counting.{here, behind, head_or_tail}
-use Rattle.meaning_events.proofs.Lists.{as_long}
+use Rattle.meaning_executions.proofs.Lists.{as_long}
 use Rattle.meaning_executions.specs.Executions.{IsSameExecution}
-use Rattle.meaning_runs.proofs.Located.{numbered_are, rises}
-use Rattle.meaning_terms.specs.Laws.{AreFaultless}
+use Rattle.meaning_executions.proofs.Located.{numbered_are, rises}
+use Rattle.meaning_items.specs.FunctionLaws.{AreFaultless}
 use Rattle.meaning_items.proofs.Kept.{kept_are_met}
 use Rattle.meaning_states.proofs.Carrying.{met_alike}
 use Rattle.meaning_states.proofs.Listing.{IsPair, all_named, pair_at, names_of_pair}
 use Rattle.meaning_states.proofs.Raised.{all_raised}
 use Rattle.meaning_words.specs.Words.{IsTestOfWords}
-use Rattle.meaning_satisfied.specs.Satisfied.{IsShownAs}
-use Rattle.meaning_satisfied.proofs.Conditions.{all_meant}
+use Rattle.meaning_executions.specs.Satisfied.{IsShownAs}
+use Rattle.meaning_executions.proofs.Conditions.{all_meant}
 use Rattle.meaning_states.specs.ByName.{value_by_name, state_by_name, observation_by_name, evaluation_by_name}
 use Rattle.meaning_states.specs.States.{IsEvaluationSaid, EvaluationsAreMeant}
 use Rattle.meaning_states.specs.Texts.{IsPrinted, named_state_text, StatesArePrinted}

@@ -24,8 +24,8 @@ use Rattle.meaning.specs.Names.{Name, locations, locations_of_entry, locations_o
 use Rattle.meaning.specs.Outcome.{observables_of, observables}
 use Rattle.meaning.proofs.Counting.{here, behind, head_or_tail, rising_are_one}
 use Rattle.meaning.proofs.Entries.{in_order_too}
-use Rattle.meaning_runs.proofs.Located.{rises}
-use Rattle.meaning_satisfied.proofs.Holding.{place_known}
+use Rattle.meaning_executions.proofs.Located.{rises}
+use Rattle.meaning_executions.proofs.Observables.{place_known}
 use Rattle.meaning_states.proofs.Picking.{with_first, no_pairs}
 use Rattle.meaning_states.proofs.Placing.{RegisterBefore, register_to, IsObservableBefore, observables_asymmetric, observables_rise, observable_from, observable_there}
 

@@ -17,7 +17,7 @@ use Rattle.from_scratch.specs.Answers.{AreSaid}
 use Rattle.meaning.specs.Executions.{Execution}
 use Rattle.meaning.specs.Evaluates.{IsKept, MeetsFlag}
 use Rattle.meaning.specs.Outcome.{AreFlags}
-use Rattle.meaning_terms.specs.Laws.{AreFaultless}
+use Rattle.meaning_items.specs.FunctionLaws.{AreFaultless}
 
 -- The names are those of the flags that some kept execution meets.
 abbrev pub AreFlagsOf : Content → List Clause → List (List ℕ) → Type 0

@@ -7,9 +7,9 @@ use Rattle.cat_eval.specs.Executions.{events_of}
 use Rattle.meaning.specs.Executions.{Execution, IsEvent}
 use Rattle.meaning.specs.Cat.{AreMet, IsFlagMet}
 use Rattle.meaning.specs.Evaluates.{outermost, MeetsFlag}
-use Rattle.meaning_terms.specs.Behind.{outer_bound}
+use Rattle.meaning_items.specs.Behind.{outer_bound}
 use Rattle.meaning_items.specs.Slots.{candidate_value}
-use Rattle.meaning_names.specs.Names.{AreNamesMeant}
+use Rattle.meaning_executions.specs.Names.{AreNamesMeant}
 
 -- The candidate meets the checks and the flags of the items where the execution does.
 pub record IsMetAlike (t : Content) (y : Execution) (one : Candidate) (items : List Clause)

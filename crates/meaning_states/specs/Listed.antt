@@ -16,7 +16,7 @@ use Rattle.from_scratch.specs.Answers.{AreSaid}
 use Rattle.meaning.specs.Sets.{IsListOf}
 use Rattle.meaning.specs.Executions.{Execution, IsEvent, IsExecution}
 use Rattle.meaning.specs.Evaluates.{outermost, IsKept}
-use Rattle.meaning_terms.specs.Laws.{AreFaultless}
+use Rattle.meaning_items.specs.FunctionLaws.{AreFaultless}
 use Rattle.meaning_items.specs.Laws.{AreMeant}
 
 -- The executions of the test by name, each once, in the order of the candidates: the answers are

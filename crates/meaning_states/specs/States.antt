@@ -16,7 +16,7 @@ use Rattle.from_scratch.specs.Cell.{IsEvaluationBy}
 use Rattle.meaning.specs.Names.{locations}
 use Rattle.meaning.specs.Evaluates.{IsKept, MeetsFlag}
 use Rattle.meaning.specs.Outcome.{Evaluation, Says}
-use Rattle.meaning_terms.specs.Laws.{AreFaultless}
+use Rattle.meaning_items.specs.FunctionLaws.{AreFaultless}
 use Rattle.meaning_words.specs.Words.{IsTestOfWords}
 use Rattle.meaning_states.specs.ByName.{evaluation_by_name}
 

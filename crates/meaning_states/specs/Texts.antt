@@ -20,7 +20,7 @@ use Rattle.from_scratch.specs.Cell.{IsEvaluationBy}
 use Rattle.meaning.specs.Names.{locations}
 use Rattle.meaning.specs.Machine.{Value, Number, Address, NoValue}
 use Rattle.meaning.specs.Outcome.{observables}
-use Rattle.meaning_terms.specs.Laws.{AreFaultless}
+use Rattle.meaning_items.specs.FunctionLaws.{AreFaultless}
 use Rattle.meaning_words.specs.Words.{IsTestOfWords}
 use Rattle.meaning_states.specs.ByName.{value_by_name}
 

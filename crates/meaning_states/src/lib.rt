@@ -1,6 +1,6 @@
 //! Laws that tie `meaning` to the program: a model keeps a candidate where it keeps its execution,
 //! and an evaluation says by number what the kept executions say by name: flags, final states,
-//! counts and words. Read in specs/: Kept, Listed, after `Names` of `meaning_names/specs` and
+//! counts and words. Read in specs/: Kept, Listed, after `Names` of `meaning_executions/specs` and
 //! `Laws` of `meaning_items/specs`; Flags; ByName, States, Texts, after `Evaluated` of
 //! `verdict/specs` and `Outcome` of `meaning/specs`.
 #![tactic(auto)]

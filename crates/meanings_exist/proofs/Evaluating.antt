@@ -11,9 +11,9 @@ use Rattle.meaning.specs.Cat.{AreMet}
 use Rattle.meaning.specs.Outcome.{CountedState, AreStates, Satisfies, AreFlags, observation_of, is_met, Evaluation, Says}
 use Rattle.meaning.specs.Evaluates.{outermost, IsKept, MeetsFlag}
 use Rattle.meaning_words.specs.Words.{IsTestOfWords}
-use Rattle.finite_sets.proofs.Decisions.{Decided, not_decided}
-use Rattle.finite_sets.proofs.Sublists.{listed_part, counted_part, decide_each}
-use Rattle.finite_sets.proofs.Finite.{some_decided}
+use Rattle.meanings_exist.proofs.Decisions.{Decided, not_decided}
+use Rattle.meanings_exist.proofs.Sublists.{listed_part, counted_part, decide_each}
+use Rattle.meanings_exist.proofs.Finite.{some_decided}
 use Rattle.meanings_exist.proofs.Ending.{satisfied_or_not}
 use Rattle.meanings_exist.proofs.States.{states_of}
 use Rattle.meanings_exist.proofs.Flags.{flags}

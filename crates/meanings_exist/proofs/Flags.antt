@@ -3,7 +3,7 @@ use Rattle.std.proofs.Common.{inl, inr, ℕ, suc, List, [], ◌∷◌, refl}
 use Rattle.text_values.specs.ModelValue.{Clause, Binding, Function, Checking, Flagging, Showing, Including}
 use Rattle.meaning.specs.Names.{Name}
 use Rattle.meaning.specs.Outcome.{AreRaised, AreFlags, each_once}
-use Rattle.finite_sets.proofs.Decisions.{Decided}
+use Rattle.meanings_exist.proofs.Decisions.{Decided}
 
 raised : (IsRaised : ℕ → Type 0) (i : ℕ) (cs : List Clause) → ((k : ℕ) → Decided (IsRaised k))
     → (names : List Name) × AreRaised IsRaised i cs names

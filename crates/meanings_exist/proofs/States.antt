@@ -11,8 +11,8 @@ use Rattle.meaning.proofs.Counting.{here, behind, head_or_tail}
 use Rattle.meaning.proofs.Finals.{ends_in_one}
 use Rattle.meaning_words.specs.Words.{IsTestOfWords}
 use Rattle.plain_runs.proofs.Listing.{none_there, mapped_from}
-use Rattle.finite_sets.proofs.Decisions.{Decided, answer, answer_is, answer_from}
-use Rattle.finite_sets.proofs.Sublists.{counted_part, decide_each, above_none}
+use Rattle.meanings_exist.proofs.Decisions.{Decided, answer, answer_is, answer_from}
+use Rattle.meanings_exist.proofs.Sublists.{counted_part, decide_each, above_none}
 use Rattle.meanings_exist.specs.Sorted.{Rises, IsGood}
 use Rattle.meanings_exist.proofs.Sorting.{sorted, pairs_rise}
 use Rattle.meanings_exist.proofs.Ordering.{states_transitive, states_compared}

@@ -22,7 +22,7 @@ use Rattle.binding_graph.specs.Lowering.{known}
 use Rattle.binding_graph.specs.Meaning.{source_of, source_of_binder}
 use Rattle.binding_shapes.specs.Shapes.{source_kind}
 use Rattle.binding_shapes.proofs.Typed.{HasReadKinds, known_same}
-use Rattle.meaning_terms.specs.Formulas.{HasNames}
+use Rattle.meaning_items.specs.Formulas.{HasNames}
 use Rattle.meaning_items.specs.Slots.{naming_in}
 use Rattle.meaning_items.proofs.Naming.{IsNamed, IsUsedName, AreUsedNames, input_at}
 use Rattle.meaning_items.proofs.Used.{Extends, IsUsed, IsCovered}

@@ -14,8 +14,8 @@ use Rattle.binding_kinds.specs.Senses.{Sense}
 use Rattle.binding_kinds.specs.Value.{Naming, BareItem, Group, Check, Mute, Defined, bare_item}
 use Rattle.binding_graph.specs.Usages.{Usage, with_values, usage_of_function, usages_after}
 use Rattle.from_scratch.proofs.Ordered.{all_reverse}
-use Rattle.meaning_terms.specs.Formulas.{HasNames}
-use Rattle.meaning_terms.proofs.Slots.{names_more, names_both}
+use Rattle.meaning_items.specs.Formulas.{HasNames}
+use Rattle.meaning_items.proofs.Slots.{names_more, names_both}
 use Rattle.meaning_items.proofs.Growing.{Grows, senses_grown, usages_grown, named_grown, used_grown}
 use Rattle.meaning_items.proofs.Naming.{naming_below, naming_more, IsNamed, AreNamedSenses, IsUsedName, AreUsedNames, AreNamedUsages, formula_named, values_named}
 use Rattle.meaning_items.proofs.Used.{HasSlot, IsCovered, Covers, AllCover, used_slot, slot_reversed, covered}

@@ -1,5 +1,0 @@
-pub mod Decisions
-pub mod Sublists
-pub mod Finite
-pub mod Paths
-pub mod Cycles

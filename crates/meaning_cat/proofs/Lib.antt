@@ -1,6 +1,0 @@
-pub mod Operators
-pub mod Trees
-pub mod Terms
-pub mod Least
-pub mod Own
-pub mod Laws

@@ -1,5 +1,0 @@
-use Rattle.meaning_cat.proofs.Laws.{operators_same}
-use Rattle.meaning_cat.proofs.operators_mean_the_same.Goals as goal
-
-pub returns : goal.returns
-returns c = λ n is_set S R f typed sets rels us from has. operators_same n is_set S R f typed sets rels us from has

@@ -1,5 +1,0 @@
-use Rattle.meaning_cat.proofs.Laws.{terms_same}
-use Rattle.meaning_cat.proofs.terms_mean_the_same.Goals as goal
-
-pub returns : goal.returns
-returns c = λ n S R items faultless e none sets rels us from has. terms_same n S R items faultless e none sets rels us from has

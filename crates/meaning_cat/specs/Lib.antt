@@ -1,3 +1,0 @@
-pub mod Alike
-pub mod Groups
-pub mod Laws

@@ -1,6 +1,0 @@
-use Rattle.meaning_ends.proofs.Holding.{all_hold}
-use Rattle.meaning_ends.proofs.ends_are_meant.Goals as goal
-
-pub returns : goal.returns
-returns c = λ t p of values x is y by_name same e shows place o known.
-    all_hold t p of values x is y by_name same e shows place o known

@@ -1,5 +1,0 @@
-use Rattle.meaning_listed.proofs.Limits.{refused_or_accepted}
-use Rattle.meaning_listed.proofs.tests_are_decided.Goals as goal
-
-pub returns : goal.returns
-returns c = λ t. refused_or_accepted t

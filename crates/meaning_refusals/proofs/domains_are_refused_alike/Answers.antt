@@ -1,5 +1,0 @@
-use Rattle.meaning_refusals.proofs.Refusing.{refused_alike}
-use Rattle.meaning_refusals.proofs.domains_are_refused_alike.Goals as goal
-
-pub returns : goal.returns
-returns c t p of = refused_alike t p of

@@ -1,5 +1,0 @@
-use Rattle.meaning_refusals.proofs.Listing.{listed}
-use Rattle.meaning_refusals.proofs.executions_are_listed.Goals as goal
-
-pub returns : goal.returns
-returns c t initial xs h = listed t initial xs h

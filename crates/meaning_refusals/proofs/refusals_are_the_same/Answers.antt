@@ -1,8 +1,0 @@
-use Rattle.meaning_refusals.proofs.Finishing.{is_refused, is_accepted}
-use Rattle.meaning_refusals.proofs.refusals_are_the_same.Goals as goal
-
-pub returns : goal.returns
-returns c = record {
-  refused = λ t r h. is_refused t r h;
-  accepted = λ t s h. is_accepted t s h;
-}

@@ -1,9 +1,0 @@
-pub mod Located
-pub mod Machines
-pub mod Labels
-pub mod Following
-pub mod Starts
-pub mod Rounds
-pub mod Domains
-pub mod Depending
-pub mod Executed

@@ -1,9 +1,0 @@
-use Rattle.meaning_runs.proofs.Rounds.{rounds_alike}
-use Rattle.meaning_runs.proofs.Domains.{same_domain}
-use Rattle.meaning_runs.proofs.domains_are_alike.Goals as goal
-
-pub returns : goal.returns
-returns c = record {
-  rounds = λ t p of rounds. rounds_alike t p of rounds;
-  domain = λ t p of. same_domain t p of;
-}

@@ -1,5 +1,0 @@
-pub mod Values
-pub mod Instructions
-pub mod Runs
-pub mod Domain
-pub mod Dependencies

@@ -1,5 +1,0 @@
-use Rattle.meaning_satisfied.proofs.Conditions.{all_meant}
-use Rattle.meaning_satisfied.proofs.condition_is_meant.Goals as goal
-
-pub returns : goal.returns
-returns c = λ t words y e s. all_meant t words y e s

@@ -1,4 +1,0 @@
-pub mod Applying
-pub mod Slots
-pub mod Items
-pub mod Putting

@@ -1,5 +1,0 @@
-use Rattle.meaning_terms.proofs.Putting.{put_in}
-use Rattle.meaning_terms.proofs.functions_are_put_in.Goals as goal
-
-pub returns : goal.returns
-returns c = λ n S R items faultless e none. put_in n S R items faultless e none

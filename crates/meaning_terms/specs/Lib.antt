@@ -1,4 +1,0 @@
-pub mod Formulas
-pub mod Bound
-pub mod Behind
-pub mod Laws
