@@ -22,13 +22,13 @@ use Rattle.meaning_carried.proofs.Extending.{Numbering, numbering, set_along, re
 use Rattle.meaning_carried.proofs.Items.{all_met_same, flags_same}
 use Rattle.meaning_plain.specs.Lists.{SetOf, RelationOf, HasMembers}
 use Rattle.plain_runs.proofs.Listing.{listed_as}
-use Rattle.plain_expressions.specs.declared.value.Value.{Value}
-use Rattle.plain_expressions.specs.declared.value.Value.TheVariants as values
-use Rattle.plain_expressions.specs.declared.scope.Bound.{Bound}
-use Rattle.plain_expressions.specs.declared.scope.Bound.TheVariants as bounds
-use Rattle.plain_expressions.specs.declared.scope.Named.{Named}
-use Rattle.plain_expressions.specs.Values.{meaning_as}
-use Rattle.plain_expressions.specs.Scopes.{bound_as, with_named}
+use Rattle.plain_models.specs.declared.value.Value.{Value}
+use Rattle.plain_models.specs.declared.value.Value.TheVariants as values
+use Rattle.plain_models.specs.declared.scope.Bound.{Bound}
+use Rattle.plain_models.specs.declared.scope.Bound.TheVariants as bounds
+use Rattle.plain_models.specs.declared.scope.Named.{Named}
+use Rattle.plain_models.specs.Values.{meaning_as}
+use Rattle.plain_models.specs.Scopes.{bound_as, with_named}
 use Rattle.plain_models.specs.declared.model.Answers.{Answers}
 use Rattle.plain_models.specs.Answers.{AreModelAnswers, IsOfValue, AreValuesOf, ArePredefined}
 use Rattle.plain_events.specs.Events.{of_runs, event_as}

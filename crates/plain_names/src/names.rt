@@ -11,8 +11,8 @@ ghost use Rattle.plain_sets.specs.Seen.{seen_events, AreSeen};
 ghost use Rattle.plain_names.specs.Named.{IsValueOf, IsBoundTo, ArePredefinedNames};
 
 use plain_executions::execution::Execution;
-use plain_expressions::scope::{Bound, Named};
-use plain_expressions::value::Value;
+use plain_models::scope::{Bound, Named};
+use plain_models::value::Value;
 use plain_relations::pairs::{pairs_of, seen_count};
 use plain_sets::seen::Shown;
 use plain_sets::sets::members_of;

@@ -4,7 +4,7 @@ use Rattle.text_values.specs.TestValue.{content_of}
 use Rattle.meaning.specs.Sets.{IsOnce}
 use Rattle.meaning.specs.Names.{Name}
 use Rattle.meaning_plain.specs.Lists.{SetOf}
-use Rattle.plain_expressions.specs.Scopes.{with_named}
+use Rattle.plain_models.specs.Scopes.{with_named}
 use Rattle.plain_models.specs.Answers.{AreModelAnswers}
 use Rattle.plain_runs.specs.declared.run.Run.{Run}
 use Rattle.plain_runs.specs.Runs.{run_as}
