@@ -34,8 +34,8 @@ use Rattle.plain_models.specs.Answers.{AreModelAnswers, IsOfValue, AreValuesOf, 
 use Rattle.plain_events.specs.Events.{of_runs, event_as}
 use Rattle.plain_events.proofs.Doing.{same_action}
 use Rattle.plain_executions.proofs.Indexing.{index_of, stands, one_index}
-use Rattle.plain_sets.specs.declared.seen.Seen.{Seen}
-use Rattle.plain_sets.specs.Seen.{seen_event, seen_events, IsSeenAs, AreSeen}
+use Rattle.plain_names.specs.declared.seen.Seen.{Seen}
+use Rattle.plain_names.specs.Seen.{seen_event, seen_events, IsSeenAs, AreSeen}
 use Rattle.plain_names.specs.Named.{IsValueOf, IsBoundTo, ArePredefinedNames}
 use Rattle.plain_answers.specs.Answered.{AreAnswersOf}
 use Rattle.plain_answers.proofs.Among.{events_among, pairs_among}

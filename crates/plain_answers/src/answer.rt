@@ -13,7 +13,7 @@ ghost use Rattle.plain_answers.specs.Answered.{AreAnswersOf};
 use plain_executions::execution::Execution;
 use plain_models::model::{Answers, answered};
 use plain_names::names::{all_events, predefined_names};
-use plain_sets::seen::looked_at;
+use plain_names::seen::looked_at;
 use std::alloc::{AllocError, Global};
 use text_values::{Item, Test};
 

@@ -13,7 +13,7 @@ use Rattle.plain_models.specs.declared.scope.Bound.{Bound}
 use Rattle.plain_models.specs.declared.scope.Bound.TheVariants as bounds
 use Rattle.plain_models.specs.declared.scope.Named.{Named}
 use Rattle.plain_executions.specs.Executions.{AreRelated}
-use Rattle.plain_sets.specs.Members.{IsMemberAt}
+use Rattle.plain_names.specs.Members.{IsMemberAt}
 
 -- The value is what the name stands for.
 abbrev pub IsValueOf : Content → Execution → List Event → Predefined → code.Value → Type 0

@@ -11,7 +11,7 @@ use Rattle.plain_runs.specs.Runs.{run_as}
 use Rattle.plain_events.specs.Events.{of_runs}
 use Rattle.plain_events.proofs.Standing.{locations_once}
 use Rattle.plain_executions.specs.Executions.{execution_as}
-use Rattle.plain_sets.specs.Seen.{seen_events, AreSeen}
+use Rattle.plain_names.specs.Seen.{seen_events, AreSeen}
 use Rattle.plain_answers.proofs.Telling.{are_predefined, seen_in, told}
 use Rattle.plain_answers.proofs.answer.execution_answers.Goals as goal
 
