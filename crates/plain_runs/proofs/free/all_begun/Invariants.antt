@@ -1,7 +1,7 @@
 use Rattle.std.proofs.Common.{◌≡◌, map, take}
 use Rattle.plain_runs.specs.Runs.{instance_as}
-use Rattle.plain_frees.specs.Frees.{free_run_as, with_first}
-use Rattle.plain_frees.proofs.free.all_begun.Given as goal
+use Rattle.plain_runs.specs.Frees.{free_run_as, with_first}
+use Rattle.plain_runs.proofs.free.all_begun.Given as goal
 
 abbrev pub invariant-loop-run : goal.invariant-loop-run
 invariant-loop-run l =

@@ -6,8 +6,8 @@ use Rattle.meaning.specs.Sets.{IsListOf}
 use Rattle.meaning.specs.Machine.{State}
 use Rattle.meaning.specs.Runs.{initial_state}
 use Rattle.plain_runs.specs.Runs.{ValuesOf}
-use Rattle.plain_frees.specs.Frees.{free_run_as, IsFreeRunFrom}
-use Rattle.plain_frees.proofs.free.thread_free_runs.Goals as goal
+use Rattle.plain_runs.specs.Frees.{free_run_as, IsFreeRunFrom}
+use Rattle.plain_runs.proofs.free.thread_free_runs.Goals as goal
 
 pub returns : goal.returns
 returns c =

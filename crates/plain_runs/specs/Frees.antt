@@ -12,7 +12,7 @@ use Rattle.meaning.specs.Domain as domain
 use Rattle.meaning.specs.Domain.{free_run_of}
 use Rattle.plain_machine.specs.Values.{value_as}
 use Rattle.plain_runs.specs.Runs.{run_as}
-use Rattle.plain_frees.specs.declared.free.FreeRun.{FreeRun}
+use Rattle.plain_runs.specs.declared.free.FreeRun.{FreeRun}
 
 abbrev pub free_run_as : FreeRun → domain.FreeRun
 free_run_as f = record {

@@ -7,14 +7,14 @@ ghost use Rattle.meaning.specs.Machine as machine;
 ghost use Rattle.meaning.specs.Domain as domain;
 ghost use Rattle.plain_machine.specs.Values.{value_as, state_as};
 ghost use Rattle.plain_runs.specs.Runs.{instance_as, ValuesOf};
-ghost use Rattle.plain_frees.specs.Frees.{free_run_as, with_first, IsFreeRunFrom, IsFreeRunWith, IsFreeRunLoading};
+ghost use Rattle.plain_runs.specs.Frees.{free_run_as, with_first, IsFreeRunFrom, IsFreeRunWith, IsFreeRunLoading};
 
+use crate::run::{Instance, Run, label_behind, prepended};
+use crate::thread::lines_of;
 use plain_machine::instruction::{is_branch, is_load, state_after, target};
 use plain_machine::start::initial_state;
 use plain_machine::state::State;
 use plain_machine::value::Value;
-use plain_runs::run::{Instance, Run, label_behind, prepended};
-use plain_runs::thread::lines_of;
 use std::alloc::{AllocError, Global};
 use text_values::{Instruction, Step, Test};
 

@@ -2,8 +2,8 @@ use Rattle.std.proofs.Common.{◌+◌, ◌*◌, length, map, take, Contains}
 use Rattle.meaning.specs.Sets.{IsListOf}
 use Rattle.plain_machine.specs.Values.{value_as, state_as}
 use Rattle.plain_runs.specs.Runs.{ValuesOf}
-use Rattle.plain_frees.specs.Frees.{free_run_as, IsFreeRunLoading}
-use Rattle.plain_frees.proofs.free.+free.Given as goal
+use Rattle.plain_runs.specs.Frees.{free_run_as, IsFreeRunLoading}
+use Rattle.plain_runs.proofs.free.+free.Given as goal
 
 abbrev pub decreases-free_runs_from : goal.decreases-free_runs_from
 decreases-free_runs_from l = 5 * length l.lines.now

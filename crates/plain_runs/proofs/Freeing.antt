@@ -17,7 +17,7 @@ use Rattle.plain_machine.specs.declared.value.Value as code
 use Rattle.plain_machine.specs.Values.{value_as}
 use Rattle.plain_runs.proofs.Listing.{listed_as, listed_one, listed_map, listed_both, over_more}
 use Rattle.plain_runs.proofs.Running.{no_some, same_some, same_rest, same_loaded, option_mapped}
-use Rattle.plain_frees.specs.Frees.{IsFreeRunFrom, IsFreeRunWith, IsFreeRunLoading, with_first}
+use Rattle.plain_runs.specs.Frees.{IsFreeRunFrom, IsFreeRunWith, IsFreeRunLoading, with_first}
 
 -- a run that ends at once
 abbrev at_end : State → Run

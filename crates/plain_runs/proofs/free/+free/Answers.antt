@@ -5,10 +5,10 @@ use Rattle.std.proofs.lemmas.List.{length-map, map-append}
 use Rattle.plain_machine.specs.Values.{value_as, state_as}
 use Rattle.plain_runs.specs.Runs.{ValuesOf}
 use Rattle.plain_runs.proofs.Listing.{over_all}
-use Rattle.plain_frees.specs.declared.free.FreeRun as code
-use Rattle.plain_frees.specs.Frees.{free_run_as, with_first, IsFreeRunWith}
-use Rattle.plain_frees.proofs.Freeing.{with_listed, loading_more, at_load, at_other, at_branch, at_label, at_passed}
-use Rattle.plain_frees.proofs.free.+free.Goals as goal
+use Rattle.plain_runs.specs.declared.free.FreeRun as code
+use Rattle.plain_runs.specs.Frees.{free_run_as, with_first, IsFreeRunWith}
+use Rattle.plain_runs.proofs.Freeing.{with_listed, loading_more, at_load, at_other, at_branch, at_label, at_passed}
+use Rattle.plain_runs.proofs.free.+free.Goals as goal
 
 pub free_runs_with-returns : goal.free_runs_with-returns
 free_runs_with-returns t c =
