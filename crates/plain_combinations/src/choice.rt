@@ -2,7 +2,7 @@
 
 ghost use Rattle.std.specs.Prelude.{◌≡◌, [], ◌∷◌, map, IfOk};
 ghost use Rattle.meaning.specs.Sets.{IsOnce, IsListOf};
-ghost use Rattle.plain_choices.specs.Choices.{lists_as, IsIndexChoice, BeginsBelow};
+ghost use Rattle.plain_combinations.specs.Choices.{lists_as, IsIndexChoice, BeginsBelow};
 
 use std::alloc::{AllocError, Global};
 

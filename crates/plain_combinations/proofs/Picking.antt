@@ -6,7 +6,7 @@ use Rattle.meaning.specs.Sets.{Set, IsOnce, IsListOf}
 use Rattle.meaning.proofs.Counting.{here, behind, head_or_tail}
 use Rattle.plain_runs.proofs.Listing.{none_there, once_none, once_cons, head_new, tail_once, there_mapped, mapped_from}
 use Rattle.plain_runs.proofs.Running.{no_some, same_some}
-use Rattle.plain_choices.specs.Choices.{IsIndexChoice, pick}
+use Rattle.plain_combinations.specs.Choices.{IsIndexChoice, pick}
 
 -- ---- what stands at an index
 

@@ -1,9 +1,9 @@
 use Rattle.std.proofs.Common.{ℕ, List, Vec, subst, sym}
 use Rattle.std.specs.declared.alloc.Global.{Global}
 use Rattle.meaning.specs.Sets.{IsOnce, IsListOf}
-use Rattle.plain_choices.specs.Choices.{lists_as, BeginsBelow}
-use Rattle.plain_choices.proofs.Choosing.{chosen_more}
-use Rattle.plain_choices.proofs.choice.+choices.Goals as goal
+use Rattle.plain_combinations.specs.Choices.{lists_as, BeginsBelow}
+use Rattle.plain_combinations.proofs.Choosing.{chosen_more}
+use Rattle.plain_combinations.proofs.choice.+choices.Goals as goal
 
 pub choices_behind-with_index-requires : goal.choices_behind-with_index-requires
 choices_behind-with_index-requires t c =

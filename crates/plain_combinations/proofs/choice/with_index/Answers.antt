@@ -2,9 +2,9 @@ use Rattle.std.proofs.Common.{◌≡◌, ℕ, List, Vec, ap, sym, subst, ◌∙�
 use Rattle.std.specs.declared.alloc.Global.{Global}
 use Rattle.std.proofs.lemmas.List.{map-append}
 use Rattle.meaning.specs.Sets.{IsListOf}
-use Rattle.plain_choices.specs.Choices.{lists_as, BeginsBelow}
-use Rattle.plain_choices.proofs.Choosing.{begin_below, begin_more}
-use Rattle.plain_choices.proofs.choice.with_index.Goals as goal
+use Rattle.plain_combinations.specs.Choices.{lists_as, BeginsBelow}
+use Rattle.plain_combinations.proofs.Choosing.{begin_below, begin_more}
+use Rattle.plain_combinations.proofs.choice.with_index.Goals as goal
 
 pub loop-index-init : goal.loop-index-init
 loop-index-init c =

@@ -2,7 +2,7 @@
 use Rattle.std.proofs.Common.{◌≡◌, ◌⊎◌, inl, inr, ℕ, ◌+◌, ◌<◌, List, [], ◌∷◌, ◌++◌, map, Contains, refl, sym, subst, ◌∙◌, arith}
 use Rattle.meaning.specs.Sets.{IsOnce, IsListOf}
 use Rattle.plain_runs.proofs.Listing.{listed_as, listed_none, listed_one, listed_map, listed_both}
-use Rattle.plain_choices.specs.Choices.{IsIndexChoice, BeginsWith, BeginsBelow}
+use Rattle.plain_combinations.specs.Choices.{IsIndexChoice, BeginsWith, BeginsBelow}
 
 same_tail : (k : ℕ) (xs ys : List ℕ) → k ∷ xs ≡ k ∷ ys → xs ≡ ys
 same_tail k xs ys e = cc

@@ -1,6 +1,6 @@
 use Rattle.meaning.specs.Sets.{IsListOf}
-use Rattle.plain_choices.specs.Choices.{lists_as, BeginsBelow}
-use Rattle.plain_choices.proofs.choice.with_index.Given as goal
+use Rattle.plain_combinations.specs.Choices.{lists_as, BeginsBelow}
+use Rattle.plain_combinations.proofs.choice.with_index.Given as goal
 
 abbrev pub invariant-loop-index : goal.invariant-loop-index
 invariant-loop-index l =

@@ -1,5 +1,5 @@
 use Rattle.std.proofs.Common.{◌+◌, ◌*◌, length}
-use Rattle.plain_choices.proofs.choice.+choices.Given as goal
+use Rattle.plain_combinations.proofs.choice.+choices.Given as goal
 
 abbrev pub decreases-choices : goal.decreases-choices
 decreases-choices l = 2 * length l.counts.now

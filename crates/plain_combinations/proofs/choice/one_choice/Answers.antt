@@ -1,8 +1,8 @@
 use Rattle.std.proofs.Common.{ℕ, List, Vec, [], ◌∷◌, ◌++◌, ap, ◌∙◌}
 use Rattle.std.specs.declared.alloc.Global.{Global}
-use Rattle.plain_choices.specs.Choices.{lists_as}
-use Rattle.plain_choices.proofs.Choosing.{chosen_none}
-use Rattle.plain_choices.proofs.choice.one_choice.Goals as goal
+use Rattle.plain_combinations.specs.Choices.{lists_as}
+use Rattle.plain_combinations.proofs.Choosing.{chosen_none}
+use Rattle.plain_combinations.proofs.choice.one_choice.Goals as goal
 
 pub returns : goal.returns
 returns c =

@@ -1,6 +1,6 @@
 use Rattle.std.proofs.Common.{◌≡◌, ◌∷◌, map, take}
-use Rattle.plain_choices.specs.Choices.{lists_as}
-use Rattle.plain_choices.proofs.choice.all_begun.Given as goal
+use Rattle.plain_combinations.specs.Choices.{lists_as}
+use Rattle.plain_combinations.proofs.choice.all_begun.Given as goal
 
 abbrev pub invariant-loop-rest : goal.invariant-loop-rest
 invariant-loop-rest l =

@@ -1,4 +1,4 @@
--- Choices of indexes.
+-- Choices of indexes. Read next: Combinations.
 use Rattle.std.specs.Prelude.{ℕ, ◌≡◌, ◌<◌, List, [], ◌∷◌, ◌++◌, slice_get, option_to_list, map, Vec, Contains}
 use Rattle.std.specs.List.{AllZip}
 use Rattle.std.specs.declared.alloc.Global.{Global}
