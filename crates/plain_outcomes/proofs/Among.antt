@@ -16,7 +16,7 @@ use Rattle.meaning.specs.Executions.{Event, Initial, Does, Execution, Loads, Sto
 use Rattle.meaning.specs.Predefined.{IsAccessOf, Internal, External, FromReads, SameLocation, Fenced, EventsOf, PairsOf}
 use Rattle.plain_executions.proofs.Indexing.{stands}
 use Rattle.plain_executions.proofs.Pairing.{zip_related}
-use Rattle.plain_answers.proofs.Sound.{event_at}
+use Rattle.plain_outcomes.proofs.Sound.{event_at}
 
 -- Both are events.
 abbrev Both : Content → Execution → Event → Event → Type 0

@@ -12,8 +12,8 @@ use Rattle.plain_events.specs.Events.{of_runs}
 use Rattle.plain_events.proofs.Standing.{locations_once}
 use Rattle.plain_executions.specs.Executions.{execution_as}
 use Rattle.plain_names.specs.Seen.{seen_events, AreSeen}
-use Rattle.plain_answers.proofs.Telling.{are_predefined, seen_in, told}
-use Rattle.plain_answers.proofs.answer.execution_answers.Goals as goal
+use Rattle.plain_outcomes.proofs.Telling.{are_predefined, seen_in, told}
+use Rattle.plain_outcomes.proofs.answer.execution_answers.Goals as goal
 
 pub looked_at-requires-clause-once : goal.looked_at-requires-clause-once
 looked_at-requires-clause-once c =

@@ -8,7 +8,7 @@ ghost use Rattle.meaning.specs.Executions.{IsExecution};
 ghost use Rattle.meaning.specs.Faults.{faults};
 ghost use Rattle.plain_locations.specs.Locations.{names_as};
 ghost use Rattle.plain_executions.specs.Executions.{execution_as};
-ghost use Rattle.plain_answers.specs.Answered.{AreAnswersOf};
+ghost use Rattle.plain_outcomes.specs.Answered.{AreAnswersOf};
 
 use plain_executions::execution::Execution;
 use plain_models::model::{Answers, answered};

@@ -1,4 +1,4 @@
--- What a model says of an execution.
+-- What a model says of an execution. Read next: States.
 use Rattle.std.specs.Prelude.{ℕ, ◌↔◌, List, Contains, IsTrue}
 use Rattle.text_values.specs.ModelValue.{Clause}
 use Rattle.text_values.specs.TestValue.{Content}

@@ -37,8 +37,8 @@ use Rattle.plain_executions.proofs.Indexing.{index_of, stands, one_index}
 use Rattle.plain_names.specs.declared.seen.Seen.{Seen}
 use Rattle.plain_names.specs.Seen.{seen_event, seen_events, IsSeenAs, AreSeen}
 use Rattle.plain_names.specs.Named.{IsValueOf, IsBoundTo, ArePredefinedNames}
-use Rattle.plain_answers.specs.Answered.{AreAnswersOf}
-use Rattle.plain_answers.proofs.Among.{events_among, pairs_among}
+use Rattle.plain_outcomes.specs.Answered.{AreAnswersOf}
+use Rattle.plain_outcomes.proofs.Among.{events_among, pairs_among}
 
 -- ---- names that are bound to values
 
