@@ -18,8 +18,8 @@ use Rattle.plain_runs.specs.Runs.{ValuesOf}
 use Rattle.plain_runs.proofs.Listing.{listed_as}
 use Rattle.plain_runs.proofs.Counting.{has_over, has_not_over}
 use Rattle.plain_runs.proofs.Running.{no_some, same_some}
-use Rattle.plain_choices.specs.Choices.{IsIndexChoice, pick, lists_as}
-use Rattle.plain_choices.proofs.Picking.{listed_picks}
+use Rattle.plain_combinations.specs.Choices.{IsIndexChoice, pick, lists_as}
+use Rattle.plain_combinations.proofs.Picking.{listed_picks}
 use Rattle.plain_combinations.specs.Combinations.{run_lists_as, AreRunLists}
 
 -- ---- what is said of each of a list, by its index

@@ -9,8 +9,8 @@ ghost use Rattle.plain_machine.specs.Values.{value_as};
 ghost use Rattle.plain_runs.specs.Runs.{run_as};
 ghost use Rattle.plain_combinations.specs.Combinations.{run_lists_as, AreRunLists, AreAllCombinations};
 
+use crate::choice::choices;
 use crate::picked::all_picked;
-use plain_choices::choice::choices;
 use plain_machine::value::Value;
 use plain_runs::run::Run;
 use plain_runs::thread::thread_runs;

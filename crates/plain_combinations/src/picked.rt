@@ -2,7 +2,7 @@
 
 ghost use Rattle.std.specs.Prelude.{◌≡◌, ◌∷◌, ◌++◌, map, slice_get, option_to_list, IfOk, OnOk};
 ghost use Rattle.plain_runs.specs.Runs.{run_as};
-ghost use Rattle.plain_choices.specs.Choices.{pick, lists_as};
+ghost use Rattle.plain_combinations.specs.Choices.{pick, lists_as};
 ghost use Rattle.plain_combinations.specs.Combinations.{run_lists_as};
 
 use plain_runs::run::Run;

@@ -9,16 +9,16 @@ ghost use Rattle.meaning_plain.specs.Lists.{Given};
 ghost use Rattle.plain_machine.specs.Values.{value_as};
 ghost use Rattle.plain_runs.specs.Runs.{instance_as, run_as, ValuesOf};
 ghost use Rattle.plain_locations.specs.Locations.{names_as};
-ghost use Rattle.plain_frees.specs.Frees.{free_run_as};
+ghost use Rattle.plain_runs.specs.Frees.{free_run_as};
 ghost use Rattle.plain_domains.specs.Domains.{Adds, IsReal, IsStartOf, IsStoredBy, IsStoredIn, IsNextRound, IsRoundFound, AreRounds, IsDomainFound};
 
 use crate::store::put_value;
-use plain_frees::free::{FreeRun, thread_free_runs};
 use plain_locations::count::{Counted, count};
 use plain_locations::locations::locations;
 use plain_machine::instruction::stored;
 use plain_machine::start::{Observable, initial_value};
 use plain_machine::value::Value;
+use plain_runs::free::{FreeRun, thread_free_runs};
 use plain_runs::run::{Instance, Run};
 use std::alloc::{AllocError, Global};
 use text_values::Test;

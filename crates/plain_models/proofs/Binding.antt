@@ -12,17 +12,17 @@ use Rattle.meaning.specs.Names.{Name}
 use Rattle.meaning.specs.Cat.{Meaning, ARelation, ToMeaning, ToFunction, Names, meaning_of, with_arguments, with_group, Least, with_bodies, names_after, IsItemMet, AreMet, IsFlagMet}
 use Rattle.meaning.specs.Cat as cat
 use Rattle.meaning.specs.Faults.{Known, AsFunction, Scope, in_body, faults_from, known_after}
-use Rattle.plain_expressions.specs.declared.value.Value.{Value}
-use Rattle.plain_expressions.specs.declared.scope.Bound.{Bound}
-use Rattle.plain_expressions.specs.declared.scope.Bound.TheVariants as bounds
-use Rattle.plain_expressions.specs.declared.scope.Named.{Named}
-use Rattle.plain_expressions.specs.Values.{meaning_as, IsEvaluatedTo, HaveValues}
-use Rattle.plain_expressions.specs.Scopes.{function_of, bound_as, with_named}
+use Rattle.plain_models.specs.declared.value.Value.{Value}
+use Rattle.plain_models.specs.declared.scope.Bound.{Bound}
+use Rattle.plain_models.specs.declared.scope.Bound.TheVariants as bounds
+use Rattle.plain_models.specs.declared.scope.Named.{Named}
+use Rattle.plain_models.specs.Values.{meaning_as, IsEvaluatedTo, HaveValues}
+use Rattle.plain_models.specs.Scopes.{function_of, bound_as, with_named}
 use Rattle.meaning_rising.proofs.Inside.{alike_through}
 use Rattle.meaning_rising.proofs.Alike.{AlikeBound, meanings, AlikeNames, none, more}
-use Rattle.plain_expressions.proofs.Applying.{named_alike, function_alike}
-use Rattle.plain_groups.specs.Groups.{name_of, body_of, AreRelations}
-use Rattle.plain_items.specs.Items.{IsBoundTo, AreBoundTo, AreBound, Binds}
+use Rattle.plain_models.proofs.Applying.{named_alike, function_alike}
+use Rattle.plain_models.specs.Groups.{name_of, body_of, AreRelations}
+use Rattle.plain_models.specs.Items.{IsBoundTo, AreBoundTo, AreBound, Binds}
 use Rattle.plain_models.proofs.Knowing.{IsKnown, IsFunctionKnown, Knows, knows_append, with_append, group_known, bodies_known}
 
 bound_to_alike : (all : Set ℕ) (is : List Item) (N : Names ℕ) (v : Value) (b : Bound)

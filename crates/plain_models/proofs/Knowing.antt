@@ -17,18 +17,18 @@ use Rattle.meaning.specs.Predefined.{predefined_names}
 use Rattle.meaning.specs.Cat.{Meaning, ToMeaning, Names, meaning_of, IsChosen}
 use Rattle.meaning.specs.Cat as cat
 use Rattle.meaning.specs.Faults.{ModelFault, Duplicate, SetInRec, OfSet, OfRelation, KnownName, Known, AsValue, AsFunction, Scope, is_relation, fault_if, value_with, in_term, in_body, is_among, with_group, scope_with_bodies, faults_of_group, faults_of_item, predefined_known, outermost_scope}
-use Rattle.plain_expressions.specs.declared.value.Value.{Value}
-use Rattle.plain_expressions.specs.declared.scope.Bound.{Bound}
-use Rattle.plain_expressions.specs.declared.scope.Bound.TheVariants as bounds
-use Rattle.plain_expressions.specs.declared.scope.Named.{Named}
-use Rattle.plain_expressions.specs.Values.{meaning_as}
-use Rattle.plain_expressions.specs.Scopes.{function_of, bound_as, with_named}
+use Rattle.plain_models.specs.declared.value.Value.{Value}
+use Rattle.plain_models.specs.declared.scope.Bound.{Bound}
+use Rattle.plain_models.specs.declared.scope.Bound.TheVariants as bounds
+use Rattle.plain_models.specs.declared.scope.Named.{Named}
+use Rattle.plain_models.specs.Values.{meaning_as}
+use Rattle.plain_models.specs.Scopes.{function_of, bound_as, with_named}
 use Rattle.meaning_rising.proofs.Inside.{pair_inside}
 use Rattle.meaning_rising.proofs.Alike.{AlikeNames}
 use Rattle.meaning_rising.proofs.Alike as alikes
-use Rattle.plain_expressions.proofs.Applying.{named_alike}
-use Rattle.plain_groups.specs.Groups.{name_of, AreApart, DoesGrow, IsSolvable}
-use Rattle.plain_items.specs.Items.{IsBoundTo, AreBoundTo}
+use Rattle.plain_models.proofs.Applying.{named_alike}
+use Rattle.plain_models.specs.Groups.{name_of, AreApart, DoesGrow, IsSolvable}
+use Rattle.plain_models.specs.Items.{IsBoundTo, AreBoundTo}
 use Rattle.plain_models.specs.Answers.{IsOfValue, AreValuesOf, ArePredefined}
 use Rattle.meaning_rising.proofs.Growing.{no_parts, group_grows}
 use Rattle.meaning_rising.proofs.Risen.{RisesBound, value, function, RisesNames, none, more, same_risen, body_rises}

@@ -1,3 +1,13 @@
+pub mod Latest
+pub mod Applying
+pub mod Joining
+pub mod Weights
+pub mod Solving
+pub mod Stepping
+pub mod Rounds
+pub mod Behind
+pub mod Checking
+pub mod Adding
 pub mod Knowing
 pub mod Binding
 pub mod Reading

@@ -10,14 +10,14 @@ use Rattle.meaning.specs.Cat.{Names, names_after, IsItemMet, AreMet, IsFlagMet}
 use Rattle.meaning.specs.Faults.{Scope, faults, faults_of_item, faults_from, known_after, outermost_scope}
 use Rattle.meaning_plain.specs.Lists.{Grows}
 use Rattle.meaning_plain.proofs.Growing.{nothing_there}
-use Rattle.plain_expressions.specs.declared.scope.Named.{Named}
-use Rattle.plain_expressions.specs.Scopes.{with_named}
+use Rattle.plain_models.specs.declared.scope.Named.{Named}
+use Rattle.plain_models.specs.Scopes.{with_named}
 use Rattle.plain_models.specs.declared.model.Answers as code
 use Rattle.plain_models.specs.declared.model.Reading as code_reading
-use Rattle.plain_groups.specs.Groups.{IsSolvable}
-use Rattle.plain_items.specs.Items.{Binds}
+use Rattle.plain_models.specs.Groups.{IsSolvable}
+use Rattle.plain_models.specs.Items.{Binds}
 use Rattle.plain_models.specs.Answers.{AreModelAnswers, ArePredefined, IsReading}
-use Rattle.plain_items.proofs.Behind.{turned_names, met_alike, flag_alike}
+use Rattle.plain_models.proofs.Behind.{turned_names, met_alike, flag_alike}
 use Rattle.meaning_rising.proofs.Growing.{no_parts}
 use Rattle.plain_models.proofs.Knowing.{outer_rises, predefined_know, item_solvable}
 use Rattle.plain_models.proofs.Binding.{IsBehind, item_behind, IsReadTo, left_is, flag_head, flag_tail}

@@ -8,10 +8,10 @@ use Rattle.meaning.specs.Sets as sets
 use Rattle.meaning.specs.Names.{Name}
 use Rattle.meaning.specs.Predefined.{predefined_names}
 use Rattle.meaning.specs.Cat.{Names, IsItemMet, AreMet, IsFlagMet}
-use Rattle.plain_expressions.specs.declared.scope.Bound.{Bound}
-use Rattle.plain_expressions.specs.declared.scope.Bound.TheVariants as bounds
-use Rattle.plain_expressions.specs.declared.scope.Named.{Named}
-use Rattle.plain_items.specs.Items.{AreBound}
+use Rattle.plain_models.specs.declared.scope.Bound.{Bound}
+use Rattle.plain_models.specs.declared.scope.Bound.TheVariants as bounds
+use Rattle.plain_models.specs.declared.scope.Named.{Named}
+use Rattle.plain_models.specs.Items.{AreBound}
 use Rattle.plain_models.specs.declared.model.Answers as code
 use Rattle.plain_models.specs.declared.model.Reading.{Reading}
 

@@ -1,1 +1,5 @@
+pub mod Values
+pub mod Scopes
+pub mod Groups
+pub mod Items
 pub mod Answers

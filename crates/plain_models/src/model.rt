@@ -4,13 +4,13 @@ ghost use Rattle.std.specs.Prelude.{◌≡◌, ◌↔◌, [], IfOk, OnOk, IsTrue
 ghost use Rattle.text_values.specs.ModelValues.{clause_of, clauses_of};
 ghost use Rattle.meaning.specs.Faults.{faults};
 ghost use Rattle.meaning_plain.specs.Lists.{SetOf, Grows};
-ghost use Rattle.plain_expressions.specs.Scopes.{with_named};
-ghost use Rattle.plain_groups.specs.Groups.{IsSolvable};
+ghost use Rattle.plain_models.specs.Scopes.{with_named};
+ghost use Rattle.plain_models.specs.Groups.{IsSolvable};
 ghost use Rattle.plain_models.specs.Answers.{AreModelAnswers, ArePredefined, IsReading};
 
-use plain_expressions::scope::{Named, Scope};
-use plain_expressions::value::Value;
-use plain_items::item::{bind, bound_values, is_item_met, is_raised};
+use crate::item::{bind, bound_values, is_item_met, is_raised};
+use crate::scope::{Named, Scope};
+use crate::value::Value;
 use std::alloc::{AllocError, Global};
 use text_values::Item;
 

@@ -1,1 +1,5 @@
+pub mod Seeing
+pub mod Belonging
+pub mod Relating
+pub mod Meant
 pub mod Naming

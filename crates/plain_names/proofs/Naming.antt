@@ -9,7 +9,7 @@ use Rattle.text_values.specs.declared.predefined.TheConstants.{PREDEFINED}
 use Rattle.meaning.specs.Predefined.{predefined_names}
 use Rattle.meaning_plain.specs.Lists.{HasMembers}
 use Rattle.plain_runs.proofs.Listing.{none_there}
-use Rattle.plain_expressions.specs.declared.scope.Named.{Named}
+use Rattle.plain_models.specs.declared.scope.Named.{Named}
 
 pub all_begin : (ns : List ℕ) → ns ≡ [] → HasMembers (λ n. n < 0) ns
 all_begin ns e n = (

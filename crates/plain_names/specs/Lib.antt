@@ -1,1 +1,4 @@
+pub mod Seen
+pub mod Members
+pub mod Related
 pub mod Named

@@ -7,13 +7,13 @@ use Rattle.text_values.specs.TestValue.{Content}
 use Rattle.meaning.specs.Executions.{Event, Execution}
 use Rattle.meaning.specs.Predefined.{PairsOf, predefined_names}
 use Rattle.meaning_plain.specs.Lists.{HasMembers, HasPairs}
-use Rattle.plain_expressions.specs.declared.value.Value as code
-use Rattle.plain_expressions.specs.declared.value.Value.TheVariants as values
-use Rattle.plain_expressions.specs.declared.scope.Bound.{Bound}
-use Rattle.plain_expressions.specs.declared.scope.Bound.TheVariants as bounds
-use Rattle.plain_expressions.specs.declared.scope.Named.{Named}
+use Rattle.plain_models.specs.declared.value.Value as code
+use Rattle.plain_models.specs.declared.value.Value.TheVariants as values
+use Rattle.plain_models.specs.declared.scope.Bound.{Bound}
+use Rattle.plain_models.specs.declared.scope.Bound.TheVariants as bounds
+use Rattle.plain_models.specs.declared.scope.Named.{Named}
 use Rattle.plain_executions.specs.Executions.{AreRelated}
-use Rattle.plain_sets.specs.Members.{IsMemberAt}
+use Rattle.plain_names.specs.Members.{IsMemberAt}
 
 -- The value is what the name stands for.
 abbrev pub IsValueOf : Content → Execution → List Event → Predefined → code.Value → Type 0

@@ -7,15 +7,15 @@ ghost use Rattle.meaning.specs.Executions.{loads_in};
 ghost use Rattle.meaning_plain.specs.Lists.{HasMembers};
 ghost use Rattle.plain_events.specs.Events.{event_as};
 ghost use Rattle.plain_executions.specs.Executions.{execution_as};
-ghost use Rattle.plain_sets.specs.Seen.{seen_events, AreSeen};
+ghost use Rattle.plain_names.specs.Seen.{seen_events, AreSeen};
 ghost use Rattle.plain_names.specs.Named.{IsValueOf, IsBoundTo, ArePredefinedNames};
 
+use crate::pairs::{pairs_of, seen_count};
+use crate::seen::Shown;
+use crate::sets::members_of;
 use plain_executions::execution::Execution;
-use plain_expressions::scope::{Bound, Named};
-use plain_expressions::value::Value;
-use plain_relations::pairs::{pairs_of, seen_count};
-use plain_sets::seen::Shown;
-use plain_sets::sets::members_of;
+use plain_models::scope::{Bound, Named};
+use plain_models::value::Value;
 use std::alloc::{AllocError, Global};
 use text_values::{Name, PREDEFINED, Predefined};
 

@@ -1,3 +1,6 @@
+pub mod Sound
+pub mod Among
+pub mod Telling
 pub mod Counting
 pub mod Ordering
 pub mod Keeping

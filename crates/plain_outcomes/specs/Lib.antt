@@ -1,3 +1,4 @@
+pub mod Answered
 pub mod States
 pub mod Kept
 pub mod Outcomes

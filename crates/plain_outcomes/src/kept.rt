@@ -14,7 +14,7 @@ ghost use Rattle.plain_executions.specs.Executions.{execution_as};
 ghost use Rattle.plain_ends.specs.Ends.{places_as};
 ghost use Rattle.plain_outcomes.specs.Kept.{AreEndsOf, AddsIfKept};
 
-use plain_answers::answer::execution_answers;
+use crate::answer::execution_answers;
 use plain_ends::ending::End;
 use plain_ends::observables::observables;
 use plain_ends::satisfied::end_of;

@@ -1,3 +1,4 @@
 pub mod Listing
 pub mod Counting
 pub mod Running
+pub mod Freeing

@@ -1,4 +1,4 @@
--- What the runs of the code are in the definitions, and which runs go on from a line.
+-- What the runs of the code are in the definitions, and which runs go on from a line. Read next: Frees.
 use Rattle.std.specs.Prelude.{◌≡◌, List, Bool, Option, Some, map, Contains, All}
 use Rattle.text_values.specs.declared.test.Step.{Step}
 use Rattle.text_values.specs.declared.instruction.Instruction as text

@@ -3,7 +3,7 @@ use Rattle.std.specs.declared.alloc.Global.{Global}
 use Rattle.std.proofs.lemmas.Bool.{iff_false}
 use Rattle.text_values.specs.TestValue.{content_of}
 use Rattle.plain_runs.specs.declared.run.Run as code
-use Rattle.plain_choices.specs.Choices.{pick, lists_as}
+use Rattle.plain_combinations.specs.Choices.{pick, lists_as}
 use Rattle.plain_combinations.specs.Combinations.{run_lists_as}
 use Rattle.plain_combinations.proofs.Combining.{too_many, few, all_combined}
 use Rattle.plain_combinations.proofs.combination.combinations.Goals as goal

@@ -4,8 +4,8 @@ use Rattle.meaning.specs.Domain.{FreeRun}
 use Rattle.meaning_plain.specs.Lists.{Given}
 use Rattle.plain_machine.specs.declared.value.Value.{Value}
 use Rattle.plain_runs.specs.Runs.{ValuesOf}
-use Rattle.plain_frees.specs.declared.free.FreeRun as code
-use Rattle.plain_frees.specs.Frees.{free_run_as}
+use Rattle.plain_runs.specs.declared.free.FreeRun as code
+use Rattle.plain_runs.specs.Frees.{free_run_as}
 use Rattle.plain_domains.specs.Domains.{Adds, IsStoredIn}
 use Rattle.plain_domains.proofs.Rounds.{StoredBelow, begin_stored, begin_few, stored_more, few_more, few_runs, over_runs, many_runs, next_listed}
 use Rattle.plain_domains.proofs.domain.next_values.Goals as goal

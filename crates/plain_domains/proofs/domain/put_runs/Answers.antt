@@ -1,8 +1,8 @@
 use Rattle.std.proofs.Common.{List, [], ◌∷◌, ◌++◌, map, take, ap, sym, subst, ◌∙◌}
 use Rattle.meaning_plain.specs.Lists.{Given}
 use Rattle.meaning.specs.Domain.{FreeRun}
-use Rattle.plain_frees.specs.declared.free.FreeRun as code
-use Rattle.plain_frees.specs.Frees.{free_run_as}
+use Rattle.plain_runs.specs.declared.free.FreeRun as code
+use Rattle.plain_runs.specs.Frees.{free_run_as}
 use Rattle.plain_domains.specs.Domains.{Adds, IsStoredIn}
 use Rattle.plain_domains.proofs.Storing.{adds_begin, adds_more}
 use Rattle.plain_locations.proofs.Mapping.{mapped_more, mapped_all}

@@ -1,6 +1,6 @@
 use Rattle.std.proofs.Common.{map, take}
 use Rattle.meaning_plain.specs.Lists.{Given}
-use Rattle.plain_frees.specs.Frees.{free_run_as}
+use Rattle.plain_runs.specs.Frees.{free_run_as}
 use Rattle.plain_domains.specs.Domains.{Adds, IsStoredIn}
 use Rattle.plain_domains.proofs.domain.put_runs.Given as goal
 

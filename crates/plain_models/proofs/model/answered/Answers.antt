@@ -2,13 +2,13 @@ use Rattle.std.proofs.Common.{List, [], get_or, sym, subst, arith}
 use Rattle.text_values.specs.declared.model.Item.{Item}
 use Rattle.text_values.specs.ModelValues.{clause_of}
 use Rattle.meaning_plain.specs.Lists.{SetOf}
-use Rattle.plain_expressions.specs.declared.value.Value.{Value}
-use Rattle.plain_expressions.specs.declared.scope.Named.{Named}
-use Rattle.plain_expressions.specs.Scopes.{with_named}
-use Rattle.plain_groups.specs.Groups.{IsSolvable}
-use Rattle.plain_items.specs.Items.{AreAsMany, Binds}
+use Rattle.plain_models.specs.declared.value.Value.{Value}
+use Rattle.plain_models.specs.declared.scope.Named.{Named}
+use Rattle.plain_models.specs.Scopes.{with_named}
+use Rattle.plain_models.specs.Groups.{IsSolvable}
+use Rattle.plain_models.specs.Items.{AreAsMany, Binds}
 use Rattle.plain_models.specs.Answers.{IsReading}
-use Rattle.plain_items.proofs.Adding.{bound_as_many}
+use Rattle.plain_models.proofs.Adding.{bound_as_many}
 use Rattle.plain_models.proofs.Reading.{read_begin, next_solvable, read_more, read_all}
 use Rattle.plain_models.proofs.model.answered.Goals as goal
 

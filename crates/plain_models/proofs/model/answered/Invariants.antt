@@ -1,6 +1,6 @@
 use Rattle.std.proofs.Common.{[]}
 use Rattle.meaning_plain.specs.Lists.{SetOf}
-use Rattle.plain_expressions.specs.Scopes.{with_named}
+use Rattle.plain_models.specs.Scopes.{with_named}
 use Rattle.plain_models.proofs.Binding.{IsReadTo}
 use Rattle.plain_models.proofs.model.answered.Given as goal
 

@@ -3,9 +3,9 @@ use Rattle.std.specs.List.{AllZip}
 use Rattle.text_values.specs.declared.predefined.Predefined.{Predefined}
 use Rattle.text_values.specs.declared.predefined.TheConstants.{PREDEFINED}
 use Rattle.text_values.specs.PredefinedNames.{spelling}
-use Rattle.plain_expressions.specs.declared.scope.Named.{Named}
+use Rattle.plain_models.specs.declared.scope.Named.{Named}
 use Rattle.plain_executions.specs.Executions.{execution_as}
-use Rattle.plain_sets.specs.Seen.{seen_events}
+use Rattle.plain_names.specs.Seen.{seen_events}
 use Rattle.plain_names.specs.Named.{IsBoundTo}
 use Rattle.plain_names.proofs.Naming.{named_more, named_whole}
 use Rattle.plain_names.proofs.names.predefined_names.Goals as goal

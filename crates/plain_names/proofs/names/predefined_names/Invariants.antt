@@ -4,7 +4,7 @@ use Rattle.text_values.specs.declared.predefined.TheConstants.{PREDEFINED}
 use Rattle.text_values.specs.PredefinedNames.{spelling}
 use Rattle.text_values.specs.TestValue.{Content}
 use Rattle.plain_executions.specs.Executions.{execution_as}
-use Rattle.plain_sets.specs.Seen.{seen_events, AreSeen}
+use Rattle.plain_names.specs.Seen.{seen_events, AreSeen}
 use Rattle.plain_names.specs.Named.{IsBoundTo}
 use Rattle.plain_names.proofs.names.predefined_names.Given as goal
 

@@ -1,9 +1,9 @@
 use Rattle.std.proofs.Common.{List, sym, subst, ◌∙◌}
 use Rattle.meaning_plain.specs.Lists.{HasMembers}
 use Rattle.plain_executions.specs.Executions.{execution_as}
-use Rattle.plain_sets.specs.declared.seen.Seen.{Seen}
-use Rattle.plain_sets.specs.Seen.{seen_events, AreSeen}
-use Rattle.plain_sets.specs.Members.{IsMemberAt}
+use Rattle.plain_names.specs.declared.seen.Seen.{Seen}
+use Rattle.plain_names.specs.Seen.{seen_events, AreSeen}
+use Rattle.plain_names.specs.Members.{IsMemberAt}
 use Rattle.plain_names.proofs.names.value_of.Goals as goal
 
 pub returns-then-is_set : goal.returns-then-is_set

@@ -1,4 +1,0 @@
-pub mod Latest
-pub mod Applying
-pub mod Joining
-pub mod Weights

@@ -1,6 +1,0 @@
-use Rattle.std.proofs.Common.{◌≡◌, take}
-use Rattle.plain_expressions.specs.Scopes.{latest_index}
-use Rattle.plain_expressions.proofs.scope.latest_name.Given as goal
-
-abbrev pub invariant-loop-index : goal.invariant-loop-index
-invariant-loop-index l = l.found ≡ latest_index l.name (take l.index l.names)

@@ -1,6 +1,0 @@
-use Rattle.std.proofs.Common.{take}
-use Rattle.plain_groups.specs.Groups.{AreRelations}
-use Rattle.plain_groups.proofs.group.no_pairs.Given as goal
-
-abbrev pub invariant-loop-name : goal.invariant-loop-name
-invariant-loop-name l = AreRelations (λ n a b. ⊥) (take l._name-index l.names) l.values.items

@@ -1,2 +1,0 @@
-pub mod Relating
-pub mod Meant

@@ -1,9 +1,0 @@
-use Rattle.std.proofs.Common.{take}
-use Rattle.plain_events.specs.Events.{event_as}
-use Rattle.plain_relations.specs.Related.{HasFenceBetween}
-use Rattle.plain_relations.proofs.pairs.has_fence_between.Given as goal
-
-abbrev pub invariant-loop-one : goal.invariant-loop-one
-invariant-loop-one l =
-    HasFenceBetween (take l.one-index l.seen) l.kind (event_as l.first.event) (event_as l.second.event)
-    → ⊥

@@ -1,7 +1,0 @@
-use Rattle.plain_sets.proofs.Belonging.{members_meant}
-use Rattle.plain_sets.proofs.sets.members_of.Goals as goal
-
-pub returns : goal.returns
-returns c t x shown =
-    members_meant c.args.seen.now t x c.args.name c.in_ok-members.members.items c.in_ok-members.ensures
-    shown
