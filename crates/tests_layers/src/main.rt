@@ -1,11 +1,13 @@
-//! Asks the layers under evaluation what the files of cases ask, and prints each line with its
-//! answer: the readers and the printers, the edits of texts, the parts of a bench after edits, the
-//! semantics of tests, and benches over a small instance. Each begins with a line that names it.
+//! Tries the layers under evaluation. First the operations on relations; then what the files of
+//! cases ask, each line printed with its answer: the readers and the printers, the edits of texts,
+//! the parts of a bench after edits, the semantics of tests, and benches over a small instance.
+//! Each begins with a line that names it.
 #![tactic(auto)]
 
 pub mod benches;
 mod parts;
 mod readers;
+mod relations;
 mod semantics;
 mod texts;
 
@@ -22,6 +24,8 @@ fn print_answer<R: Print>(rt: &R, answer: Vec<u8>) -> io::Result<()> {
 }
 
 fn run<R: Files + Print + AllocGlobal + Wait>(rt: &R) -> io::Result<()> {
+    println!(rt; "# Relations")?;
+    relations::show_all(rt)?;
     println!(rt; "# Readers and printers")?;
     readers::show_all(rt)?;
     println!(rt; "# Edits of texts")?;

@@ -1,7 +1,7 @@
 //! Relations packed in columns.
 ghost use Rattle.std.specs.Prelude.{◌<◌, ◌≤◌, length};
 
-use crate::digest::show_relation;
+use crate::relations::digest::show_relation;
 use bit_relations::Rel;
 use relation_columns::{Cursor, RunColumn};
 use std::alloc::{AllocError, Global};

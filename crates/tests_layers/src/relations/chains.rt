@@ -1,7 +1,7 @@
 //! The closure of a chain, and of the ring that one more pair makes of it.
 ghost use Rattle.std.specs.Prelude.{◌≡◌, ◌≤◌};
 
-use crate::digest::show_relation;
+use crate::relations::digest::show_relation;
 use bit_relations::Rel;
 use std::io;
 

@@ -1,5 +1,5 @@
 use Rattle.std.proofs.Common.{◌≡◌}
-use Rattle.tests_relations.proofs.random.relation_of.Given as goal
+use Rattle.tests_layers.proofs.relations.random.relation_of.Given as goal
 
 abbrev pub invariant-loop-pair : goal.invariant-loop-pair
 invariant-loop-pair l = l.made.count ≡ l.count

@@ -1,5 +1,5 @@
 use Rattle.std.proofs.Common.{◌≡◌}
-use Rattle.tests_relations.proofs.chains.chain.Given as goal
+use Rattle.tests_layers.proofs.relations.chains.chain.Given as goal
 
 abbrev pub invariant-loop-i : goal.invariant-loop-i
 invariant-loop-i l = l.made.count ≡ l.count

@@ -1,8 +1,8 @@
 //! Shortest cycles of rings with one more pair, and the least pairs.
 ghost use Rattle.std.specs.Prelude.{◌≡◌, ◌≤◌};
 
-use crate::chains::chain;
-use crate::digest::show_events;
+use crate::relations::chains::chain;
+use crate::relations::digest::show_events;
 use bit_relations::Rel;
 use relation_cycles::{cycle_through, first_reflexive, least_pair, shortest_cycle};
 use std::io;

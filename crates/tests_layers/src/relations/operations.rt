@@ -1,8 +1,8 @@
 //! Each operation, on relations and sets that look random.
 ghost use Rattle.std.specs.Prelude.{◌≤◌};
 
-use crate::digest::{show_relation, show_set};
-use crate::random;
+use crate::relations::digest::{show_relation, show_set};
+use crate::relations::random;
 use bit_relations::{EventSet, Rel};
 use std::io;
 
