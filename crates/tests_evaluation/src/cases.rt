@@ -1,4 +1,4 @@
-//! Asks the evaluator what each line of `cases.txt` asks, and prints the line and the answer. The
+//! Asks the evaluator what each line of `models.txt` asks, and prints the line and the answer. The
 //! answers that are wanted were worked out by hand.
 
 use crate::{bindings, cells, nodes, outcomes, streams, told, values};
@@ -58,7 +58,7 @@ fn show<R: Print + AllocGlobal>(rt: &R, line: &str) -> io::Result<()> {
 
 /// Answers each question.
 pub fn show_all<R: Files + Print + AllocGlobal>(rt: &R) -> io::Result<()> {
-    let list = fs::read_to_string(rt, "cases.txt")?;
+    let list = fs::read_to_string(rt, "models.txt")?;
     for line in list.lines() {
         show(rt, line)?;
     }

@@ -1232,7 +1232,8 @@ where
     show_sinks(rt)
 }
 
-fn run<R>(rt: &R) -> io::Result<()>
+/// Prints what each call answers.
+pub fn show_all<R>(rt: &R) -> io::Result<()>
 where
     R: AllocGlobal + Print + Threads + Wait + Copy + Drop + Send + Sync + 'static,
 {
@@ -1243,8 +1244,4 @@ where
     show_bench(rt)?;
     show_desk(rt)?;
     show_library(rt)
-}
-
-fn main(rt: HostRuntime) -> io::Result<()> {
-    run(&rt)
 }

@@ -23,7 +23,8 @@ fn print_answer<R: Print>(rt: &R, answer: Vec<u8>) -> io::Result<()> {
     }
 }
 
-fn run<R: Files + Print + AllocGlobal + Wait>(rt: &R) -> io::Result<()> {
+/// Prints the answers of all layers.
+pub fn show_all<R: Files + Print + AllocGlobal + Wait>(rt: &R) -> io::Result<()> {
     println!(rt; "# Relations")?;
     relations::show_all(rt)?;
     println!(rt; "# Readers and printers")?;
@@ -35,8 +36,4 @@ fn run<R: Files + Print + AllocGlobal + Wait>(rt: &R) -> io::Result<()> {
     println!(rt; "# Semantics of tests")?;
     semantics::show_all(rt)?;
     benches::show_all(rt)
-}
-
-fn main(rt: HostRuntime) -> io::Result<()> {
-    run(&rt)
 }

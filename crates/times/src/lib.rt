@@ -14,17 +14,17 @@ mod suite;
 mod tables;
 mod timing;
 
-use std::rt::{Clock, Env, Files};
+use std::io;
+use std::rt::{Clock, Files};
 use std::sync::Wait;
 use std::thread::Threads;
-use std::{env, io};
 
 /// The forms of the words.
 const FORMS: [&str; 4] = [
-    "times [--phases] MODEL TEST MODEL TEST ..",
-    "times suite MODEL .. over TEST ..",
-    "times relations",
-    "times bench [times|workers]",
+    "tests times [--phases] MODEL TEST MODEL TEST ..",
+    "tests times suite MODEL .. over TEST ..",
+    "tests times relations",
+    "tests times bench [times|workers]",
 ];
 
 /// What the words ask for.
@@ -103,23 +103,10 @@ where
     }
 }
 
-/// The words, behind the name of the program.
-fn words_of<R: Env + AllocGlobal>(rt: &R) -> io::Result<Vec<String>> {
-    let mut words = Vec::new(rt.alloc());
-    for word in env::args(rt)? {
-        words.push(word)?;
-    }
-    Ok(words)
-}
-
-fn run<R>(rt: &R) -> io::Result<()>
+/// Prints what the words ask for.
+pub fn show_asked<R>(rt: &R, words: &[String]) -> io::Result<()>
 where
-    R: Files + Env + Clock + Print + AllocGlobal + Wait + Threads + Copy + Send + Sync + Drop,
+    R: Files + Clock + Print + AllocGlobal + Wait + Threads + Copy + Send + Sync + Drop,
 {
-    let words = words_of(rt)?;
-    show(rt, asked_by(words.get(1..).unwrap_or(&[])))
-}
-
-fn main(rt: HostRuntime) -> io::Result<()> {
-    run(&rt)
+    show(rt, asked_by(words))
 }

@@ -19,13 +19,24 @@ mod threads;
 mod walk;
 mod watching;
 
-use std::rt::{Clock, Env, Files};
+use std::io;
+use std::rt::{Clock, Files};
 use std::sync::Wait;
 use std::thread::Threads;
-use std::{env, io};
+
+/// Plays the lists of some files, each a line a step.
+pub fn play_files<R>(rt: &R, paths: &[String]) -> io::Result<()>
+where
+    R: Files + Clock + Print + AllocGlobal + Wait + Threads + Copy + Send + Sync + Drop,
+{
+    for path in paths {
+        rows::play_file(rt, path)?;
+    }
+    Ok(())
+}
 
 /// Plays all examples.
-fn show<R>(rt: &R) -> io::Result<()>
+pub fn show_all<R>(rt: &R) -> io::Result<()>
 where
     R: Files + Clock + Print + AllocGlobal + Wait + Threads + Copy + Send + Sync + Drop + 'static,
 {
@@ -36,37 +47,4 @@ where
     sessions::show_all(rt)?;
     println!(rt; "# Watching")?;
     watching::show_all(rt)
-}
-
-/// Plays all examples; with words, the lists of those files alone.
-fn run<R>(rt: &R) -> io::Result<()>
-where
-    R: Files
-        + Env
-        + Clock
-        + Print
-        + AllocGlobal
-        + Wait
-        + Threads
-        + Copy
-        + Send
-        + Sync
-        + Drop
-        + 'static,
-{
-    let mut words = 0_u32;
-    for word in env::args(rt)? {
-        if words > 0 {
-            rows::play_file(rt, &word)?;
-        }
-        words = words.saturating_add(1);
-    }
-    if words > 1 {
-        return Ok(());
-    }
-    show(rt)
-}
-
-fn main(rt: HostRuntime) -> io::Result<()> {
-    run(&rt)
 }

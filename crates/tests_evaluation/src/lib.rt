@@ -39,7 +39,8 @@ fn show_examples<R: Files + Print + AllocGlobal>(rt: &R) -> io::Result<()> {
     explanations::show_all(rt)
 }
 
-fn run<R: Files + Print + AllocGlobal>(rt: &R) -> io::Result<()> {
+/// Prints all parts.
+pub fn show_all<R: Files + Print + AllocGlobal>(rt: &R) -> io::Result<()> {
     show_examples(rt)?;
     cases::show_all(rt)?;
     let input = fs::read(rt, "MP.txt")?;
@@ -47,8 +48,4 @@ fn run<R: Files + Print + AllocGlobal>(rt: &R) -> io::Result<()> {
     reports::show(rt)?;
     logs::show(rt)?;
     records::show(rt)
-}
-
-fn main(rt: HostRuntime) -> io::Result<()> {
-    run(&rt)
 }

@@ -8,8 +8,4 @@ mod plain;
 mod program;
 mod told;
 
-use std::io;
-
-fn main(rt: HostRuntime) -> io::Result<()> {
-    compare::show_all(&rt)
-}
+pub use compare::show_all;
