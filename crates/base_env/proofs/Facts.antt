@@ -1,11 +1,11 @@
 -- What is made for a combination stands for another with the same events and dependencies.
 use Rattle.std.proofs.Common.{ℕ, ◌≡◌, ◌∙◌, List, length, ap, sym, subst}
-use Rattle.text_values.specs.declared.predefined.Predefined.{Predefined}
-use Rattle.text_values.specs.declared.predefined.Predefined.TheVariants as names
-use Rattle.run_combinations.specs.declared.combination.Combination.{Combination}
-use Rattle.run_combinations.specs.declared.combination.Event.{Event}
+use Rattle.predefined_names.specs.declared.predefined.Predefined.{Predefined}
+use Rattle.predefined_names.specs.declared.predefined.Predefined.TheVariants as names
+use Rattle.store_orders.specs.declared.combination.Combination.{Combination}
+use Rattle.store_orders.specs.declared.combination.Event.{Event}
 use Rattle.base_names.specs.Candidate.{IsEntered, SetIn, SharedIn}
-use Rattle.dataflow.specs.DependencyLists.{DependencyLists, dependency_lists}
+use Rattle.taints.specs.DependencyLists.{DependencyLists, dependency_lists}
 use Rattle.base_names.specs.Events.{At, ListedPairs}
 use Rattle.base_names.specs.Known.{Known}
 use Rattle.base_names.specs.Names.{IsIn, Fixed}

@@ -1,10 +1,10 @@
 -- All predefined names of one candidate.
 use Rattle.std.specs.Prelude.{ℕ, ◌≡◌, ◌<◌, List}
-use Rattle.bit_relations.specs.Relation.{IsRelation, IsEvents}
-use Rattle.text_values.specs.declared.predefined.Predefined.TheVariants as names
-use Rattle.dataflow.specs.DependencyLists.{dependency_lists}
-use Rattle.run_combinations.specs.declared.combination.Combination.{Combination}
-use Rattle.candidates.specs.declared.execution.Execution.{Execution}
+use Rattle.bit_rows.specs.Relation.{IsRelation, IsEvents}
+use Rattle.predefined_names.specs.declared.predefined.Predefined.TheVariants as names
+use Rattle.taints.specs.DependencyLists.{dependency_lists}
+use Rattle.store_orders.specs.declared.combination.Combination.{Combination}
+use Rattle.candidate_spaces.specs.declared.execution.Execution.{Execution}
 use Rattle.base_env.specs.declared.env.BaseEnv.{BaseEnv}
 use Rattle.base_names.specs.Candidate.{SetIn, RelationIn}
 

@@ -1,9 +1,9 @@
 //! The predefined names of one candidate.
 
 ghost use Rattle.std.specs.Prelude.{◌≡◌, List, ℕ, length, IfOk, IsTrue, Contains, false};
-ghost use Rattle.bit_relations.specs.Relation.{IsRelation};
-ghost use Rattle.text_values.specs.PredefinedNames.{is_set};
-ghost use Rattle.candidates.specs.Space.{IsCandidateOf};
+ghost use Rattle.bit_rows.specs.Relation.{IsRelation};
+ghost use Rattle.predefined_names.specs.PredefinedNames.{is_set};
+ghost use Rattle.candidate_spaces.specs.Space.{IsCandidateOf};
 ghost use Rattle.base_names.specs.Known.{set_names};
 ghost use Rattle.base_names.specs.Candidate.{IsEntered, HasReadsFrom, HasCoherence, SuppliesName, RelationIn};
 ghost use Rattle.base_env.specs.Environment.{HasFacts, IsEnvironment};

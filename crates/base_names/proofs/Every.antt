@@ -1,9 +1,9 @@
 -- All predefined names, and the sets among them.
 use Rattle.std.proofs.Common.{List, [], ◌∷◌, Contains, IsTrue, arith, refl, sym}
 use Rattle.std.proofs.lemmas.Bool.{true≢false}
-use Rattle.text_values.specs.declared.predefined.Predefined.{Predefined}
-use Rattle.text_values.specs.declared.predefined.Predefined.TheVariants as names
-use Rattle.text_values.specs.PredefinedNames.{is_set}
+use Rattle.predefined_names.specs.declared.predefined.Predefined.{Predefined}
+use Rattle.predefined_names.specs.declared.predefined.Predefined.TheVariants as names
+use Rattle.predefined_names.specs.PredefinedNames.{is_set}
 
 abbrev pub all_names : List Predefined
 all_names =

@@ -3,7 +3,7 @@ use Rattle.std.proofs.Common.{ℕ, ◌≡◌, ◌<◌, ◌+◌, ◌↔◌, ◌�
 use Rattle.std.proofs.lemmas.Option.{get_or_from_slice_get}
 use Rattle.std.proofs.lemmas.Bool.{cases_eq, false≢true}
 use Rattle.text_values.specs.declared.instruction.Fence.{Fence}
-use Rattle.run_combinations.specs.declared.combination.Event.{Event}
+use Rattle.store_orders.specs.declared.combination.Event.{Event}
 use Rattle.base_names.specs.Events.{location_of, IsAccess, IsFence, IsSameThread, At, Both, ProgramOrder, Fenced, FenceBelow}
 use Rattle.base_names.proofs.Linked.{at_number}
 

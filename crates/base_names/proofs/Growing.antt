@@ -2,11 +2,11 @@
 use Rattle.std.proofs.Common.{ℕ, ◌≡◌, ◌<◌, ◌+◌, ◌↔◌, ◌⊎◌, List, [], ◌∷◌, ◌++◌, length, take, get_or, inl, inr, arith, refl, ap, ◌∙◌}
 use Rattle.std.proofs.lemmas.Bool.{cases_eq}
 use Rattle.std.proofs.lemmas.List.{take_more}
-use Rattle.bit_relations.specs.Relation.{Relation, Has, IsRelation}
-use Rattle.bit_relations.specs.Pairs.{Union}
-use Rattle.run_combinations.specs.declared.combination.Event.{Event}
-use Rattle.run_combinations.specs.declared.combination.Action.{Action}
-use Rattle.run_combinations.specs.declared.combination.Action.TheVariants.{Load, Store, Fence}
+use Rattle.bit_rows.specs.Relation.{Relation, Has, IsRelation}
+use Rattle.bit_rows.specs.Pairs.{Union}
+use Rattle.store_orders.specs.declared.combination.Event.{Event}
+use Rattle.store_orders.specs.declared.combination.Action.{Action}
+use Rattle.store_orders.specs.declared.combination.Action.TheVariants.{Load, Store, Fence}
 use Rattle.base_names.specs.Events.{Below, IsLoad, loads_in, loads_with, ReadsFromBelow, ReadsFromAt, CoherenceFrom, CoherenceTo}
 use Rattle.base_names.proofs.Linking.{with_pairs}
 use Rattle.base_names.proofs.Linked.{at_number}

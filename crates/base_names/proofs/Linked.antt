@@ -1,9 +1,9 @@
 -- Events by their numbers.
 use Rattle.std.proofs.Common.{ℕ, ◌<◌, ◌↔◌, List, length, get_or}
 use Rattle.std.proofs.lemmas.Option.{slice_get-get_or, get_or_from_slice_get}
-use Rattle.run_combinations.specs.declared.combination.Event.{Event}
-use Rattle.text_values.specs.declared.predefined.Predefined.{Predefined}
-use Rattle.text_values.specs.declared.predefined.Predefined.TheVariants as names
+use Rattle.store_orders.specs.declared.combination.Event.{Event}
+use Rattle.predefined_names.specs.declared.predefined.Predefined.{Predefined}
+use Rattle.predefined_names.specs.declared.predefined.Predefined.TheVariants as names
 use Rattle.base_names.specs.Events.{At, ProgramOrder, Linked, Links}
 
 pub at_number : (events : List Event) (S : Event → Type 0) (a : ℕ) (d : Event) → a < length events

@@ -3,8 +3,8 @@ use Rattle.std.proofs.Common.{ℕ, ◌≡◌, ◌<◌, ◌+◌, ◌↔◌, ◌�
 use Rattle.std.proofs.lemmas.List.{take_more}
 use Rattle.std.proofs.lemmas.List.Elements.{Contains-append_left, Contains-append_right, Contains-append_cases}
 use Rattle.std.proofs.lemmas.Bool.{cases_eq}
-use Rattle.bit_relations.specs.Relation.{Relation, Has, IsRegular, IsRelation}
-use Rattle.bit_relations.specs.Pairs.{Union, WithPair}
+use Rattle.bit_rows.specs.Relation.{Relation, Has, IsRegular, IsRelation}
+use Rattle.bit_rows.specs.Pairs.{Union, WithPair}
 use Rattle.base_names.specs.Events.{Below, Before, ListedPairs, RowTo, RowsTo}
 
 pub with_pairs : {r : Relation} {n : ℕ} {P Q : ℕ → ℕ → Type 0} → IsRelation r n P

@@ -1,9 +1,9 @@
 -- Sets and relations that are held by their names.
 use Rattle.std.proofs.Common.{ℕ, zero, suc, ◌≡◌, ◌<◌, ◌+◌, ◌↔◌, List, [], ◌∷◌, length, get_or, set, Contains, inl, inr, arith, refl, ap, get_or-set_other, get_or-set_same}
 use Rattle.std.proofs.lemmas.Bool.{cases_eq}
-use Rattle.bit_relations.specs.Relation.{Relation, Events, IsRelation, IsEvents}
-use Rattle.text_values.specs.declared.predefined.Predefined.{Predefined}
-use Rattle.run_combinations.specs.declared.combination.Combination.{Combination}
+use Rattle.bit_rows.specs.Relation.{Relation, Events, IsRelation, IsEvents}
+use Rattle.predefined_names.specs.declared.predefined.Predefined.{Predefined}
+use Rattle.store_orders.specs.declared.combination.Combination.{Combination}
 use Rattle.base_names.specs.declared.names.Named.{Named}
 use Rattle.base_names.specs.declared.names.Shared.{Shared}
 use Rattle.base_names.specs.Known.{EventsUnder, PairsUnder, set_names, shared_names}

@@ -1,9 +1,9 @@
 -- The relations that are held are those of the candidate.
 use Rattle.std.proofs.Common.{ℕ, ◌↔◌, ◌⊎◌, List, inl, inr}
-use Rattle.bit_relations.specs.Relation.{Has}
-use Rattle.text_values.specs.declared.predefined.Predefined.{Predefined}
-use Rattle.text_values.specs.declared.predefined.Predefined.TheVariants as names
-use Rattle.run_combinations.specs.declared.combination.Combination.{Combination}
+use Rattle.bit_rows.specs.Relation.{Has}
+use Rattle.predefined_names.specs.declared.predefined.Predefined.{Predefined}
+use Rattle.predefined_names.specs.declared.predefined.Predefined.TheVariants as names
+use Rattle.store_orders.specs.declared.combination.Combination.{Combination}
 use Rattle.base_names.specs.Known.{Known, AreMatching, KnownPairs}
 use Rattle.base_names.specs.Candidate.{IsEntered, HasReadsFrom, HasCoherence, SuppliesName, RelationIn, FromReadsIn}
 

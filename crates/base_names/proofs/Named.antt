@@ -1,10 +1,10 @@
 -- Each shared relation by its name.
 use Rattle.std.proofs.Common.{ℕ, ◌≡◌, ◌↔◌, inl, inr, refl}
-use Rattle.bit_relations.specs.Relation.{Relation, Has, IsRelation}
-use Rattle.bit_relations.specs.Pairs.{Union, Opt, Complement}
-use Rattle.text_values.specs.declared.predefined.Predefined.{Predefined}
-use Rattle.text_values.specs.declared.predefined.Predefined.TheVariants as names
-use Rattle.run_combinations.specs.declared.combination.Combination.{Combination}
+use Rattle.bit_rows.specs.Relation.{Relation, Has, IsRelation}
+use Rattle.bit_rows.specs.Pairs.{Union, Opt, Complement}
+use Rattle.predefined_names.specs.declared.predefined.Predefined.{Predefined}
+use Rattle.predefined_names.specs.declared.predefined.Predefined.TheVariants as names
+use Rattle.store_orders.specs.declared.combination.Combination.{Combination}
 use Rattle.base_names.specs.Events.{Below, Links}
 use Rattle.base_names.specs.Names.{Fixed}
 use Rattle.base_names.proofs.Linking.{with_pairs}

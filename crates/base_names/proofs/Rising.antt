@@ -3,9 +3,9 @@ use Rattle.std.proofs.Common.{ℕ, ◌≡◌, ◌<◌, ◌≤◌, ◌+◌, Bool,
 use Rattle.std.specs.List.{slice_get}
 use Rattle.std.proofs.lemmas.Bool.{cases_eq, cases_lt, false≢true}
 use Rattle.std.proofs.lemmas.Option.{slice_get-get_or, get_or_from_slice_get, slice_get_within}
-use Rattle.bit_relations.specs.Relation.{Relation, Has, IsRegular, IsRelation}
-use Rattle.bit_relations.specs.Pairs.{Union}
-use Rattle.run_combinations.specs.declared.combination.Event.{Event}
+use Rattle.bit_rows.specs.Relation.{Relation, Has, IsRegular, IsRelation}
+use Rattle.bit_rows.specs.Pairs.{Union}
+use Rattle.store_orders.specs.declared.combination.Event.{Event}
 use Rattle.base_names.specs.Events.{Below, SameLocation, IsAccessAt, AreLocationsRising, CoherenceFrom, CoherenceFromTo, location_of}
 use Rattle.base_names.proofs.Linking.{none_added, more_added, same_added}
 

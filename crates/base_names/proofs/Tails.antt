@@ -3,9 +3,9 @@ use Rattle.std.proofs.Common.{ℕ, ◌≡◌, ◌<◌, ◌≤◌, ◌+◌, ◌�
 use Rattle.std.specs.List.{slice_get}
 use Rattle.std.proofs.lemmas.Bool.{cases_eq, cases_lt}
 use Rattle.std.proofs.lemmas.Option.{slice_get-get_or, get_or_from_slice_get, slice_get_within}
-use Rattle.bit_relations.specs.Relation.{Relation, Events, Has, IsRegular, IsRelation, IsMember, IsEvents}
-use Rattle.bit_relations.specs.Pairs.{Union, Minus, Product}
-use Rattle.run_combinations.specs.declared.combination.Event.{Event}
+use Rattle.bit_rows.specs.Relation.{Relation, Events, Has, IsRegular, IsRelation, IsMember, IsEvents}
+use Rattle.bit_rows.specs.Pairs.{Union, Minus, Product}
+use Rattle.store_orders.specs.declared.combination.Event.{Event}
 use Rattle.base_names.specs.Events.{Below, Coherence, CoherenceFrom}
 use Rattle.base_names.specs.Orders.{StandsFrom, StandsBetween, CoherenceSince, CoherenceBetween, IsTail}
 use Rattle.base_names.proofs.Linking.{with_pairs, none_added, more_added, same_added}

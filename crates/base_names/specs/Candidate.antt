@@ -1,15 +1,15 @@
 -- When the names that are held are those of a candidate.
 use Rattle.std.specs.Prelude.{ℕ, ◌≡◌, ◌<◌, ◌↔◌, List, length, get_or, Contains, Option, Some, None, false}
-use Rattle.text_values.specs.declared.predefined.Predefined.{Predefined}
-use Rattle.run_combinations.specs.declared.combination.Combination.{Combination}
-use Rattle.bit_relations.specs.Relation.{IsRelation, IsEvents}
+use Rattle.predefined_names.specs.declared.predefined.Predefined.{Predefined}
+use Rattle.store_orders.specs.declared.combination.Combination.{Combination}
+use Rattle.bit_rows.specs.Relation.{IsRelation, IsEvents}
 use Rattle.base_names.specs.declared.names.Named.{Named}
 use Rattle.base_names.specs.declared.names.Shared.{Shared}
 use Rattle.base_names.specs.Events.{At, Below, ReadsFromBy, Coherence}
 use Rattle.base_names.specs.Names.{IsIn, Fixed}
-use Rattle.bit_relations.specs.Pairs.{Inter, Union, Inverse, Composite}
-use Rattle.text_values.specs.declared.predefined.Predefined.TheVariants as names
-use Rattle.text_values.specs.PredefinedNames.{is_set}
+use Rattle.bit_rows.specs.Pairs.{Inter, Union, Inverse, Composite}
+use Rattle.predefined_names.specs.declared.predefined.Predefined.TheVariants as names
+use Rattle.predefined_names.specs.PredefinedNames.{is_set}
 use Rattle.base_names.specs.Known.{Known, KnownEvents, SharedPairs, set_names, shared_names}
 
 -- the events of a set among the first n events of a combination

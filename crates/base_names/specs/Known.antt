@@ -1,9 +1,9 @@
 -- What contracts see of the predefined names over a combination.
 use Rattle.std.specs.Prelude.{ℕ, ◌≡◌, ◌≤◌, ◌⊎◌, List, [], ◌∷◌, map, Option, Some, None}
-use Rattle.bit_relations.specs.Pairs.{Identity, Inter, Union, Inverse, Composite}
-use Rattle.bit_relations.specs.Relation.{Relation, Has, IsRegular, IsRelation, Events, IsMember}
-use Rattle.text_values.specs.declared.predefined.Predefined.{Predefined}
-use Rattle.text_values.specs.declared.predefined.Predefined.TheVariants as names
+use Rattle.bit_rows.specs.Pairs.{Identity, Inter, Union, Inverse, Composite}
+use Rattle.bit_rows.specs.Relation.{Relation, Has, IsRegular, IsRelation, Events, IsMember}
+use Rattle.predefined_names.specs.declared.predefined.Predefined.{Predefined}
+use Rattle.predefined_names.specs.declared.predefined.Predefined.TheVariants as names
 use Rattle.base_names.specs.declared.names.Named.{Named}
 use Rattle.base_names.specs.declared.names.Shared.{Shared}
 

@@ -1,11 +1,11 @@
 -- The predefined names of a candidate.
 use Rattle.std.specs.Prelude.{ℕ}
 use Rattle.text_values.specs.declared.instruction.Fence.TheVariants.{Sync, LightweightSync, Eieio, Isync}
-use Rattle.text_values.specs.declared.predefined.Predefined.{Predefined}
-use Rattle.text_values.specs.declared.predefined.Predefined.TheVariants as names
-use Rattle.run_combinations.specs.declared.combination.Event.{Event}
-use Rattle.run_combinations.specs.declared.combination.Combination.{Combination}
-use Rattle.bit_relations.specs.Pairs.{Identity, Complement, Inter}
+use Rattle.predefined_names.specs.declared.predefined.Predefined.{Predefined}
+use Rattle.predefined_names.specs.declared.predefined.Predefined.TheVariants as names
+use Rattle.store_orders.specs.declared.combination.Event.{Event}
+use Rattle.store_orders.specs.declared.combination.Combination.{Combination}
+use Rattle.bit_rows.specs.Pairs.{Identity, Complement, Inter}
 use Rattle.base_names.specs.Events as of
 use Rattle.base_names.specs.Events.{IsLoad, IsStore, IsAccess, IsFence, IsSomeFence, IsInitial, Fenced, ListedPairs}
 

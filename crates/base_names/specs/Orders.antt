@@ -1,7 +1,7 @@
 -- Two orders of stores that begin alike.
 use Rattle.std.specs.Prelude.{ℕ, ◌≡◌, ◌<◌, ◌≤◌, List, Some, slice_get}
-use Rattle.bit_relations.specs.Relation.{Events, IsMember, IsEvents}
-use Rattle.run_combinations.specs.declared.combination.Event.{Event}
+use Rattle.bit_rows.specs.Relation.{Events, IsMember, IsEvents}
+use Rattle.store_orders.specs.declared.combination.Event.{Event}
 use Rattle.base_names.specs.Events.{CoherenceFrom}
 
 -- the event stands in the order at an index from one on

@@ -1,7 +1,7 @@
 //! The relations in which candidates of one combination of runs differ.
 ghost use Rattle.std.specs.Prelude.{◌≡◌, ℕ, ◌≤◌, ◌<◌, ◌↔◌, IsTrue, Some, length};
-ghost use Rattle.bit_relations.specs.Relation.{Has, IsRelation};
-ghost use Rattle.bit_relations.specs.Pairs.{Union};
+ghost use Rattle.bit_rows.specs.Relation.{Has, IsRelation};
+ghost use Rattle.bit_rows.specs.Pairs.{Union};
 ghost use Rattle.base_names.specs.Events.{Below, ReadsFromBy, ReadsFromAt, Coherence, CoherenceFrom, IsAccessAt, AreLocationsRising};
 
 use crate::fixed::{is_read, location_of, put};

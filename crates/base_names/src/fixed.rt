@@ -1,7 +1,7 @@
 //! The predefined relations that all candidates of a combination of runs share.
 ghost use Rattle.std.specs.Prelude.{◌≡◌, ◌<◌, ◌≤◌, ◌↔◌, ◌⊎◌, IsTrue, length};
-ghost use Rattle.bit_relations.specs.Relation.{Has, IsRelation};
-ghost use Rattle.bit_relations.specs.Pairs.{Union};
+ghost use Rattle.bit_rows.specs.Relation.{Has, IsRelation};
+ghost use Rattle.bit_rows.specs.Pairs.{Union};
 ghost use Rattle.base_names.specs.Events.{location_of, IsSameLocation, IsSameThread, IsLoad, IsAccess, IsFence, Linked, Links, ListedPairs, Fenced, Below, RowTo};
 ghost use Rattle.base_names.specs.Names.{Fixed};
 

@@ -1,10 +1,10 @@
 //! The predefined names over the candidates of one combination of runs.
 ghost use Rattle.std.specs.Prelude.{◌≡◌, ℕ, ◌≤◌, ◌↔◌, MatchOption, Contains, length, IfOk, OnOk, IsTrue, false};
 ghost use Rattle.std.specs.List.{filter};
-ghost use Rattle.text_values.specs.PredefinedNames.{is_set};
-ghost use Rattle.bit_relations.specs.Relation.{Has, IsRelation, IsEvents};
-ghost use Rattle.bit_relations.specs.Pairs.{Inter};
-ghost use Rattle.text_values.specs.declared.predefined.Predefined.TheVariants as names;
+ghost use Rattle.predefined_names.specs.PredefinedNames.{is_set};
+ghost use Rattle.bit_rows.specs.Relation.{Has, IsRelation, IsEvents};
+ghost use Rattle.bit_rows.specs.Pairs.{Inter};
+ghost use Rattle.predefined_names.specs.declared.predefined.Predefined.TheVariants as names;
 ghost use Rattle.base_names.specs.Known.{AreMatching, IsConsistent, EventsUnder, PairsUnder, KnownEvents, KnownPairs, SharedPairs, EventsFound, set_names, shared_names};
 ghost use Rattle.base_names.specs.Candidate.{AreNamedSets, AreNamedRelations, IsEntered, HasReadsFrom, HasCoherence, SuppliesName, AreCovered, shared_for, SetIn, RelationIn};
 

@@ -1,7 +1,7 @@
 //! Coherence of one order, made of that of another order which begins alike.
 ghost use Rattle.std.specs.Prelude.{◌≡◌, ℕ, ◌≤◌, ◌<◌, ◌↔◌, ◌⊎◌, Some, List, IsTrue, IfSome, false, slice_get};
-ghost use Rattle.bit_relations.specs.Relation.{Has, IsRegular, IsRelation, IsEvents, IsMember};
-ghost use Rattle.bit_relations.specs.Pairs.{Minus, Product, Union};
+ghost use Rattle.bit_rows.specs.Relation.{Has, IsRegular, IsRelation, IsEvents, IsMember};
+ghost use Rattle.bit_rows.specs.Pairs.{Minus, Product, Union};
 ghost use Rattle.base_names.specs.Events.{Below, Coherence};
 ghost use Rattle.base_names.specs.Orders.{StandsFrom, CoherenceSince, IsTail};
 

@@ -1,6 +1,6 @@
 //! The predefined sets.
 ghost use Rattle.std.specs.Prelude.{◌<◌, ◌≤◌, ◌↔◌, IsTrue, length};
-ghost use Rattle.bit_relations.specs.Relation.{IsEvents};
+ghost use Rattle.bit_rows.specs.Relation.{IsEvents};
 ghost use Rattle.base_names.specs.Events.{At};
 ghost use Rattle.base_names.specs.Names.{IsIn};
 

@@ -7,11 +7,11 @@ use denote.Ref.{Bor}
 use Rattle.binding_kinds.specs.declared.kinds.Kind.{Kind}
 use Rattle.binding_kinds.specs.declared.kinds.Kind.TheVariants.{OfSet, OfRelation, OfAny}
 use Rattle.binding_graph.specs.declared.resolved.Body.{Body}
-use Rattle.candidates.specs.Space.{Candidate}
-use Rattle.cat_eval.specs.declared.column.Column.{Column}
-use Rattle.cat_eval.specs.declared.column.Column.TheVariants as columns
-use Rattle.cat_eval.specs.Columns.{AreGroupColumns}
-use Rattle.cat_eval.specs.Values.{IsFor, column_len}
+use Rattle.candidate_spaces.specs.Space.{Candidate}
+use Rattle.cat_machine.specs.declared.column.Column.{Column}
+use Rattle.cat_machine.specs.declared.column.Column.TheVariants as columns
+use Rattle.cat_machine.specs.Columns.{AreGroupColumns}
+use Rattle.cat_machine.specs.Values.{IsFor, column_len}
 use Rattle.bench_values.specs.Values.{OfColumn, column_of, column_value}
 
 -- no column has a value

@@ -23,8 +23,8 @@ use Rattle.bench_slices.specs.Slices.{clause_at}
 use Rattle.bench_slots.specs.Slots.{no_name, name_of as bound_name, input_name, number_at, space_key, item_keys, name_key, flag_key, answer_key, key_by, keys_by, verdict_keys}
 use Rattle.bench_slots.specs.Tables.{ModelReading, Sound, IsNameOf, UsesNames, AreOrderedItems, name_count}
 use Rattle.bench_slots.proofs.Lists.{each_map, each_to, each_has, has_map, has_contains, contains_has}
-use Rattle.bench_slot_laws.specs.Closed.{AreClosed, IsPassedOn}
-use Rattle.bench_slot_laws.proofs.Items.{resolved_closed}
+use Rattle.bench_slots.specs.Closed.{AreClosed, IsPassedOn}
+use Rattle.bench_slots.proofs.RoleItems.{resolved_closed}
 use Rattle.bench_parts.specs.Built.{IsRoleKnown, AreRolesKnown, IsModelIn}
 use Rattle.bench_parts.specs.Contents.{PartContent, OfRole, PartsState, histories, content}
 use Rattle.bench_parts.specs.Written.{WrittenModel, WrittenState}

@@ -2,12 +2,12 @@
 use Rattle.std.proofs.Common.{◌≡◌, List, map, Bool, ap, ◌∙◌}
 use denote.Ref.{Bor}
 use Rattle.binding_graph.specs.declared.resolved.Role.{Role}
-use Rattle.candidates.specs.declared.candidate.Space.{Space}
-use Rattle.cat_eval.specs.declared.column.Column.{Column}
-use Rattle.cat_eval.specs.Columns.{ColumnsOf}
-use Rattle.cat_eval.specs.Values.{AnswersOf}
-use Rattle.cat_eval_laws.specs.Laws.{AreSameItems}
-use Rattle.cat_eval_laws.proofs.Keeping.{columns_kept, answers_kept}
+use Rattle.candidate_spaces.specs.declared.candidate.Space.{Space}
+use Rattle.cat_machine.specs.declared.column.Column.{Column}
+use Rattle.cat_machine.specs.Columns.{ColumnsOf}
+use Rattle.cat_machine.specs.Values.{AnswersOf}
+use Rattle.order_growth.specs.KeptLaws.{AreSameItems}
+use Rattle.order_growth.proofs.Keeping.{columns_kept, answers_kept}
 use Rattle.binding_shapes.specs.Shapes.{role_shape}
 use Rattle.bench_items.specs.Items.{role_content}
 use Rattle.bench_values.specs.Makes.{role_over, HasGroupColumns, HasCheckAnswers}

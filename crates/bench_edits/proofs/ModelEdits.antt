@@ -27,8 +27,8 @@ use Rattle.bench_nodes.specs.declared.table.ModelRow.{ModelRow}
 use Rattle.bench_nodes.specs.declared.table.Slot.{Slot}
 use Rattle.bench_nodes.specs.declared.table.TestRow.{TestRow}
 use Rattle.bench_nodes.specs.Nodes.{item_stamp, fault_stamp}
-use Rattle.bench_slot_laws.proofs.Items.{resolved_closed}
-use Rattle.bench_slot_laws.proofs.Reached.{ordered_items}
+use Rattle.bench_slots.proofs.RoleItems.{resolved_closed}
+use Rattle.bench_slots.proofs.Reached.{ordered_items}
 use Rattle.bench_slots.specs.Slots.{plain, item_history}
 use Rattle.bench_slots.specs.Tables.{ModelReading, IsOrderedModel, all_slots}
 use Rattle.bench_parts.specs.declared.parts.Parts.{Parts}

@@ -6,7 +6,7 @@ use Rattle.std.proofs.lemmas.List.Elements.{Contains-append_left}
 use Rattle.std.proofs.lemmas.Option.{none-some, same_Some}
 use Rattle.text_values.specs.declared.test.Test.{Test}
 use Rattle.text_values.specs.TestValue.{formula_of}
-use Rattle.ppc_semantics.specs.Lowering.{AreNamesOf, place_names, entry_names, formula_names, test_names}
+use Rattle.ppc_lowering.specs.Lowering.{AreNamesOf, place_names, entry_names, formula_names, test_names}
 use Rattle.memo_core.specs.Step.{Has}
 use Rattle.bench_nodes.specs.declared.table.TestRow.{TestRow}
 use Rattle.bench_nodes.specs.Nodes.{has_test_row}

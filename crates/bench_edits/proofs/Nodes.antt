@@ -37,9 +37,9 @@ use Rattle.bench_edits.specs.Solved.{is_node, flag_name, flag_names}
 use Rattle.bench_slots.specs.Slots.{no_name, name_of as bound_name, number_at, function_key, name_key, space_key, item_keys, flag_key, answer_key, keys_by, verdict_keys}
 use Rattle.bench_slots.specs.Tables.{ModelReading, Sound, Faulty, name_count, IsNameOf}
 use Rattle.bench_slots.proofs.Lists.{has_map, contains_has, each_has, each_from_has}
-use Rattle.bench_slot_laws.specs.Closed.{all_keys}
+use Rattle.bench_slots.specs.Closed.{all_keys}
 use Rattle.binding_kinds.specs.Outermost.{outermost_names}
-use Rattle.bench_slot_laws.proofs.Reached.{name_reached, all_flags, all_answers}
+use Rattle.bench_slots.proofs.Reached.{name_reached, all_flags, all_answers}
 use Rattle.bench_parts.specs.Contents.{PartContent, OfRole, OfCondition, OfObserved, PartsState, histories, content}
 use Rattle.bench_parts.specs.States.{contents, is_read, flag_name as parts_flag, flag_read, flags_read, given_item, given_verdict, given_by, given_to_node, net_in}
 use Rattle.bench_parts.specs.Built.{IsRoleKnown, AreRolesKnown, IsModelIn}

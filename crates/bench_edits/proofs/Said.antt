@@ -9,12 +9,12 @@ use Rattle.binding_graph.specs.declared.resolved.ResolvedItem.{ResolvedItem}
 use Rattle.binding_graph.specs.declared.resolved.Role.{Role}
 use Rattle.binding_graph.specs.declared.resolved.Role.TheVariants as roles
 use Rattle.binding_graph.specs.Reach.{is_check}
-use Rattle.candidates.specs.declared.candidate.Space.{Space}
-use Rattle.candidates.specs.Space.{Candidate, candidates_in}
-use Rattle.cat_eval.specs.declared.column.Column.{Column}
-use Rattle.cat_eval.specs.Values.{AnswersOf}
-use Rattle.cat_eval_laws.proofs.Keeping.{answers_kept}
-use Rattle.verdict.specs.Kept.{Flag}
+use Rattle.candidate_spaces.specs.declared.candidate.Space.{Space}
+use Rattle.candidate_spaces.specs.Space.{Candidate, candidates_in}
+use Rattle.cat_machine.specs.declared.column.Column.{Column}
+use Rattle.cat_machine.specs.Values.{AnswersOf}
+use Rattle.order_growth.proofs.Keeping.{answers_kept}
+use Rattle.outcome_states.specs.Kept.{Flag}
 use Rattle.binding_shapes.specs.Shapes.{role_shape}
 use Rattle.shape_laws.specs.Laws.{IsReadByKind}
 use Rattle.bench_items.specs.Items.{role_content}

@@ -13,7 +13,7 @@ use Rattle.memo_core.specs.Step.{Has}
 use Rattle.binding_kinds.specs.declared.fault.ModelFault.{ModelFault}
 use Rattle.binding_graph.specs.declared.resolved.ResolvedItem.{ResolvedItem}
 use Rattle.bench_nodes.specs.declared.table.TestRow.{TestRow}
-use Rattle.verdict.specs.declared.answer.Outcome.{Outcome}
+use Rattle.outcome_states.specs.declared.answer.Outcome.{Outcome}
 use Rattle.bench_values.specs.Givens.{VerdictPartsContent, FaultPartsContent, GivenContent, ForVerdict, ForFault}
 use Rattle.bench_values.specs.Makes.{Makes, output_names}
 use Rattle.bench_values.specs.Values.{NodeContent, OfOutcome, outcome_in}

@@ -20,9 +20,9 @@ use Rattle.bench_items.specs.Naming.{SeenName}
 use Rattle.bench_slots.specs.Slots.{number_at, function_key, name_key, space_key, item_keys, flag_key, answer_key, key_by, keys_by, verdict_keys}
 use Rattle.bench_slots.specs.Tables.{ModelReading, Sound, name_count, IsNameOf}
 use Rattle.bench_slots.proofs.Lists.{has_append, has_behind, has_map, has_contains, contains_has, each_has}
-use Rattle.bench_slot_laws.specs.Closed.{NamesItem, AreClosed, LeadsByNames}
-use Rattle.bench_slot_laws.proofs.Items.{resolved_closed}
-use Rattle.bench_slot_laws.proofs.Reached.{name_reached, reached_by_names}
+use Rattle.bench_slots.specs.Closed.{NamesItem, AreClosed, LeadsByNames}
+use Rattle.bench_slots.proofs.RoleItems.{resolved_closed}
+use Rattle.bench_slots.proofs.Reached.{name_reached, reached_by_names}
 use Rattle.bench_parts.specs.Contents.{PartsState, histories}
 use Rattle.bench_parts.specs.States.{net_in}
 use Rattle.cells.specs.Cells.{StandsOn}

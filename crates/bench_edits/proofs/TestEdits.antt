@@ -3,7 +3,7 @@ use Rattle.std.proofs.Common.{ℕ, ◌<◌, ◌≤◌, ◌≡◌, ◌^◌, inl, 
 use Rattle.std.specs.List.{AllZip, AllByRecursion as Each, remove}
 use Rattle.std.proofs.lemmas.Bool.Decides.{eqb_tells}
 use Rattle.text_values.specs.declared.test.Test.{Test}
-use Rattle.ppc_semantics.specs.Lowering.{AreNamesOf, test_names}
+use Rattle.ppc_lowering.specs.Lowering.{AreNamesOf, test_names}
 use Rattle.binding_kinds.specs.declared.fault.ModelFault.{ModelFault}
 use Rattle.bench_items.specs.declared.items.SharedItem.{SharedItem}
 use Rattle.bench_texts.proofs.Lists.{map-remove}

@@ -3,7 +3,7 @@ use Rattle.std.proofs.Common.{◌≡◌, ◌≢◌, ℕ, zero, suc, inl, inr, tr
 use Rattle.std.specs.List.{AllZip, remove}
 use Rattle.text_values.specs.declared.test.Test.{Test}
 use Rattle.text_values.specs.TestValue.{Content, content_of, formula_of, thread_steps}
-use Rattle.ppc_semantics.specs.Lowering.{AreNamesOf, test_names}
+use Rattle.ppc_lowering.specs.Lowering.{AreNamesOf, test_names}
 use Rattle.candidates.proofs.OneProgram.{names_one}
 use Rattle.memo_core.specs.Step.{Has}
 use Rattle.bench_texts.specs.BenchTexts.{put_at}

@@ -17,14 +17,14 @@ use Rattle.binding_graph.specs.Reach.{is_check}
 use Rattle.binding_laws.specs.Reread.{bodies_of}
 use Rattle.binding_shapes.specs.Shapes.{role_shape}
 use Rattle.binding_shapes.proofs.Shaped.{role_by_shape}
-use Rattle.candidates.specs.declared.candidate.Space.{Space}
-use Rattle.candidates.specs.Space.{candidates_in}
-use Rattle.cat_eval.specs.declared.column.Column.{Column}
-use Rattle.cat_eval.specs.declared.column.Column.TheVariants as columns
+use Rattle.candidate_spaces.specs.declared.candidate.Space.{Space}
+use Rattle.candidate_spaces.specs.Space.{candidates_in}
+use Rattle.cat_machine.specs.declared.column.Column.{Column}
+use Rattle.cat_machine.specs.declared.column.Column.TheVariants as columns
 use Rattle.cat_eval.specs.Candidates.{name_count}
-use Rattle.cat_eval.specs.Columns.{ColumnsOf}
-use Rattle.cat_eval.specs.Values.{IsFor, column_len}
-use Rattle.cat_eval_laws.proofs.Keeping.{columns_kept}
+use Rattle.cat_machine.specs.Columns.{ColumnsOf}
+use Rattle.cat_machine.specs.Values.{IsFor, column_len}
+use Rattle.order_growth.proofs.Keeping.{columns_kept}
 use Rattle.bench_items.specs.Items.{BodyContent, RoleContent, body_content, role_content}
 use Rattle.bench_items.specs.Naming.{names_of_bodies, number_in_history}
 use Rattle.bench_values.specs.Makes as nodes

@@ -3,7 +3,7 @@
 use Rattle.std.specs.Prelude.{◌≡◌, ℕ, ◌≤◌, List, length, map}
 use Rattle.std.specs.List.{AllZip, AllByRecursion as Each, flat_map}
 use Rattle.text_values.specs.declared.test.Test.{Test}
-use Rattle.ppc_semantics.specs.Lowering.{AreNamesOf, test_names}
+use Rattle.ppc_lowering.specs.Lowering.{AreNamesOf, test_names}
 use Rattle.bench_texts.specs.declared.model.NamedModel.{NamedModel}
 use Rattle.bench_nodes.specs.declared.table.ModelRow.{ModelRow}
 use Rattle.bench_nodes.specs.declared.table.TestRow.{TestRow}

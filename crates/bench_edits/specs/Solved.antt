@@ -10,7 +10,7 @@ use Rattle.binding_graph.specs.declared.resolved.ResolvedItem.{ResolvedItem}
 use Rattle.binding_graph.specs.declared.resolved.Role.{Role}
 use Rattle.binding_graph.specs.declared.resolved.Role.TheVariants as roles
 use Rattle.binding_graph.specs.Reach.{is_check, IsCheckAt}
-use Rattle.verdict.specs.declared.answer.Outcome.{Outcome}
+use Rattle.outcome_states.specs.declared.answer.Outcome.{Outcome}
 use Rattle.binding_shapes.specs.Shapes.{role_shape}
 use Rattle.bench_values.specs.Givens.{asked, faulted, ForSpace, ForVerdict, ForFault}
 use Rattle.bench_items.specs.Items.{role_content}

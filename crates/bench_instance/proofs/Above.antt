@@ -37,7 +37,7 @@ use Rattle.bench_slots.proofs.Lists.{has_append, has_behind}
 use Rattle.board.specs.declared.operation.BoardOp.{BoardOp}
 use Rattle.board.specs.Contents.{BoardContent}
 use Rattle.board.specs.Operations.{board_after}
-use Rattle.desk.specs.Boards.{HoldsAbove, IsListedWithin}
+use Rattle.desk_ledger.specs.Boards.{HoldsAbove, IsListedWithin}
 use Rattle.bench_instance.specs.declared.stamped_texts.StampedTexts.{StampedTexts}
 use Rattle.bench_instance.specs.StampedTexts.{AreSoundTexts, stamped_state, stamped_net, verdict_of}
 use Rattle.bench_instance.specs.Above.{model_holding, IsModelAbove}

@@ -4,7 +4,7 @@ use Rattle.std.specs.Prelude.{Option, fold, slice_get, false}
 use Rattle.std.proofs.lemmas.List.{length-map}
 use Rattle.text_values.specs.declared.test.Test.{Test}
 use Rattle.text_values.specs.TestValue.{content_of}
-use Rattle.verdict.specs.declared.answer.Outcome.{Outcome}
+use Rattle.outcome_states.specs.declared.answer.Outcome.{Outcome}
 use Rattle.bench_texts.specs.declared.model.NamedModel.{NamedModel}
 use Rattle.bench_texts.specs.BenchTexts.{BenchTexts, test_index, model_index, no_texts}
 use Rattle.bench_texts.specs.Edits as edits

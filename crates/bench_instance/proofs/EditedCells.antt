@@ -9,7 +9,7 @@ use Rattle.std.proofs.lemmas.Bool.Decides.{eqb_tells}
 use Rattle.std.proofs.lemmas.Option.{none-some, same_Some}
 use Rattle.text_values.specs.declared.test.Test.{Test}
 use Rattle.text_values.specs.TestValue.{Content, content_of}
-use Rattle.verdict.specs.declared.answer.Outcome.{Outcome}
+use Rattle.outcome_states.specs.declared.answer.Outcome.{Outcome}
 use Rattle.memo_core.specs.declared.keys.Node.{Node}
 use Rattle.memo_core.specs.Lemmas.Equality.{and_true}
 use Rattle.memo_core.specs.Step.{Has}
@@ -48,7 +48,7 @@ use Rattle.board.specs.Operations.{open_cell, open_row, renamed_row, rows_after,
 use Rattle.board.specs.Legal.{TestsAndModels, texts_after, IsCellReached, ListsReached, Announces, MayFollow}
 use Rattle.board.proofs.Lookups.{skip, get_removed, placed}
 use Rattle.board.proofs.ShownNames.{same_name, below}
-use Rattle.desk.specs.Boards.{IsSettledOn, IsCellLeft, LeavesCells}
+use Rattle.desk_ledger.specs.Boards.{IsSettledOn, IsCellLeft, LeavesCells}
 use Rattle.bench_instance.specs.declared.stamped_texts.PreparedEdit.{PreparedEdit}
 use Rattle.bench_instance.specs.declared.stamped_texts.StampedTexts.{StampedTexts}
 use Rattle.bench_instance.specs.StampedTexts.{AreSoundTexts, stamped_net, verdict_by, verdict_of}

@@ -4,7 +4,7 @@ use Rattle.std.specs.declared.alloc.Global.{Global}
 use Rattle.std.specs.List.{AllZip}
 use Rattle.text_values.specs.TestValue.{content_of}
 use Rattle.text_values.specs.declared.test.Test.{Test}
-use Rattle.ppc_semantics.specs.Lowering.{AreNamesOf, test_names}
+use Rattle.ppc_lowering.specs.Lowering.{AreNamesOf, test_names}
 use Rattle.bench_texts.specs.declared.model.NamedModel.{NamedModel}
 use Rattle.bench_texts.specs.BenchTexts.{BenchTexts}
 use Rattle.bench_texts.specs.Held.{plain_model, texts_of, AreModelsRead}

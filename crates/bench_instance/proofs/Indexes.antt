@@ -7,7 +7,7 @@ use Rattle.std.proofs.lemmas.Bool.{ltb-true}
 use Rattle.std.proofs.lemmas.Option.{same_Some}
 use Rattle.text_values.specs.declared.test.Test.{Test}
 use Rattle.text_values.specs.TestValue.{content_of}
-use Rattle.verdict.specs.declared.answer.Outcome.{Outcome}
+use Rattle.outcome_states.specs.declared.answer.Outcome.{Outcome}
 use Rattle.bench_texts.specs.BenchTexts.{BenchTexts, no_texts}
 use Rattle.bench_texts.specs.Held.{texts_of}
 use Rattle.bench_texts.specs.Held as plain
@@ -17,8 +17,8 @@ use Rattle.bench_texts.specs.declared.model.NamedModel.{NamedModel}
 use Rattle.outcome_texts.specs.Cells.{Cell, NoCell, Open, Settled, cell_of}
 use Rattle.outcome_texts.specs.declared.cell.Shown.{Shown}
 use Rattle.outcome_texts.specs.declared.cell.Shown.TheVariants as shown
-use Rattle.desk.specs.Boards.{BoardCell, open_of}
-use Rattle.desk.specs.declared.texts.CellNames.{CellNames}
+use Rattle.desk_ledger.specs.Boards.{BoardCell, open_of}
+use Rattle.desk_ledger.specs.declared.texts.CellNames.{CellNames}
 use Rattle.board.specs.declared.operation.CellIndex.{CellIndex}
 use Rattle.board.specs.declared.operation.BoardEdit.{BoardEdit}
 use Rattle.board.specs.declared.operation.BoardOp.TheVariants as ops

@@ -20,8 +20,8 @@ use Rattle.bench_items.specs.Naming.{SeenName}
 use Rattle.bench_slots.specs.Slots.{number_at, function_key, name_key, space_key, item_keys, flag_key, answer_key, key_by, keys_by}
 use Rattle.bench_slots.specs.Tables.{ModelReading, Sound, Faulty, IsNameOf}
 use Rattle.bench_slots.proofs.Lists.{each_append, each_map, each_has, each_from_has, has_map}
-use Rattle.bench_slot_laws.specs.Closed.{NamesItem}
-use Rattle.bench_slot_laws.proofs.Reached.{name_reached}
+use Rattle.bench_slots.specs.Closed.{NamesItem}
+use Rattle.bench_slots.proofs.Reached.{name_reached}
 use Rattle.bench_parts.specs.Contents.{PartsState, histories}
 use Rattle.bench_parts.specs.States.{net_in}
 use Rattle.cells.specs.Cells.{StandsOnBy}

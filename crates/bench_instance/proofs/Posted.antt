@@ -6,13 +6,13 @@ use Rattle.std.proofs.lemmas.Bool.{cases_lt}
 use Rattle.std.proofs.lemmas.Option.{none-some, same_Some}
 use Rattle.text_values.specs.declared.test.Test.{Test}
 use Rattle.text_values.specs.TestValue.{Content, content_of}
-use Rattle.verdict.specs.declared.answer.Outcome.{Outcome}
+use Rattle.outcome_states.specs.declared.answer.Outcome.{Outcome}
 use Rattle.bench_nodes.proofs.Lists.{get_left, get_right}
 use Rattle.bench_texts.specs.declared.model.NamedModel.{NamedModel}
 use Rattle.bench_texts.specs.BenchTexts.{PlainModel, test_index, model_index}
 use Rattle.bench_texts.specs.Held.{texts_of, plain_model}
 use Rattle.outcome_texts.specs.Cells.{Cell, Settled}
-use Rattle.desk.specs.Boards.{BoardCell, AreSettled}
+use Rattle.desk_ledger.specs.Boards.{BoardCell, AreSettled}
 use Rattle.board.specs.declared.operation.BoardOp.{BoardOp}
 use Rattle.board.specs.Contents.{RowContent, ColumnContent, BoardContent, row_index, column_index, cell_at, cells_of, shown_cell, cell_named}
 use Rattle.board.specs.Operations.{no_board, board_after}

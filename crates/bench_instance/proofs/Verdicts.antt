@@ -1,10 +1,10 @@
 -- The verdict of an open cell, by its indexes.
 use Rattle.std.proofs.Common.{◌≡◌, ◌<◌, ℕ, inr, List, Option, Some, None, length, refl, sym, subst, ◌∙◌}
 use Rattle.std.specs.Prelude.{slice_get, IfSome, IfNone}
-use Rattle.verdict.specs.declared.answer.Outcome.{Outcome}
+use Rattle.outcome_states.specs.declared.answer.Outcome.{Outcome}
 use Rattle.memo_core.specs.declared.keys.Node.{Node}
-use Rattle.desk.specs.Boards.{BoardCell, HasVerdictAt, HasNoneToPost}
-use Rattle.desk.proofs.Outcomes.{get_below}
+use Rattle.desk_ledger.specs.Boards.{BoardCell, HasVerdictAt, HasNoneToPost}
+use Rattle.desk_ledger.proofs.Outcomes.{get_below}
 use Rattle.board.specs.declared.operation.BoardOp.{BoardOp}
 use Rattle.board.specs.declared.operation.CellIndex.{CellIndex}
 use Rattle.board.specs.Contents.{BoardContent}

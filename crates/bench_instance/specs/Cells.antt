@@ -2,8 +2,8 @@
 -- models.
 use Rattle.std.specs.Prelude.{◌≡◌, ℕ, ◌*◌, ◌+◌, ◌<◌, ◌≤◌, ◌^◌, List, [], ◌∷◌, ◌++◌, Option, Some, None, length}
 use Rattle.std.specs.Prelude.{nat_lt, if◌then◌else◌, slice_get}
-use Rattle.verdict.specs.declared.answer.Outcome.{Outcome}
-use Rattle.desk.specs.Boards.{BoardCell}
+use Rattle.outcome_states.specs.declared.answer.Outcome.{Outcome}
+use Rattle.desk_ledger.specs.Boards.{BoardCell}
 use Rattle.board.specs.declared.operation.CellIndex.{CellIndex}
 use Rattle.board.specs.Contents.{RowContent, ColumnContent, BoardContent, cell_at}
 

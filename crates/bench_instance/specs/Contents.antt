@@ -1,7 +1,7 @@
 -- The texts after some operations as they are read, and with the numbers of their items. Read it
 -- after Cells and Texts.
 use Rattle.std.specs.Prelude.{◌≡◌, ◌≤◌, ℕ, false, List, [], ◌∷◌, ◌++◌, length}
-use Rattle.verdict.specs.declared.answer.Outcome.{Outcome}
+use Rattle.outcome_states.specs.declared.answer.Outcome.{Outcome}
 use Rattle.bench_texts.specs.Edits as edits
 use Rattle.bench_texts.specs.Held.{texts_of}
 use Rattle.board.specs.declared.operation.BoardOp.{BoardOp}

@@ -1,8 +1,8 @@
 -- Cells that the desk lists as settled, and what is shown of them. Read board's Results first.
 use Rattle.std.specs.Prelude.{◌≡◌, ℕ, List}
-use Rattle.verdict.specs.declared.answer.Outcome.{Outcome}
+use Rattle.outcome_states.specs.declared.answer.Outcome.{Outcome}
 use Rattle.outcome_texts.specs.Cells.{Settled}
-use Rattle.desk.specs.Boards.{AreSettled, IsSettledOn}
+use Rattle.desk_ledger.specs.Boards.{AreSettled, IsSettledOn}
 use Rattle.board.specs.declared.operation.BoardOp.{BoardOp}
 use Rattle.board.specs.Contents.{cell_named}
 use Rattle.board.specs.Operations.{board_after}

@@ -6,7 +6,7 @@ ghost use Rattle.board.specs.Legal.{IsLegal, texts_after};
 ghost use Rattle.bench_instance.specs.declared.stamped_texts.StampedTexts.{StampedTexts};
 ghost use Rattle.bench_instance.specs.StampedTexts.{AreSoundTexts};
 ghost use Rattle.board.specs.Operations.{board_after};
-ghost use Rattle.desk.specs.Boards.{AreSettled};
+ghost use Rattle.desk_ledger.specs.Boards.{AreSettled};
 ghost use Rattle.bench_instance.specs.Cells.{board_cells};
 ghost use Rattle.board.specs.Histories.{HasContents, IsHistory};
 ghost use Rattle.bench_instance.specs.Texts.{AreAfter};

@@ -1,7 +1,7 @@
 -- Two outcomes of one cell are equal.
 use Rattle.std.proofs.Common.{◌≡◌, ℕ, List, Option, Some, None}
 use Rattle.text_values.specs.declared.test.Test.{Test}
-use Rattle.verdict.specs.declared.answer.Outcome.{Outcome}
+use Rattle.outcome_states.specs.declared.answer.Outcome.{Outcome}
 use Rattle.bench_texts.specs.declared.model.NamedModel.{NamedModel}
 use Rattle.evaluation_laws.proofs.Saying.{one_outcome}
 use Rattle.bench_instance.specs.declared.stamped_texts.StampedTexts.{StampedTexts}

@@ -4,7 +4,7 @@ use Rattle.std.specs.Prelude.{slice_get, remove, fold, IsTrue, nat_lt, ◌==◌}
 use Rattle.std.specs.Arc.{arc_value}
 use Rattle.std.proofs.lemmas.Bool.{eqb-true}
 use Rattle.text_values.specs.declared.test.Test.{Test}
-use Rattle.verdict.specs.declared.answer.Outcome.{Outcome}
+use Rattle.outcome_states.specs.declared.answer.Outcome.{Outcome}
 use Rattle.memo_core.specs.Lemmas.Equality.{and_true}
 use Rattle.bench_texts.specs.declared.model.NamedModel.{NamedModel}
 use Rattle.bench_texts.specs.declared.replacement.Replacement.{Replacement}

@@ -8,7 +8,7 @@ use Rattle.bench_texts.specs.declared.edit.Edit.{Edit}
 use Rattle.bench_texts.specs.declared.fault.EditFault.{EditFault}
 use Rattle.bench_texts.specs.Edits.{edit_of, RefusesEdit}
 use Rattle.bench_texts.specs.Held.{texts_of}
-use Rattle.verdict.specs.declared.answer.Outcome.{Outcome}
+use Rattle.outcome_states.specs.declared.answer.Outcome.{Outcome}
 use Rattle.bench_parts.specs.States.{makes, keeps}
 use Rattle.cells.specs.Cells.{Cells, cells}
 use Rattle.cells.specs.Events.{Refusing}

@@ -14,7 +14,7 @@ use Rattle.memo_core.specs.Work.{IsJobEvent, is_accepted}
 use Rattle.bench_values.specs.Givens.{GivenContent}
 use Rattle.bench_values.specs.Values.{NodeContent}
 use Rattle.bench_texts.specs.declared.edit.Edit.{Edit}
-use Rattle.verdict.specs.declared.answer.Outcome.{Outcome}
+use Rattle.outcome_states.specs.declared.answer.Outcome.{Outcome}
 use Rattle.cells.specs.Cells.{IsSettledCell, IsNeededNode}
 use Rattle.cells.specs.Views.{IsRightBench, task_of, task_answered}
 use Rattle.bench_instance.specs.StampedTexts.{stamped_net, verdict_of}

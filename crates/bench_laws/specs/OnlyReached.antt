@@ -9,7 +9,7 @@ use Rattle.memo_core.specs.Work.{IsJobEvent}
 use Rattle.bench_values.specs.Givens.{GivenContent}
 use Rattle.bench_values.specs.Values.{NodeContent}
 use Rattle.bench_texts.specs.declared.edit.Edit as code
-use Rattle.verdict.specs.declared.answer.Outcome.{Outcome}
+use Rattle.outcome_states.specs.declared.answer.Outcome.{Outcome}
 use Rattle.cells.specs.Cells.{StandsOn, IsSettledCell}
 use Rattle.bench_instance.specs.StampedCells.{slice_by_names}
 use Rattle.bench_instance.specs.StampedTexts.{AreSoundTexts, stamped_net, verdict_of}

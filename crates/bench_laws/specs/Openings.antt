@@ -2,7 +2,7 @@
 -- Results and Histories of `board`.
 use Rattle.std.specs.Prelude.{◌≡◌, ◌⊎◌, ⊤, ℕ, List, [], ◌∷◌, ◌++◌, IsTrue, Option, bytes_eq}
 use Rattle.std.specs.List.{position_or_len}
-use Rattle.verdict.specs.declared.answer.Outcome.{Outcome}
+use Rattle.outcome_states.specs.declared.answer.Outcome.{Outcome}
 use Rattle.outcome_texts.specs.Cells.{Open, Settled}
 use Rattle.bench_texts.specs.Edits as edits
 use Rattle.bench_texts.specs.Edits.{is_whole}

@@ -5,7 +5,7 @@ use Rattle.bench_values.specs.Givens.{GivenContent}
 use Rattle.bench_values.specs.Values.{NodeContent}
 use Rattle.bench_texts.specs.declared.edit.Edit.{Edit}
 use Rattle.bench_texts.specs.declared.fault.EditFault.{EditFault}
-use Rattle.verdict.specs.declared.answer.Outcome.{Outcome}
+use Rattle.outcome_states.specs.declared.answer.Outcome.{Outcome}
 use Rattle.cells.specs.declared.shown.Shown.{Shown}
 use Rattle.cells.specs.Cells.{IsCellShown}
 use Rattle.cells.specs.Events.{IsEdited}

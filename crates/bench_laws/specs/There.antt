@@ -5,7 +5,7 @@ use Rattle.memo_core.specs.Run.{Bench, MemoEvent, MemoRun, IsNewBench}
 use Rattle.bench_values.specs.Givens.{GivenContent}
 use Rattle.bench_values.specs.Values.{NodeContent}
 use Rattle.bench_texts.specs.declared.edit.Edit.{Edit}
-use Rattle.verdict.specs.declared.answer.Outcome.{Outcome}
+use Rattle.outcome_states.specs.declared.answer.Outcome.{Outcome}
 use Rattle.board.specs.Legal.{TestsAndModels, tests_and_models}
 use Rattle.board.specs.Results.{LacksOne, HasBoth, IsResultIn}
 use Rattle.cells.specs.declared.shown.Shown.{Shown}

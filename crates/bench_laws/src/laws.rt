@@ -2,7 +2,7 @@
 //! its cells.
 
 ghost use Rattle.std.specs.Prelude.{◌≡◌, ℕ, List, ◌++◌};
-ghost use Rattle.verdict.specs.declared.answer.Outcome.{Outcome};
+ghost use Rattle.outcome_states.specs.declared.answer.Outcome.{Outcome};
 ghost use Rattle.board.specs.declared.operation.BoardEdit.{BoardEdit};
 ghost use Rattle.board.specs.declared.operation.BoardOp.{BoardOp};
 ghost use Rattle.board.specs.Histories.{IsHistory};

@@ -79,7 +79,6 @@ pub enum SlotKey {
 }
 
 /// A node that each test has.
-#[derive(Drop)]
 pub struct Slot {
     /// Its kind.
     pub kind: Kind,
@@ -87,6 +86,16 @@ pub struct Slot {
     pub of: u64,
     /// Its inputs in order. Those of the space stand at the test.
     pub inputs: Vec<SlotKey>,
+}
+
+impl Drop for Slot {
+    fn drop(self) {
+        let Slot {
+            kind: _,
+            of: _,
+            inputs: _,
+        } = self;
+    }
 }
 
 /// The stamps of all parts, and the nodes that each test has.

@@ -4,7 +4,7 @@ use Rattle.std.proofs.Common.{ℕ, ◌≡◌, ◌⊎◌, inl, inr, true, List, [
 use Rattle.std.specs.List.{AllByRecursion as Each, flat_map}
 use Rattle.std.proofs.lemmas.Option.{get_or_from_slice_get}
 use Rattle.text_values.specs.declared.model.Item.{Item}
-use Rattle.text_values.specs.declared.predefined.TheConstants.{PREDEFINED}
+use Rattle.predefined_names.specs.declared.predefined.TheConstants.{PREDEFINED}
 use Rattle.text_values.specs.ModelValue.{Clause}
 use Rattle.memo_core.specs.declared.keys.Kind.{Kind}
 use Rattle.memo_core.specs.declared.keys.Kind.TheVariants as kinds
@@ -18,8 +18,8 @@ use Rattle.binding_graph.specs.declared.resolved.Role.TheVariants as roles
 use Rattle.binding_laws.specs.Reread as reread
 use Rattle.binding_laws.specs.Reread.{outer_namings, IsItemOf}
 use Rattle.binding_laws.proofs.Seen.{beside}
-use Rattle.bench_slot_laws.specs.Roles.{IsSaidAgain, AreBeforeAndAfter}
-use Rattle.bench_slot_laws.proofs.Roles.{roles_again}
+use Rattle.bench_slots.specs.Roles.{IsSaidAgain, AreBeforeAndAfter}
+use Rattle.bench_slots.proofs.Roles.{roles_again}
 use Rattle.bench_nodes.specs.declared.table.SlotKey.{SlotKey}
 use Rattle.bench_nodes.specs.declared.table.SlotKey.TheVariants as slots
 use Rattle.bench_nodes.specs.Nodes.{part_stamp, has_slot, slot_keys, keys_at}

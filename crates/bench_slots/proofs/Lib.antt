@@ -1,4 +1,9 @@
 pub mod Finding
 pub mod Growing
 pub mod Lists
+pub mod Naming
 pub mod Ordered
+pub mod Reached
+pub mod RoleItems
+pub mod Roles
+pub mod Using

@@ -1,9 +1,9 @@
 -- Columns without a value are one.
 use Rattle.std.proofs.Common.{ℕ, zero, suc, ◌≡◌, [], ◌∷◌, refl}
 use Rattle.binding_kinds.specs.declared.kinds.Kind.TheVariants as kinds
-use Rattle.cat_eval.specs.declared.column.Column.{Column}
-use Rattle.cat_eval.specs.declared.column.Column.TheVariants as columns
-use Rattle.cat_eval.specs.Values.{IsFor, column_len}
+use Rattle.cat_machine.specs.declared.column.Column.{Column}
+use Rattle.cat_machine.specs.declared.column.Column.TheVariants as columns
+use Rattle.cat_machine.specs.Values.{IsFor, column_len}
 use Rattle.bench_values.specs.Values.{column_of}
 
 pub without_values : (c d : Column) → column_len c ≡ 0 → IsFor kinds.OfSet d → column_len d ≡ 0

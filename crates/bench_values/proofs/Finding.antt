@@ -5,7 +5,7 @@ use Rattle.std.proofs.lemmas.Bool.{cases_lt}
 use Rattle.std.proofs.lemmas.List.{take_more, append-nil, map-append, drop_all}
 use Rattle.std.proofs.lemmas.List.Elements.{filter_map-append}
 use Rattle.std.proofs.Math.Seq.{drop-cons}
-use Rattle.verdict.specs.Kept.{Flag}
+use Rattle.outcome_states.specs.Kept.{Flag}
 use Rattle.bench_values.specs.Makes.{checks_among, flags_among}
 use Rattle.bench_values.specs.declared.value.NodeValue.{NodeValue}
 

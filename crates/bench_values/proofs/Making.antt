@@ -9,17 +9,17 @@ use Rattle.text_values.specs.declared.test.InitEntry.{InitEntry}
 use Rattle.text_values.specs.declared.test.Place.{Place}
 use Rattle.text_values.specs.declared.test.Place.TheVariants.{Location}
 use Rattle.text_values.specs.TestValue.{formula_of}
-use Rattle.ppc_semantics.specs.Lowering.{place_names, entry_names}
-use Rattle.candidates.specs.Space.{shown_in}
-use Rattle.candidates.specs.declared.candidate.Space.{Space}
+use Rattle.ppc_lowering.specs.Lowering.{place_names, entry_names}
+use Rattle.candidate_spaces.specs.Space.{shown_in}
+use Rattle.candidate_spaces.specs.declared.candidate.Space.{Space}
 use Rattle.binding_graph.specs.declared.resolved.Role.{Role}
-use Rattle.cat_eval.specs.declared.column.Column.{Column}
-use Rattle.cat_eval.specs.Columns.{ColumnsOf}
-use Rattle.cat_eval.specs.Values.{AnswersOf}
-use Rattle.verdict.specs.declared.answer.Outcome.{Outcome}
-use Rattle.verdict.specs.declared.judgement.Raised.{Raised}
+use Rattle.cat_machine.specs.declared.column.Column.{Column}
+use Rattle.cat_machine.specs.Columns.{ColumnsOf}
+use Rattle.cat_machine.specs.Values.{AnswersOf}
+use Rattle.outcome_states.specs.declared.answer.Outcome.{Outcome}
+use Rattle.outcome_states.specs.declared.raised.Raised.{Raised}
 use Rattle.verdict.specs.Evaluated.{IsOutcomeOn}
-use Rattle.verdict.specs.Kept.{Flag, of_raised}
+use Rattle.outcome_states.specs.Kept.{Flag, of_raised}
 use Rattle.bench_items.specs.Items.{RoleContent, role_content}
 use Rattle.bench_items.specs.Naming.{SeenName, item_outputs}
 use Rattle.bench_values.specs.Givens.{ForItem}

@@ -1,7 +1,7 @@
 -- A verdict gives one outcome.
 use Rattle.std.proofs.Common.{◌≡◌, List, [], ◌∷◌, Option, Some, None, sym, ap, ◌∙◌}
-use Rattle.ppc_semantics.specs.declared.fault.EvalRefusal.{EvalRefusal}
-use Rattle.verdict.specs.declared.answer.Outcome.{Outcome}
+use Rattle.ppc_lowering.specs.declared.fault.EvalRefusal.{EvalRefusal}
+use Rattle.outcome_states.specs.declared.answer.Outcome.{Outcome}
 use Rattle.verdict.proofs.Uniqueness.{one_outcome}
 use Rattle.bench_values.specs.Givens.{VerdictPartsContent}
 use Rattle.bench_values.specs.Laws.{GivesOneOutcome}

@@ -1,8 +1,8 @@
 -- LAWS of what nodes give: what `laws` states.
 use Rattle.std.specs.Prelude.{◌≡◌, length, List}
 use Rattle.text_values.specs.declared.test.Test.{Test}
-use Rattle.candidates.specs.declared.candidate.Space.{Space}
-use Rattle.ppc_semantics.specs.declared.fault.EvalRefusal.{EvalRefusal}
+use Rattle.candidate_spaces.specs.declared.candidate.Space.{Space}
+use Rattle.ppc_lowering.specs.declared.fault.EvalRefusal.{EvalRefusal}
 use Rattle.candidates.specs.Listed.{ListsExecutions, IsSpaceRefusal}
 use Rattle.bench_values.specs.Givens.{VerdictPartsContent, GivenContent, ForVerdict}
 use Rattle.bench_values.specs.Makes.{Makes, output_names}

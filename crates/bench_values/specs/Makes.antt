@@ -5,22 +5,22 @@ use denote.Ref.{Bor}
 use Rattle.text_values.specs.declared.test.Quantifier.{Quantifier}
 use Rattle.text_values.specs.TestValue.{Formula}
 use Rattle.litmus_printing.specs.Printing.{condition_text}
-use Rattle.ppc_semantics.specs.declared.fault.EvalRefusal.{EvalRefusal}
-use Rattle.candidates.specs.declared.candidate.Space.{Space}
+use Rattle.ppc_lowering.specs.declared.fault.EvalRefusal.{EvalRefusal}
+use Rattle.candidate_spaces.specs.declared.candidate.Space.{Space}
 use Rattle.binding_kinds.specs.declared.kinds.Kind.{Kind}
 use Rattle.binding_kinds.specs.declared.kinds.Kind.TheVariants.{OfSet, OfRelation}
 use Rattle.binding_graph.specs.declared.resolved.Role.{Role}
 use Rattle.binding_shapes.specs.Shapes.{role_with}
-use Rattle.cat_eval.specs.declared.column.Column.{Column}
-use Rattle.cat_eval.specs.declared.column.Column.TheVariants as columns
-use Rattle.cat_eval.specs.Columns.{ColumnsOf}
-use Rattle.cat_eval.specs.Values.{AnswersOf}
-use Rattle.verdict.specs.declared.answer.Outcome.{Outcome}
-use Rattle.verdict.specs.declared.answer.OutcomeResult.TheVariants.{Refused}
-use Rattle.verdict.specs.declared.answer.Refusal.{Refusal}
-use Rattle.verdict.specs.declared.answer.Refusal.TheVariants as refusals
+use Rattle.cat_machine.specs.declared.column.Column.{Column}
+use Rattle.cat_machine.specs.declared.column.Column.TheVariants as columns
+use Rattle.cat_machine.specs.Columns.{ColumnsOf}
+use Rattle.cat_machine.specs.Values.{AnswersOf}
+use Rattle.outcome_states.specs.declared.answer.Outcome.{Outcome}
+use Rattle.outcome_states.specs.declared.answer.OutcomeResult.TheVariants.{Refused}
+use Rattle.outcome_states.specs.declared.answer.Refusal.{Refusal}
+use Rattle.outcome_states.specs.declared.answer.Refusal.TheVariants as refusals
 use Rattle.verdict.specs.Evaluated.{IsOutcomeOn}
-use Rattle.verdict.specs.Kept.{Flag}
+use Rattle.outcome_states.specs.Kept.{Flag}
 use Rattle.bench_values.specs.Givens.{VerdictPartsContent, GivenContent, ForSpace, ForItem, ForVerdict, ForFault}
 use Rattle.bench_items.specs.Items.{RoleContent, Group, Check, Silent, role_content}
 use Rattle.bench_values.specs.Parts.{SpacePartsContent, IsPartSpace, IsPartRefusal}

@@ -6,9 +6,9 @@ use Rattle.text_values.specs.declared.test.Step.{Step}
 use Rattle.text_values.specs.declared.test.Test.{Test}
 use Rattle.text_values.specs.declared.test.Thread.{Thread}
 use Rattle.text_values.specs.TestValue.{thread_steps}
-use Rattle.ppc_semantics.specs.declared.fault.EvalRefusal.{EvalRefusal}
-use Rattle.ppc_semantics.specs.Lowering.{entry_names, test_names}
-use Rattle.candidates.specs.declared.candidate.Space.{Space}
+use Rattle.ppc_lowering.specs.declared.fault.EvalRefusal.{EvalRefusal}
+use Rattle.ppc_lowering.specs.Lowering.{entry_names, test_names}
+use Rattle.candidate_spaces.specs.declared.candidate.Space.{Space}
 use Rattle.candidates.specs.Listed.{ListsExecutions, IsSpaceRefusal}
 use Rattle.bench_values.specs.Spaces.{SpaceContent, space_content}
 

@@ -1,7 +1,7 @@
 -- What a space shows, as plain data: its locations, and its executions in order.
 use Rattle.std.specs.Prelude.{ℕ, List, []}
-use Rattle.candidates.specs.Space.{Shown, shown_in}
-use Rattle.candidates.specs.declared.candidate.Space.{Space}
+use Rattle.candidate_spaces.specs.Space.{Shown, shown_in}
+use Rattle.candidate_spaces.specs.declared.candidate.Space.{Space}
 
 pub record SpaceContent : Type 0 where
   pub locations : List (List ℕ)

@@ -1,11 +1,11 @@
 -- What a node holds, as plain data: contracts see a `NodeValue` so.
 use Rattle.std.specs.Prelude.{ℕ, zero, suc, Bool, List, [], ◌∷◌, Option, Some, None, unwrap_or}
 use Rattle.std.specs.List.{filter_map}
-use Rattle.ppc_semantics.specs.declared.fault.EvalRefusal.{EvalRefusal}
-use Rattle.cat_eval.specs.declared.column.Column.{Column}
-use Rattle.cat_eval.specs.declared.column.Column.TheVariants as columns
-use Rattle.cat_eval.specs.Values.{column_len}
-use Rattle.verdict.specs.declared.answer.Outcome.{Outcome}
+use Rattle.ppc_lowering.specs.declared.fault.EvalRefusal.{EvalRefusal}
+use Rattle.cat_machine.specs.declared.column.Column.{Column}
+use Rattle.cat_machine.specs.declared.column.Column.TheVariants as columns
+use Rattle.cat_machine.specs.Values.{column_len}
+use Rattle.outcome_states.specs.declared.answer.Outcome.{Outcome}
 use Rattle.bench_values.specs.Spaces.{SpaceContent, no_executions}
 
 -- a space, or why a test has none; the column of a name; the answers of a check or a flag; an

@@ -2,10 +2,10 @@
 
 ghost use Rattle.std.specs.Prelude.{◌≡◌, ◌∷◌, [], IfOk, map, option_map};
 ghost use Rattle.text_values.specs.TestValue.{formula_of};
-ghost use Rattle.ppc_semantics.specs.declared.fault.EvalRefusal.{EvalRefusal};
-ghost use Rattle.verdict.specs.declared.answer.Outcome.{Outcome};
-ghost use Rattle.verdict.specs.declared.answer.Refusal.TheVariants as refusals;
-ghost use Rattle.verdict.specs.Kept.{of_raised};
+ghost use Rattle.ppc_lowering.specs.declared.fault.EvalRefusal.{EvalRefusal};
+ghost use Rattle.outcome_states.specs.declared.answer.Outcome.{Outcome};
+ghost use Rattle.outcome_states.specs.declared.answer.Refusal.TheVariants as refusals;
+ghost use Rattle.outcome_states.specs.Kept.{of_raised};
 ghost use Rattle.binding_shapes.specs.Shapes.{role_shape, role_with};
 ghost use Rattle.bench_items.specs.Items.{role_content};
 ghost use Rattle.bench_values.specs.Makes.{IsSpaceValue, column_kind, role_over, RoleMakes, HasGroupColumns, HasCheckAnswers, checks_among, flags_among, IsVerdictOutcome, IsVerdictOver, refused, Makes};

@@ -1,7 +1,7 @@
 //! The value of a node.
 
 ghost use Rattle.std.specs.Prelude.{◌≡◌, ◌↔◌, IsTrue, option_map};
-ghost use Rattle.cat_eval.specs.Values.{column_len};
+ghost use Rattle.cat_machine.specs.Values.{column_len};
 ghost use Rattle.bench_values.specs.Spaces.{space_content};
 ghost use Rattle.bench_values.specs.Values.{OfSpace, OfRefusal, OfColumn, OfCheck, OfOutcome, column_of, column_value, space_in, column_in, check_in, outcome_in, refusal_in};
 ghost use Rattle.bench_values.specs.Views.{value_content};

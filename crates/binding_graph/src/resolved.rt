@@ -57,7 +57,6 @@ pub enum Step {
 }
 
 /// An expression whose kind is known, as steps.
-#[derive(Drop)]
 pub struct Code {
     /// A set or a relation.
     pub kind: Kind,
@@ -65,13 +64,24 @@ pub struct Code {
     pub steps: Vec<Step>,
 }
 
+impl Drop for Code {
+    fn drop(self) {
+        let Code { kind: _, steps: _ } = self;
+    }
+}
+
 /// One name of a group.
-#[derive(Drop)]
 pub struct Body {
     /// The name that is bound.
     pub name: Name,
     /// What it stands for.
     pub code: Code,
+}
+
+impl Drop for Body {
+    fn drop(self) {
+        let Body { name: _, code: _ } = self;
+    }
 }
 
 /// A check or a flag.

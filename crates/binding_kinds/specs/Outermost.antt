@@ -1,8 +1,8 @@
 -- The names that are seen before the first item.
 use Rattle.std.specs.Prelude.{List, map, reverse, if◌then◌else◌}
-use Rattle.text_values.specs.declared.predefined.Predefined.{Predefined}
-use Rattle.text_values.specs.declared.predefined.TheConstants.{PREDEFINED}
-use Rattle.text_values.specs.PredefinedNames.{spelling, is_set}
+use Rattle.predefined_names.specs.declared.predefined.Predefined.{Predefined}
+use Rattle.predefined_names.specs.declared.predefined.TheConstants.{PREDEFINED}
+use Rattle.predefined_names.specs.PredefinedNames.{spelling, is_set}
 use Rattle.binding_kinds.specs.declared.kinds.Kind.{Kind}
 use Rattle.binding_kinds.specs.declared.kinds.Kind.TheVariants.{OfSet, OfRelation}
 use Rattle.binding_kinds.specs.declared.scope.Binder.TheVariants as binders

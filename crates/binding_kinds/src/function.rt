@@ -37,7 +37,6 @@ pub enum Piece {
 }
 
 /// A function.
-#[derive(Drop)]
 pub struct Function {
     /// The index of its item in the model.
     pub item: usize,
@@ -61,6 +60,23 @@ pub struct Function {
     /// The items of the functions that its body applies, through others too, in the order of first
     /// application.
     pub functions: Vec<usize>,
+}
+
+impl Drop for Function {
+    fn drop(self) {
+        let Function {
+            item: _,
+            arity: _,
+            under: _,
+            template: _,
+            is_oversized: _,
+            constant: _,
+            factors: _,
+            signatures: _,
+            values: _,
+            functions: _,
+        } = self;
+    }
 }
 
 impl Function {

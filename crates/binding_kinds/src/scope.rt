@@ -32,7 +32,6 @@ pub enum Binder {
 }
 
 /// A name that stands for something.
-#[derive(Drop)]
 pub struct Entry {
     /// How it is written.
     pub name: Name,
@@ -40,6 +39,16 @@ pub struct Entry {
     pub kind: Kind,
     /// What binds it.
     pub binder: Binder,
+}
+
+impl Drop for Entry {
+    fn drop(self) {
+        let Entry {
+            name: _,
+            kind: _,
+            binder: _,
+        } = self;
+    }
 }
 
 /// Where a name is bound, as an index in the scope, and what it stands for there.

@@ -6,7 +6,7 @@ use Rattle.std.proofs.lemmas.Bool.{cases_Bool, leb-true, leb-false}
 use Rattle.std.proofs.lemmas.Bool.Decides.{nat_tests}
 use Rattle.std.proofs.lemmas.Option.{same_Some}
 use Rattle.text_values.specs.declared.model.Item.{Item}
-use Rattle.text_values.specs.declared.predefined.Predefined.{Predefined}
+use Rattle.predefined_names.specs.declared.predefined.Predefined.{Predefined}
 use Rattle.text_values.specs.ModelValue.{Term}
 use Rattle.binding_kinds.specs.declared.scope.Binder.{Binder}
 use Rattle.binding_kinds.specs.declared.scope.Binder.TheVariants as binders

@@ -5,7 +5,7 @@ use Rattle.std.specs.Prelude.{nat_le}
 use Rattle.std.specs.List.{AllByRecursion as Each}
 use Rattle.std.proofs.lemmas.Bool.{cases_Bool, false≢true, leb-true, leb-false}
 use Rattle.std.proofs.lemmas.Bool.Decides.{nat_tests}
-use Rattle.text_values.specs.declared.predefined.Predefined.{Predefined}
+use Rattle.predefined_names.specs.declared.predefined.Predefined.{Predefined}
 use Rattle.binding_kinds.specs.declared.scope.Input.{Input}
 use Rattle.binding_kinds.specs.Value.{Naming}
 use Rattle.binding_laws.specs.ItemLaws.{IsPairing, Matching, first_scope}

@@ -2,7 +2,7 @@
 use Rattle.std.proofs.Common.{ℕ, List, [], ◌∷◌, ap}
 use Rattle.std.specs.Prelude.{option_map}
 use Rattle.std.specs.List.{AllByRecursion as Each}
-use Rattle.text_values.specs.declared.predefined.Predefined.{Predefined}
+use Rattle.predefined_names.specs.declared.predefined.Predefined.{Predefined}
 use Rattle.binding_kinds.specs.declared.scope.Input.{Input}
 use Rattle.binding_kinds.specs.Value.{bare_item}
 use Rattle.binding_laws.specs.Reread.{ReadModel, outer_namings, IsReadModel, IsSeenInput, IsSeenFunction, UsesAreSeen}

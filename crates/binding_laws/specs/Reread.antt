@@ -5,7 +5,7 @@
 use Rattle.std.specs.Prelude.{◌≡◌, ℕ, ◌<◌, List, [], length, map, reverse, slice_get, option_map, Option, Some, None}
 use Rattle.std.specs.List.{AllByRecursion as Each}
 use Rattle.text_values.specs.declared.model.Item.{Item}
-use Rattle.text_values.specs.declared.predefined.Predefined.{Predefined}
+use Rattle.predefined_names.specs.declared.predefined.Predefined.{Predefined}
 use Rattle.binding_kinds.specs.declared.scope.Input.{Input}
 use Rattle.binding_kinds.specs.Value.{Naming, BareItem, bare_item}
 use Rattle.binding_kinds.specs.Outermost.{naming_of}

@@ -1,10 +1,10 @@
 -- What questions about columns say of a relation.
 use Rattle.std.proofs.Common.{ℕ, ◌≡◌, ◌<◌, ◌+◌, List, get_or, inl, inr, arith, sym, subst, ap, ◌∙◌}
-use Rattle.bit_relations.specs.Pairs.{IsIrreflexive}
-use Rattle.bit_relations.specs.Relation.{Bit, Relation, IsRelation, AreRelColumns, high_words}
-use Rattle.bit_relations.specs.Rows.{RowsHave}
-use Rattle.bit_relations.proofs.Bits.{Bit-zero, Bit-width, same_word}
-use Rattle.bit_relations.proofs.Columns.{IsColumn, IsMade, of_columns, found, made_relation}
+use Rattle.bit_rows.specs.Pairs.{IsIrreflexive}
+use Rattle.bit_rows.specs.Relation.{Bit, Relation, IsRelation, AreRelColumns, high_words}
+use Rattle.bit_rows.specs.Rows.{RowsHave}
+use Rattle.bit_rows.proofs.Bits.{Bit-zero, Bit-width, same_word}
+use Rattle.bit_rows.proofs.Columns.{IsColumn, IsMade, of_columns, found, made_relation}
 use Rattle.bit_relations.proofs.Laws.{same_relation}
 use Rattle.bit_relations.proofs.Making.{IsEnd}
 

@@ -4,8 +4,8 @@ use Rattle.std.proofs.Math.Nat.{eq-or-lt_of_le}
 use Rattle.std.specs.Int.RustNames.{bit_or}
 use Rattle.std.proofs.lemmas.Nat.{le_or_l}
 use Rattle.std.proofs.lemmas.List.{ext_get_or}
-use Rattle.bit_relations.specs.Relation.{Relation, IsRegular, Has, Bit, IsSubset, room_in, room_of}
-use Rattle.bit_relations.proofs.Bits.{Bit-or, fits_below, same_word}
+use Rattle.bit_rows.specs.Relation.{Relation, IsRegular, Has, Bit, IsSubset, room_in, room_of}
+use Rattle.bit_rows.proofs.Bits.{Bit-or, fits_below, same_word}
 
 -- two regular relations on as many events with the same pairs are one
 pub same_relation : (r s : Relation) → IsRegular r → IsRegular s → r.count ≡ s.count

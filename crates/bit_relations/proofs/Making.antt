@@ -1,12 +1,12 @@
 -- What each operation makes of columns.
 use Rattle.std.proofs.Common.{ℕ, ◌≡◌, ◌<◌, ◌≤◌, ◌+◌, ◌-◌, ◌^◌, ◌↔◌, List, length, get_or, inl, inr, arith, sym, subst, refl}
 use Rattle.std.proofs.lemmas.Bool.{cases_lt}
-use Rattle.bit_relations.specs.Pairs.{WithPair, Union, Inter, Minus, Composite, Complement, Inverse, Opt, Product, Restriction}
-use Rattle.bit_relations.specs.Relation.{Bit, wide, wide_word}
-use Rattle.bit_relations.specs.Rows.{RowsHave, AllFit, AreRowsFilled, Nothing, WithOwn, WordProduct, Kept, WordComplement, JoinedBelow, InverseFrom, Read, StoredPairs}
-use Rattle.bit_relations.proofs.Bits.{Bit-zero}
-use Rattle.bit_relations.proofs.Columns.{IsMade, Within, far, column_written, made_pairs}
-use Rattle.bit_relations.proofs.Wide.{Bit-low, Bit-high}
+use Rattle.bit_rows.specs.Pairs.{WithPair, Union, Inter, Minus, Composite, Complement, Inverse, Opt, Product, Restriction}
+use Rattle.bit_rows.specs.Relation.{Bit, wide, wide_word}
+use Rattle.bit_rows.specs.Rows.{RowsHave, AllFit, AreRowsFilled, Nothing, WithOwn, WordProduct, Kept, WordComplement, JoinedBelow, InverseFrom, Read, StoredPairs}
+use Rattle.bit_rows.proofs.Bits.{Bit-zero}
+use Rattle.bit_rows.proofs.Columns.{IsMade, Within, far, column_written, made_pairs}
+use Rattle.bit_rows.proofs.Wide.{Bit-low, Bit-high}
 
 -- up to where high words are in use
 pub record IsEnd (n end : ℕ) : Type 0 where

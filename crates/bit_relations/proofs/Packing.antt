@@ -10,12 +10,12 @@ use Rattle.std.proofs.lemmas.List.{map-append, append_assoc, append-nil, get_or-
 use Rattle.std.proofs.lemmas.List.Folds.{length-flat_map-take}
 use Rattle.std.proofs.Math.Seq.{take-append_seam, drop-append_seam}
 use Rattle.bit_relations.specs.Packing.{high_rows, packed, starts_from, ArePacked, padded, relation_of, unpacked}
-use Rattle.bit_relations.specs.Relation.{Bit, Has, Relation, IsRegular, IsRelation, AreRelColumns, no_slot, wide_word, wide, low_words, high_words}
-use Rattle.bit_relations.specs.Rows.{StoredPairs, AreStored}
-use Rattle.bit_relations.proofs.Bits.{Bit-zero, same_word, word_fits}
+use Rattle.bit_rows.specs.Relation.{Bit, Has, Relation, IsRegular, IsRelation, AreRelColumns, no_slot, wide_word, wide, low_words, high_words}
+use Rattle.bit_rows.specs.Rows.{StoredPairs, AreStored}
+use Rattle.bit_rows.proofs.Bits.{Bit-zero, same_word, word_fits}
 use Rattle.bit_relations.proofs.Laws.{same_relation}
-use Rattle.bit_relations.proofs.Wide.{Bit-low, Bit-high}
-use Rattle.bit_relations.proofs.Writing.{zeros}
+use Rattle.bit_rows.proofs.Wide.{Bit-low, Bit-high}
+use Rattle.bit_rows.proofs.Writing.{zeros}
 
 pub high_rows-none : (n : ℕ) → n ≤ 64 → high_rows n ≡ 0
 high_rows-none n le = rw (le-ltb 64 n le) refl

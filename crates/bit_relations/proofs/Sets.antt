@@ -1,9 +1,9 @@
 -- A set of events as two words.
 use Rattle.std.proofs.Common.{ℕ, ◌≡◌, ◌<◌, ◌≤◌, ◌+◌, ◌-◌, ◌^◌, ◌↔◌, ◌⊎◌, inl, inr, arith, sym, refl, subst}
 use Rattle.std.proofs.lemmas.Bool.{cases_lt}
-use Rattle.bit_relations.specs.Relation.{Bit, IsEvents, AreEventSetWords, wide_word}
-use Rattle.bit_relations.proofs.Bits.{Bit-zero, same_word}
-use Rattle.bit_relations.proofs.Wide.{Bit-low, Bit-high}
+use Rattle.bit_rows.specs.Relation.{Bit, IsEvents, AreEventSetWords, wide_word}
+use Rattle.bit_rows.proofs.Bits.{Bit-zero, same_word}
+use Rattle.bit_rows.proofs.Wide.{Bit-low, Bit-high}
 
 -- two words hold a set of events below n
 pub record IsHeld (n l h : ℕ) (S : ℕ → Type 0) : Type 0 where

@@ -1,6 +1,6 @@
 -- Lists of relations, packed into lists of numbers.
 use Rattle.std.specs.Prelude.{ℕ, ◌≡◌, ◌+◌, ◌-◌, List, [], ◌∷◌, ◌++◌, length, take, drop, map, flat_map, replicate, All, nat_lt, cond}
-use Rattle.bit_relations.specs.Relation.{Relation, IsRegular, max_events, wide, low_words, high_words}
+use Rattle.bit_rows.specs.Relation.{Relation, IsRegular, max_events, wide, low_words, high_words}
 
 -- how many high words a relation on n events needs
 abbrev pub high_rows : ℕ → ℕ

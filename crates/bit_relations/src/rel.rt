@@ -1,15 +1,14 @@
 //! Relations between events.
 ghost use Rattle.std.specs.Prelude.{◌≡◌, ◌<◌, ◌≤◌, ◌+◌, ◌++◌, ◌↔◌, length, IsTrue, OnOk, OnErr};
 ghost use Rattle.bit_relations.specs.Packing.{packed};
-ghost use Rattle.bit_relations.specs.Relation.{Relation, Has, IsRegular, IsRelation, IsMember};
-ghost use Rattle.bit_relations.specs.Rows.{StoredPairs, AreStored};
-ghost use Rattle.bit_relations.specs.Pairs.{WithPair, Identity, Union, Inter, Minus, Composite, Complement, Inverse, Opt, On, Product, Restriction, Plus, Star, IsIrreflexive, IsAcyclic, IsEmpty};
+ghost use Rattle.bit_rows.specs.Relation.{Relation, Has, IsRegular, IsRelation, IsMember};
+ghost use Rattle.bit_rows.specs.Rows.{StoredPairs, AreStored};
+ghost use Rattle.bit_rows.specs.Pairs.{WithPair, Identity, Union, Inter, Minus, Composite, Complement, Inverse, Opt, On, Product, Restriction, Plus, Star, IsIrreflexive, IsAcyclic, IsEmpty};
 
-use crate::lanes::blocks_of;
+use crate::rows;
 use crate::set::EventSet;
-use crate::word::{in_high, in_low, lowest_bits};
-use crate::words::{MAX_EVENTS, end_of_high};
-use crate::{rows, words};
+use bit_rows::lanes::blocks_of;
+use bit_rows::{MAX_EVENTS, end_of_high, in_high, in_low, lowest_bits, words};
 use std::alloc::AllocError;
 use std::marker::Model;
 
@@ -23,7 +22,7 @@ pub struct Rel {
 
 impl Model for Rel {
     ghost use Rattle.std.proofs.Common.{refl};
-    ghost use Rattle.bit_relations.specs.Relation.{Relation, AreRelColumns, wide, low_words, high_words};
+    ghost use Rattle.bit_rows.specs.Relation.{Relation, AreRelColumns, wide, low_words, high_words};
 
     ghost Value = { Relation };
 

@@ -1,12 +1,11 @@
 //! Rows of two words: a column of low words and one of high words.
 ghost use Rattle.std.specs.Prelude.{◌≡◌, ℕ, ◌<◌, ◌≤◌, ◌+◌, ◌*◌, ◌↔◌, length, IsTrue};
-ghost use Rattle.bit_relations.specs.Relation.{Bit, wide, AreRelColumns};
-ghost use Rattle.bit_relations.specs.Rows.{RowsHave, AreRowsFilled, AllFit, JoinedBelow, InverseFrom, Through};
-ghost use Rattle.bit_relations.specs.Pairs.{Plus, IsAcyclic};
+ghost use Rattle.bit_rows.specs.Relation.{Bit, wide, AreRelColumns};
+ghost use Rattle.bit_rows.specs.Rows.{RowsHave, AreRowsFilled, AllFit, JoinedBelow, InverseFrom, Through};
+ghost use Rattle.bit_rows.specs.Pairs.{Plus, IsAcyclic};
 
-use crate::lanes::{blocks_of, close_sixteen, join_block, join_both, join_own};
-use crate::word::{has_event, in_high, in_low, union_where, with_bit};
-use crate::words::{MAX_EVENTS, is_diagonal_free};
+use bit_rows::lanes::{blocks_of, close_sixteen, join_block, join_both, join_own};
+use bit_rows::{MAX_EVENTS, has_event, in_high, in_low, is_diagonal_free, union_where, with_bit};
 
 /// Whether the row of an event leads to another.
 pub fn has_pair(low: &[u64; MAX_EVENTS], high: &[u64; MAX_EVENTS], from: usize, to: usize) -> bool

@@ -1,8 +1,8 @@
 //! Sets of events.
 ghost use Rattle.std.specs.Prelude.{◌≡◌, ℕ, ◌<◌, ◌≤◌, ◌^◌, ◌↔◌, ◌⊎◌, IsTrue};
-ghost use Rattle.bit_relations.specs.Relation.{Events, IsMember, IsEvents, wide_word};
+ghost use Rattle.bit_rows.specs.Relation.{Events, IsMember, IsEvents, wide_word};
 
-use crate::word::{both, either, has_event, in_high, in_low, left_alone, lowest_bits, with_bit};
+use bit_rows::{both, either, has_event, in_high, in_low, left_alone, lowest_bits, with_bit};
 use std::marker::Model;
 
 /// A set of the events below a count.
@@ -15,7 +15,7 @@ pub struct EventSet {
 
 impl Model for EventSet {
     ghost use Rattle.std.specs.Prelude.{◌/◌, ◌%◌, ◌^◌};
-    ghost use Rattle.bit_relations.specs.Relation.{Events, wide_word, AreEventSetWords};
+    ghost use Rattle.bit_rows.specs.Relation.{Events, wide_word, AreEventSetWords};
 
     ghost Value = { Events };
 

@@ -1,7 +1,7 @@
 -- Elements that are changed or removed, seen through a function, at any index.
 use Rattle.std.proofs.Common.{◌≡◌, ℕ, zero, suc, ◌<◌, ◌≤◌, List, [], ◌∷◌, length, map, get_or, take, drop, Option, ◌+◌, ◌++◌, add-one, subst, refl, sym, ap, ◌∙◌, arith}
 use Rattle.std.proofs.Math.ListN.{set}
-use Rattle.verdict.specs.declared.answer.Outcome.{Outcome}
+use Rattle.outcome_states.specs.declared.answer.Outcome.{Outcome}
 use Rattle.bench_texts.specs.BenchTexts.{changed_at, put_at}
 use Rattle.board.specs.Contents.{RowContent}
 

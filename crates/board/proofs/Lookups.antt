@@ -4,7 +4,7 @@ use Rattle.std.specs.Prelude.{slice_get, remove, fold, Contains, if◌then◌els
 use Rattle.std.proofs.lemmas.Option.{none-some}
 use Rattle.std.proofs.lemmas.Bool.{eqb-true, eqb-false, ltb-true, ltb-false}
 use Rattle.std.proofs.lemmas.List.{length-append}
-use Rattle.verdict.specs.declared.answer.Outcome.{Outcome}
+use Rattle.outcome_states.specs.declared.answer.Outcome.{Outcome}
 use Rattle.bench_texts.specs.BenchTexts.{changed_at, put_at}
 use Rattle.bench_texts.proofs.Lists.{length-changed_at}
 use Rattle.board.specs.declared.operation.CellIndex.{CellIndex}

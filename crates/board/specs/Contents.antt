@@ -2,7 +2,7 @@
 -- then Operations, then Legal, then Right.
 use Rattle.std.specs.Prelude.{ℕ, List, [], Option, Some, None, bytes_eq, slice_get, option_map}
 use Rattle.std.specs.List.{position_or_len}
-use Rattle.verdict.specs.declared.answer.Outcome.{Outcome}
+use Rattle.outcome_states.specs.declared.answer.Outcome.{Outcome}
 use Rattle.outcome_texts.specs.Cells.{Cell, NoCell, Open, Settled}
 
 -- a test: its name, and its cells, one for each model: open, or settled with an outcome

@@ -1,7 +1,7 @@
 -- What is promised of the outcomes that a board shows, of the names beside them, and of the items
 -- of its models.
 use Rattle.std.specs.Prelude.{◌≡◌, ℕ, List, map, Some}
-use Rattle.verdict.specs.declared.answer.Outcome.{Outcome}
+use Rattle.outcome_states.specs.declared.answer.Outcome.{Outcome}
 use Rattle.bench_texts.specs.declared.model.NamedModel.{NamedModel}
 use Rattle.bench_texts.specs.Held.{plain_model}
 use Rattle.bench_texts.specs.Printed.{printed_items}

@@ -27,9 +27,9 @@ use Rattle.thread_runs.specs.declared.state.State.{State}
 use Rattle.thread_runs.specs.Machine.{register, with_register, sum_of, operation_value, operated, cancels, state_after, event_of, is_fault, is_load, is_branch, takes_branch}
 use Rattle.thread_runs.specs.Runs.{Walk, RunOutcome, Thread, InDomain, walk_at, walk_after, walk_past, ends, after_load, after_instruction, after_line, run_from, free_ends, after_free_instruction, after_free_line, free_from}
 use Rattle.thread_runs.specs.AllRuns.{thread_of, first_of}
-use Rattle.ppc_semantics.proofs.Starting.{number_at}
-use Rattle.ppc_semantics.specs.Domain.{threads_from, threads_of}
-use Rattle.ppc_semantics.specs.Lowering.{IsProgram, Starts, AreRegisters, name_index, lowered_value, test_names, entry_names, place_names, value_names, formula_names}
+use Rattle.ppc_lowering.proofs.Starting.{number_at}
+use Rattle.ppc_lowering.specs.Domain.{threads_from, threads_of}
+use Rattle.ppc_lowering.specs.Lowering.{IsProgram, Starts, AreRegisters, name_index, lowered_value, test_names, entry_names, place_names, value_names, formula_names}
 use Rattle.candidates.proofs.Elements.{member_first, member_cases, no_member, joined_there}
 
 -- the value is no address of a location past the first n

@@ -6,16 +6,16 @@ use Rattle.text_values.specs.declared.test.Test.{Test}
 use Rattle.thread_runs.specs.declared.value.Value.{Value}
 use Rattle.thread_runs.specs.Runs.{Thread, Run, IsThreadRun, AreThreadRuns}
 use Rattle.thread_runs.specs.ValueSet.{IsProperValue}
-use Rattle.ppc_semantics.specs.Domain.{threads_of}
+use Rattle.ppc_lowering.specs.Domain.{threads_of}
 use Rattle.candidates.proofs.NoLocation.{over_any_domain}
 use Rattle.candidates.proofs.Elements.{member_cases, member_later, member_first, no_member, mapped_there, joined_there}
 use Rattle.run_combinations.proofs.Numbers.{number_there}
-use Rattle.run_combinations.specs.Events.{is_store, is_store_action}
+use Rattle.store_orders.specs.Events.{is_store, is_store_action}
 use Rattle.candidates.specs.Executions.{Execution, IsExecution, IsStoreOrder, MayRead, loads, stores, stores_at, locations_from, events, product, read_choices, order_choices, orders, over_runs}
 use Rattle.candidates.specs.Laws.{HasAllExecutions}
-use Rattle.run_combinations.specs.Lists.{IsFiltered, none, kept, left}
-use Rattle.run_combinations.specs.declared.combination.Action.TheVariants.{Store}
-use Rattle.run_combinations.specs.declared.combination.Event.{Event}
+use Rattle.store_orders.specs.Lists.{IsFiltered, none, kept, left}
+use Rattle.store_orders.specs.declared.combination.Action.TheVariants.{Store}
+use Rattle.store_orders.specs.declared.combination.Event.{Event}
 
 -- members of a filter
 pub filtered_there : {X : Type 0} (P : X → Type 0) (xs ys : List X) → IsFiltered P xs ys → (x : X)

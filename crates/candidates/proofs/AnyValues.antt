@@ -10,7 +10,7 @@ use Rattle.std.proofs.lemmas.List.{length-append}
 use Rattle.std.proofs.lemmas.List.Sums.{sum_by_more, sum_by-take-le}
 use Rattle.std.proofs.lemmas.List.Elements.{All-contains, Contains-get_or, filter-append}
 use Rattle.std.proofs.lemmas.Slice.Zip.{AllZip-long}
-use Rattle.bit_relations.specs.Pairs.{Union, Path}
+use Rattle.bit_rows.specs.Pairs.{Union, Path}
 use Rattle.thread_runs.specs.declared.value.Value.{Value}
 use Rattle.thread_runs.specs.declared.value.Value.TheVariants.{Number, Address, NoValue}
 use Rattle.thread_runs.specs.declared.instruction.Event as run
@@ -21,8 +21,8 @@ use Rattle.thread_runs.specs.Machine.{is_load as loads_from}
 use Rattle.thread_runs.specs.Runs.{Thread, Run, IsThreadRun, InDomain, StoresFreely, executed, loaded_at, walk_at}
 use Rattle.thread_runs.specs.AllRuns.{thread_of, lines_at}
 use Rattle.thread_runs.specs.ValueSet.{IsProperValue}
-use Rattle.ppc_semantics.specs.Domain.{IsDomainAt, threads_from, threads_of, has_load, load_total}
-use Rattle.dataflow.specs.Chains.{IsNeed, event_index}
+use Rattle.ppc_lowering.specs.Domain.{IsDomainAt, threads_from, threads_of, has_load, load_total}
+use Rattle.taints.specs.Chains.{IsNeed, event_index}
 use Rattle.dataflow.specs.Execution.{EdgePath}
 use Rattle.dataflow.proofs.DomainLaw.{all_there, stored_freely}
 use Rattle.candidates.proofs.Elements.{member_cases, member_later, member_first, no_member, behind_first, within_first}
@@ -32,11 +32,11 @@ use Rattle.run_combinations.proofs.Numbers.{number_there, as_many}
 use Rattle.candidates.proofs.StepEvents.{in_run}
 use Rattle.candidates.proofs.StepValues.{StoredAt, stored_at, loaded_there}
 use Rattle.candidates.proofs.Whole.{AreLocated, run_located}
-use Rattle.run_combinations.specs.Events.{thread_events, with_action, action_in, initial_stores, is_load_action, is_load, ReadsFrom}
+use Rattle.store_orders.specs.Events.{thread_events, with_action, action_in, initial_stores, is_load_action, is_load, ReadsFrom}
 use Rattle.candidates.specs.Executions.{Execution, IsExecution, IsDependency, MayRead, loads, events, events_from}
-use Rattle.run_combinations.specs.declared.combination.Action.{Action}
-use Rattle.run_combinations.specs.declared.combination.Action.TheVariants.{Load, Store, Fence}
-use Rattle.run_combinations.specs.declared.combination.Event.{Event}
+use Rattle.store_orders.specs.declared.combination.Action.{Action}
+use Rattle.store_orders.specs.declared.combination.Action.TheVariants.{Load, Store, Fence}
+use Rattle.store_orders.specs.declared.combination.Event.{Event}
 
 -- the events of a run, one by one
 first_event : (t : ℕ) (e : run.Event) (es : List run.Event) (a : Action) → action_in e ≡ Some a

@@ -6,11 +6,11 @@ use Rattle.std.specs.declared.alloc.Global.{Global}
 use Rattle.std.proofs.lemmas.Bool.{cases_eq}
 use Rattle.thread_runs.specs.declared.run.Run.{Run}
 use Rattle.candidates.specs.Executions.{product}
-use Rattle.run_combinations.specs.Events.{CannotRead}
+use Rattle.store_orders.specs.Events.{CannotRead}
 use Rattle.run_combinations.specs.Layouts.{ArePartsOf, AreThreadsOf, AreChosen, chosen_events, HasRun, HaveParts, IsLaidOut}
 use Rattle.run_combinations.specs.Parts.{IsPartOf}
 use Rattle.run_combinations.specs.Search.{PrefixLists, with_run, combinations, initial_prefix, all_combinations}
-use Rattle.run_combinations.specs.declared.combination.Event.{Event}
+use Rattle.store_orders.specs.declared.combination.Event.{Event}
 use Rattle.thread_runs.specs.declared.instruction.Program.{Program}
 use Rattle.run_combinations.specs.declared.layout.Layout.{Layout}
 use Rattle.run_combinations.specs.declared.layout.ThreadParts.{ThreadParts}

@@ -7,10 +7,10 @@ use Rattle.std.proofs.lemmas.Option.{same_Some}
 use Rattle.candidates.proofs.Products.{FilteredEach, filter_of_products, filter_twice, filter_as}
 use Rattle.candidates.proofs.ReadsFrom.{tuples_are}
 use Rattle.candidates.specs.Executions.{IsStoreOrder, product, order_choices, stores_at}
-use Rattle.run_combinations.specs.Lists.{tuples, IsFiltered, none, kept, left}
-use Rattle.run_combinations.specs.Events.{has_store, AreDistinct}
-use Rattle.run_combinations.specs.Orders.{are_distinct, orders_of}
-use Rattle.run_combinations.specs.declared.combination.Event.{Event}
+use Rattle.store_orders.specs.Lists.{tuples, IsFiltered, none, kept, left}
+use Rattle.store_orders.specs.Events.{has_store, AreDistinct}
+use Rattle.store_orders.specs.Orders.{are_distinct, orders_of}
+use Rattle.store_orders.specs.declared.combination.Event.{Event}
 
 true_false : true ≡ false → ⊥
 true_false h = cc

@@ -11,19 +11,19 @@ use Rattle.thread_runs.specs.declared.value.Value.TheVariants.{Number, Address, 
 use Rattle.thread_runs.specs.declared.instruction.Event as run
 use Rattle.thread_runs.specs.declared.instruction.Event.TheVariants as run_event
 use Rattle.thread_runs.specs.Runs.{Run, walk_at}
-use Rattle.ppc_semantics.specs.Domain.{threads_of, load_total}
+use Rattle.ppc_lowering.specs.Domain.{threads_of, load_total}
 use Rattle.candidates.proofs.Addresses.{AllBelow, one_below, run_kept, begins_kept, domain_below}
 use Rattle.candidates.proofs.AnyValues.{RunOf, thread_of_run}
 use Rattle.candidates.proofs.Elements.{member_cases, member_first, member_later, no_member, joined}
 use Rattle.candidates.proofs.NoLocation.{over_any_domain}
 use Rattle.run_combinations.proofs.Numbers.{Numbered, contained, number_there}
 use Rattle.candidates.proofs.OneOutcome.{without, one_fewer, still_there}
-use Rattle.run_combinations.specs.Events.{AreDistinct, has_store, action_in, with_action, thread_events, initial_stores, is_store, is_store_to}
+use Rattle.store_orders.specs.Events.{AreDistinct, has_store, action_in, with_action, thread_events, initial_stores, is_store, is_store_to}
 use Rattle.candidates.specs.Executions.{IsExecution, IsStoreOrder, events, events_from, stores_at, locations_from}
 use Rattle.candidates.specs.Laws.{CoversEachStore}
-use Rattle.run_combinations.specs.declared.combination.Action.{Action}
-use Rattle.run_combinations.specs.declared.combination.Action.TheVariants.{Load, Store, Fence}
-use Rattle.run_combinations.specs.declared.combination.Event.{Event}
+use Rattle.store_orders.specs.declared.combination.Action.{Action}
+use Rattle.store_orders.specs.declared.combination.Action.TheVariants.{Load, Store, Fence}
+use Rattle.store_orders.specs.declared.combination.Event.{Event}
 
 -- each of the events stores at one of the first locations, if it is a store
 abbrev StoresBelow : ℕ → List Event → Type 0

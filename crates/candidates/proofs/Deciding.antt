@@ -3,15 +3,15 @@
 use Rattle.std.proofs.Common.{ℕ, zero, suc, ◌≡◌, ◌<◌, ◌⊎◌, List, [], ◌∷◌, ◌++◌, length, get_or, ap, sym, subst, inl, inr, arith, Contains}
 use Rattle.std.proofs.lemmas.Bool.{cases_eq}
 use Rattle.std.proofs.lemmas.List.Elements.{Contains-append_left, Contains-append_right, Contains-append_cases}
-use Rattle.bit_relations.specs.Pairs.{Union, Path, IsAcyclic}
+use Rattle.bit_rows.specs.Pairs.{Union, Path, IsAcyclic}
 use Rattle.candidates.proofs.Elements.{member_cases, member_later, member_first, no_member}
 use Rattle.run_combinations.specs.Candidates.{AreCombinations, nothing_left, with_read_choices, without}
-use Rattle.run_combinations.specs.Events.{numbers, is_load, is_store, ReadsFrom}
-use Rattle.run_combinations.specs.Lists.{tuples, IsFiltered, none, kept, left}
+use Rattle.store_orders.specs.Events.{numbers, is_load, is_store, ReadsFrom}
+use Rattle.store_orders.specs.Lists.{tuples, IsFiltered, none, kept, left}
 use Rattle.run_combinations.specs.Search.{PrefixLists}
-use Rattle.run_combinations.specs.Combinations.{CombinationLists}
+use Rattle.store_orders.specs.Combinations.{CombinationLists}
 use Rattle.run_combinations.specs.ReadChoices.{AreReadChoices, IsReadChoice, accesses_in}
-use Rattle.run_combinations.specs.declared.combination.Event.{Event}
+use Rattle.store_orders.specs.declared.combination.Event.{Event}
 
 -- a fact is decided
 abbrev pub Decided : Type 0 → Type 0

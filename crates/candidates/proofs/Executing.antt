@@ -2,23 +2,23 @@
 use Rattle.std.proofs.Common.{ℕ, ◌≡◌, ◌<◌, ◌≤◌, ◌+◌, ◌&&◌, Bool, true, false, cond, nat_eq, List, [], ◌∷◌, ◌++◌, map, length, Option, Some, None, is_some, refl, ap, sym, ◌∙◌, inl, inr, arith, eq-eqb, Contains}
 use Rattle.std.specs.List.{flat_map, AllZip}
 use Rattle.std.proofs.lemmas.Bool.{cases_eq}
-use Rattle.bit_relations.specs.Pairs.{Union, IsAcyclic}
+use Rattle.bit_rows.specs.Pairs.{Union, IsAcyclic}
 use Rattle.thread_runs.specs.declared.value.Value.{Value}
 use Rattle.thread_runs.specs.declared.instruction.Event as run
 use Rattle.thread_runs.specs.Runs.{Thread, Run, IsThreadRun}
-use Rattle.dataflow.specs.Chains.{IsNeed}
+use Rattle.taints.specs.Chains.{IsNeed}
 use Rattle.candidates.proofs.Coherence.{location_orders}
-use Rattle.run_combinations.proofs.Counting.{eq_true, numbers_above}
+use Rattle.store_orders.proofs.Counting.{eq_true, numbers_above}
 use Rattle.candidates.proofs.Products.{FilteredEach, filter_of_product, filter_of_products}
 use Rattle.candidates.proofs.ReadsFrom.{reads_found}
 use Rattle.candidates.specs.Executions.{Execution, IsExecution, IsDependency, IsStoreOrder, MayRead, product, read_choices, order_choices, orders, over_runs, loads, stores_at, locations_from, events, events_from}
 use Rattle.candidates.specs.Listed.{ChoosesApart, IsReadsFrom, IsCoherence}
-use Rattle.run_combinations.specs.Lists.{IsFiltered}
-use Rattle.run_combinations.specs.Events.{numbers, has_store, is_store_to, thread_events, with_action, action_in, initial_stores, ReadsFrom}
-use Rattle.run_combinations.specs.Orders.{orders_of, is_thread_store}
+use Rattle.store_orders.specs.Lists.{IsFiltered}
+use Rattle.store_orders.specs.Events.{numbers, has_store, is_store_to, thread_events, with_action, action_in, initial_stores, ReadsFrom}
+use Rattle.store_orders.specs.Orders.{orders_of, is_thread_store}
 use Rattle.run_combinations.specs.ReadChoices.{AreReadChoices, accesses_in}
-use Rattle.run_combinations.specs.declared.combination.Action.{Action}
-use Rattle.run_combinations.specs.declared.combination.Event.{Event}
+use Rattle.store_orders.specs.declared.combination.Action.{Action}
+use Rattle.store_orders.specs.declared.combination.Event.{Event}
 
 -- events of threads
 abbrev InThreads : List Event → Type 0

@@ -11,21 +11,21 @@ use Rattle.thread_runs.specs.declared.run.Run as made
 use Rattle.thread_runs.specs.Machine.{is_load}
 use Rattle.thread_runs.specs.Runs.{Thread, Run, executed}
 use Rattle.thread_runs.specs.AllRuns.{ShownRun}
-use Rattle.dataflow.specs.Chains.{Executed, IsAddr, IsData, IsCtrl, IsCtrlIsync, IsNeed, IsPairListOf, event_index}
+use Rattle.taints.specs.Chains.{Executed, IsAddr, IsData, IsCtrl, IsCtrlIsync, IsNeed, IsPairListOf, event_index}
 use Rattle.dataflow.specs.Dependencies.{AreLinks}
-use Rattle.dataflow.specs.declared.lists.Links.{Links}
+use Rattle.taints.specs.declared.lists.Links.{Links}
 use Rattle.candidates.proofs.Choosing.{GoesOnWith}
 use Rattle.candidates.proofs.Elements.{no_member, mapped, mapped_there}
 use Rattle.candidates.proofs.Kept.{AreOne, SameRun}
 use Rattle.candidates.proofs.StepEvents.{place_few}
 use Rattle.candidates.proofs.Places.{places_are_events}
-use Rattle.run_combinations.specs.Events.{thread_events, initial_stores}
+use Rattle.store_orders.specs.Events.{thread_events, initial_stores}
 use Rattle.candidates.specs.Executions.{IsDependency, events, events_from}
 use Rattle.run_combinations.specs.Layouts.{chosen_events}
 use Rattle.run_combinations.specs.Parts.{IsPartOf}
-use Rattle.dataflow.specs.DependencyLists.{renumbered_pairs}
+use Rattle.taints.specs.DependencyLists.{renumbered_pairs}
 use Rattle.run_combinations.specs.Search.{PrefixLists, with_run, initial_prefix}
-use Rattle.run_combinations.specs.declared.combination.Event.{Event}
+use Rattle.store_orders.specs.declared.combination.Event.{Event}
 use Rattle.run_combinations.specs.declared.layout.ThreadParts.{ThreadParts}
 use Rattle.run_combinations.specs.declared.part.Part.{Part}
 

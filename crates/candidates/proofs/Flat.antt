@@ -6,10 +6,10 @@ use Rattle.std.proofs.lemmas.List.Concat.{flat_map-append}
 use Rattle.thread_runs.specs.declared.value.Value.{Value}
 use Rattle.candidates.proofs.Executing.{others_at, orders_at}
 use Rattle.candidates.specs.Executions.{product, locations_from}
-use Rattle.run_combinations.specs.Lists.{each_behind}
-use Rattle.run_combinations.specs.Events.{numbers}
-use Rattle.run_combinations.specs.Orders.{orders_of, is_thread_store, stores_of, all_orders}
-use Rattle.run_combinations.specs.declared.combination.Event.{Event}
+use Rattle.store_orders.specs.Lists.{each_behind}
+use Rattle.store_orders.specs.Events.{numbers}
+use Rattle.store_orders.specs.Orders.{orders_of, is_thread_store, stores_of, all_orders}
+use Rattle.store_orders.specs.declared.combination.Event.{Event}
 
 -- the orders of locations, one after another
 abbrev pub flat : List (List ℕ) → List ℕ

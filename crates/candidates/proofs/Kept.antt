@@ -14,13 +14,13 @@ use Rattle.thread_runs.specs.Runs.{Thread, Run, IsThreadRun, AreThreadRuns, walk
 use Rattle.thread_runs.specs.AllRuns.{ShownRun, run_shown, shown_run, lines_at, thread_of}
 use Rattle.thread_runs.specs.LocationValues.{AreLeft, IsUnserved, ShowsServed}
 use Rattle.thread_runs.proofs.Serving.{left_contains}
-use Rattle.ppc_semantics.specs.Domain.{has_event, IsDomain, threads_from, threads_of}
+use Rattle.ppc_lowering.specs.Domain.{has_event, IsDomain, threads_from, threads_of}
 use Rattle.candidates.proofs.Choosing.{runs_in}
 use Rattle.candidates.proofs.Small.{run_few}
 use Rattle.candidates.specs.Executions.{product, events_from}
 use Rattle.run_combinations.specs.Layouts.{AreServedRuns, chosen_events}
-use Rattle.run_combinations.specs.Events.{thread_events}
-use Rattle.run_combinations.specs.declared.combination.Event.{Event}
+use Rattle.store_orders.specs.Events.{thread_events}
+use Rattle.store_orders.specs.declared.combination.Event.{Event}
 
 -- a run as it is kept, and the run
 pub record Same (m : made.Run) (r : Run) : Type 0 where

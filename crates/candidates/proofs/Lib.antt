@@ -1,10 +1,8 @@
 pub mod Addresses
-pub mod Alike
 pub mod AllListed
 pub mod AnyValues
 pub mod Choosing
 pub mod Coherence
-pub mod Comparing
 pub mod Covering
 pub mod Deciding
 pub mod Elements
@@ -27,7 +25,6 @@ pub mod Serving
 pub mod Showing
 pub mod Small
 pub mod Sole
-pub mod Spaces
 pub mod StepEvents
 pub mod StepValues
 pub mod Telling

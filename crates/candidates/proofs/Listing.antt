@@ -1,30 +1,30 @@
 -- The combinations that are found, with their read choices and orders, are just the executions.
 use Rattle.std.proofs.Common.{ℕ, ◌≡◌, ◌≤◌, false, length, List, [], ◌∷◌, ◌++◌, map, ap, subst, ◌∙◌, inl, inr, arith, Contains}
 use Rattle.std.specs.List.{flat_map, AllZip}
-use Rattle.bit_relations.specs.Pairs.{Union, IsAcyclic}
+use Rattle.bit_rows.specs.Pairs.{Union, IsAcyclic}
 use Rattle.thread_runs.specs.declared.value.Value.{Value}
 use Rattle.thread_runs.specs.declared.run.Run as made
 use Rattle.thread_runs.specs.Runs.{Thread, Run, IsThreadRun}
-use Rattle.dataflow.specs.Chains.{IsNeed}
-use Rattle.dataflow.specs.DependencyLists.{no_dependencies}
+use Rattle.taints.specs.Chains.{IsNeed}
+use Rattle.taints.specs.DependencyLists.{no_dependencies}
 use Rattle.candidates.proofs.Choosing.{AreChoices, GoesOnWith, over, next, skipped}
 use Rattle.candidates.proofs.Executing.{executed_so, executions_found, orders_at, orders_filtered}
 use Rattle.candidates.proofs.Facts.{events_are}
 use Rattle.candidates.proofs.Kept.{AreOne, one_run_each, same_events}
 use Rattle.candidates.proofs.Needs.{needs_are}
-use Rattle.run_combinations.proofs.Filters.{IsFiltered-append}
+use Rattle.store_orders.proofs.Filters.{IsFiltered-append}
 use Rattle.candidates.proofs.Products.{filter_of_product}
 use Rattle.run_combinations.proofs.Pruning.{no_read_choices}
 use Rattle.candidates.proofs.ReadsFrom.{reads_found, acyclic_as}
 use Rattle.run_combinations.specs.declared.layout.ThreadParts.{ThreadParts}
 use Rattle.run_combinations.specs.Candidates.{AreSmall, AreCombinations, nothing_left, with_read_choices, without}
 use Rattle.candidates.specs.Executions.{Execution, IsExecution, IsDependency, IsStoreOrder, MayRead, product, read_choices, orders, over_runs, loads, locations_from, events}
-use Rattle.run_combinations.specs.Lists.{IsFiltered, none, left}
-use Rattle.run_combinations.specs.Events.{initial_stores, ReadsFrom, CannotRead}
+use Rattle.store_orders.specs.Lists.{IsFiltered, none, left}
+use Rattle.store_orders.specs.Events.{initial_stores, ReadsFrom, CannotRead}
 use Rattle.run_combinations.specs.Search.{PrefixLists, initial_prefix}
-use Rattle.run_combinations.specs.Combinations.{CombinationLists, ordered}
+use Rattle.store_orders.specs.Combinations.{CombinationLists, ordered}
 use Rattle.run_combinations.specs.ReadChoices.{AreReadChoices, accesses_in}
-use Rattle.run_combinations.specs.declared.combination.Event.{Event}
+use Rattle.store_orders.specs.declared.combination.Event.{Event}
 
 -- a filter that keeps nothing keeps nothing of what is less
 none_of_less : {X : Type 0} (P Q : X → Type 0) → ((x : X) → Q x → P x) → (xs : List X)

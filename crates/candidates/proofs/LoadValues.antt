@@ -15,7 +15,7 @@ use Rattle.thread_runs.specs.declared.instruction.Line.TheVariants.{Label, Does}
 use Rattle.thread_runs.specs.declared.state.State.{State}
 use Rattle.thread_runs.specs.Machine.{is_load, is_fault, takes_branch, event_of}
 use Rattle.thread_runs.specs.Runs.{Walk, RunOutcome, walk_at, walk_after, walk_past, ends, after_load, after_instruction, after_line, run_from, run_of}
-use Rattle.ppc_semantics.specs.Domain.{has_load}
+use Rattle.ppc_lowering.specs.Domain.{has_load}
 
 -- the values that events read
 abbrev pub read_in : List run.Event → List Value

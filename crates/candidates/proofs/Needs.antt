@@ -8,18 +8,18 @@ use Rattle.thread_runs.specs.declared.instruction.Instruction.TheVariants.{Immed
 use Rattle.thread_runs.specs.declared.run.Run as made
 use Rattle.thread_runs.specs.Machine.{is_load as loads_from}
 use Rattle.thread_runs.specs.Runs.{Thread, Run, IsThreadRun, executed}
-use Rattle.dataflow.specs.Chains.{Resource, IsNeed, IsStoredRegister, event_index, is_event}
+use Rattle.taints.specs.Chains.{Resource, IsNeed, IsStoredRegister, event_index, is_event}
 use Rattle.candidates.proofs.Choosing.{GoesOnWith}
 use Rattle.candidates.proofs.Elements.{behind_first, in_first}
 use Rattle.candidates.proofs.Facts.{need, facts}
 use Rattle.candidates.proofs.Kept.{AreOne, one_run_each}
 use Rattle.candidates.proofs.StepEvents.{Stands, events_stand}
 use Rattle.run_combinations.proofs.Numbers.{number_there}
-use Rattle.run_combinations.specs.Events.{thread_events, initial_stores, is_load, is_store, is_store_instruction}
+use Rattle.store_orders.specs.Events.{thread_events, initial_stores, is_load, is_store, is_store_instruction}
 use Rattle.candidates.specs.Executions.{IsDependency, loads, stores, events, events_from}
 use Rattle.run_combinations.specs.Search.{PrefixLists, initial_prefix}
 use Rattle.run_combinations.specs.ReadChoices.{accesses_in}
-use Rattle.run_combinations.specs.declared.combination.Event.{Event}
+use Rattle.store_orders.specs.declared.combination.Event.{Event}
 use Rattle.run_combinations.specs.declared.layout.ThreadParts.{ThreadParts}
 
 -- an event of a run is one of the execution's

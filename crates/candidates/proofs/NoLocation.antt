@@ -23,8 +23,8 @@ use Rattle.thread_runs.specs.Machine.{register, with_register, sum_of, operation
 use Rattle.thread_runs.specs.Runs.{Walk, RunOutcome, Thread, Run, IsThreadRun, walk_at, walk_after, run_of}
 use Rattle.thread_runs.specs.AllRuns.{thread_of, first_of}
 use Rattle.thread_runs.specs.ValueSet.{IsProperValue}
-use Rattle.ppc_semantics.specs.Domain.{IsDomainAt, load_total, threads_from, threads_of}
-use Rattle.ppc_semantics.specs.Lowering.{IsProgram, Starts, AreRegisters, lowered_value, test_names, entry_names, place_names, value_names, formula_names}
+use Rattle.ppc_lowering.specs.Domain.{IsDomainAt, load_total, threads_from, threads_of}
+use Rattle.ppc_lowering.specs.Lowering.{IsProgram, Starts, AreRegisters, lowered_value, test_names, entry_names, place_names, value_names, formula_names}
 use Rattle.text_values.specs.TestValue.{formula_of}
 use Rattle.candidates.proofs.AnyValues.{over_domain, zip_as, thread_of_run, RunOf}
 use Rattle.candidates.proofs.Elements.{member_first, no_member, joined_there}

@@ -9,16 +9,16 @@ use Rattle.thread_runs.specs.declared.instruction.Program.{Program}
 use Rattle.thread_runs.specs.Runs.{Thread, Run, InDomain, IsLess}
 use Rattle.thread_runs.specs.AllRuns.{HasRuns}
 use Rattle.thread_runs.specs.FreeRuns.{HasFreeRuns, IsOtherFreeRun}
-use Rattle.ppc_semantics.specs.Domain.{threads_of, load_total, IsDomain, IsFirstFailure, IsDomainRefusal, IsDomainAt, IsBoundedRound, InDomainAt, HasManyValues, HasManyRuns, HasCombinations}
+use Rattle.ppc_lowering.specs.Domain.{threads_of, load_total, IsDomain, IsFirstFailure, IsDomainRefusal, IsDomainAt, IsBoundedRound, InDomainAt, HasManyValues, HasManyRuns, HasCombinations}
 use Rattle.candidates.proofs.Elements.{member_cases, member_first, member_later}
 use Rattle.candidates.proofs.OneProgram.{Alike, programs_alike, test_executions_one}
 use Rattle.candidates.proofs.Sole.{first_rises, rest_rises, same_rising, less_apart, runs_sole}
 use Rattle.candidates.specs.Executions.{Execution}
 use Rattle.candidates.specs.Listed.{AreTestExecutions, ListsExecutions, HasManyExecutions, HasFaultedExecution, HasNoDomain, IsSpaceRefusal}
 use Rattle.candidates.specs.Laws.{HasOneDomainOrRefusal, HasOneSpaceOrRefusal}
-use Rattle.candidates.specs.declared.candidate.Space.{Space}
-use Rattle.ppc_semantics.specs.declared.fault.EvalRefusal.{EvalRefusal}
-use Rattle.ppc_semantics.specs.declared.fault.EvalRefusal.TheVariants.{TooManyEvents, TooManyValues, TooManyRuns, TooManyCandidates, AddressFault, TooManyCombinations}
+use Rattle.candidate_spaces.specs.declared.candidate.Space.{Space}
+use Rattle.ppc_lowering.specs.declared.fault.EvalRefusal.{EvalRefusal}
+use Rattle.ppc_lowering.specs.declared.fault.EvalRefusal.TheVariants.{TooManyEvents, TooManyValues, TooManyRuns, TooManyCandidates, AddressFault, TooManyCombinations}
 
 -- a list without one element
 pub without : {X : Type 0} → List X → ℕ → List X

@@ -20,9 +20,9 @@ use Rattle.thread_runs.specs.declared.instruction.Line.{Line}
 use Rattle.thread_runs.specs.declared.instruction.Program.{Program}
 use Rattle.thread_runs.specs.Runs.{Thread, InDomain, IsLess}
 use Rattle.thread_runs.specs.AllRuns.{thread_of, lines_at, first_of}
-use Rattle.ppc_semantics.specs.Domain.{IsDomain, threads_from, threads_of, has_event, has_load, event_total, load_total}
-use Rattle.ppc_semantics.specs.Lowering.{IsProgram, IsNameBefore, AreNamesOf, Starts, AreInitial, AreRegisters, AreFiles, LowersTo, AreThreadLines, lowered_value, lowered_line, labels_in}
-use Rattle.ppc_semantics.proofs.Sorting.{order}
+use Rattle.ppc_lowering.specs.Domain.{IsDomain, threads_from, threads_of, has_event, has_load, event_total, load_total}
+use Rattle.ppc_lowering.specs.Lowering.{IsProgram, IsNameBefore, AreNamesOf, Starts, AreInitial, AreRegisters, AreFiles, LowersTo, AreThreadLines, lowered_value, lowered_line, labels_in}
+use Rattle.ppc_lowering.proofs.Sorting.{order}
 use Rattle.candidates.proofs.Elements.{member_first}
 use Rattle.candidates.proofs.Sole.{same_rising, less_apart, executions_sole}
 use Rattle.candidates.specs.Executions.{Execution, AreExecutions}

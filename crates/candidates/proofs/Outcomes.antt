@@ -2,18 +2,18 @@
 use Rattle.std.proofs.Common.{ℕ, ◌≡◌, List, [], ◌∷◌, refl, inl, inr, ap, sym, subst, ◌∙◌, arith}
 use Rattle.text_values.specs.declared.test.Test.{Test}
 use Rattle.thread_runs.specs.declared.value.Value.{Value}
-use Rattle.dataflow.specs.Chains.{Executed, IsPairBefore}
-use Rattle.dataflow.proofs.PairDecision.{dependencies_one}
-use Rattle.candidates.proofs.Alike.{shown_one}
+use Rattle.taints.specs.Chains.{Executed, IsPairBefore}
+use Rattle.taints.proofs.PairDecision.{dependencies_one}
+use Rattle.candidate_spaces.proofs.Alike.{shown_one}
 use Rattle.candidates.proofs.OneProgram.{names_one, test_executions_one}
 use Rattle.candidates.proofs.Sole.{same_rising}
-use Rattle.candidates.specs.Space.{Shown, shown_in}
-use Rattle.ppc_semantics.specs.Lowering.{test_names}
+use Rattle.candidate_spaces.specs.Space.{Shown, shown_in}
+use Rattle.ppc_lowering.specs.Lowering.{test_names}
 use Rattle.std.specs.List.{AllZip}
 use Rattle.candidates.specs.Executions.{Execution}
 use Rattle.candidates.specs.Listed.{ShowsExecution, AreDependencyPairs}
 use Rattle.candidates.specs.Laws.{ShowOneTest}
-use Rattle.candidates.specs.declared.candidate.Space.{Space}
+use Rattle.candidate_spaces.specs.declared.candidate.Space.{Space}
 
 -- pairs in rising order are one list
 before_apart : (p q : ℕ × ℕ) → IsPairBefore p q → IsPairBefore q p → ⊥

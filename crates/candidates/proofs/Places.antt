@@ -12,7 +12,7 @@ use Rattle.thread_runs.specs.declared.instruction.RunStep.{RunStep}
 use Rattle.thread_runs.specs.declared.state.State.{State}
 use Rattle.thread_runs.specs.Machine.{is_load, is_fault, takes_branch, event_of}
 use Rattle.thread_runs.specs.Runs.{Walk, RunOutcome, walk_at, walk_after, walk_past, ends, after_load, after_instruction, after_line, run_from, run_of, executed, no_step}
-use Rattle.dataflow.specs.Chains.{Executed, event_index, is_event}
+use Rattle.taints.specs.Chains.{Executed, event_index, is_event}
 
 -- what each step of a run keeps holds at its end
 module _ (P : Walk → Type 0)

@@ -1,8 +1,8 @@
 -- The filter of a product is the product of the filters.
 use Rattle.std.proofs.Common.{◌↔◌, List, [], ◌∷◌, map}
 use Rattle.std.specs.List.{flat_map, AllZip}
-use Rattle.run_combinations.proofs.Filters.{IsFiltered-append}
-use Rattle.run_combinations.specs.Lists.{IsFiltered, none, kept, left}
+use Rattle.store_orders.proofs.Filters.{IsFiltered-append}
+use Rattle.store_orders.specs.Lists.{IsFiltered, none, kept, left}
 use Rattle.candidates.specs.Executions.{product}
 
 -- one of the first list with each of the second

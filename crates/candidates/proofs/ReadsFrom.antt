@@ -3,18 +3,18 @@ use Rattle.std.proofs.Common.{ℕ, suc, ◌≡◌, ◌+◌, ◌↔◌, ◌&&◌,
 use Rattle.std.specs.List.{flat_map, AllZip}
 use Rattle.std.proofs.lemmas.List.{map-append}
 use Rattle.std.proofs.lemmas.Option.{same_Some}
-use Rattle.bit_relations.specs.Pairs.{Union, Path, IsAcyclic}
+use Rattle.bit_rows.specs.Pairs.{Union, Path, IsAcyclic}
 use Rattle.thread_runs.specs.declared.value.Value.{Value}
 use Rattle.thread_runs.specs.declared.value.Value.TheVariants.{Number, Address, NoValue}
 use Rattle.run_combinations.proofs.Pruning.{is_store_of}
 use Rattle.candidates.proofs.Products.{FilteredEach, filter_of_products, filter_twice, filter_as}
 use Rattle.candidates.specs.Executions.{MayRead, product, read_choices, loads, stores}
-use Rattle.run_combinations.specs.Lists.{tuples, IsFiltered, none, kept, left}
-use Rattle.run_combinations.specs.Events.{numbers, ReadsFrom, is_load_action, is_store_action, is_load, is_store}
+use Rattle.store_orders.specs.Lists.{tuples, IsFiltered, none, kept, left}
+use Rattle.store_orders.specs.Events.{numbers, ReadsFrom, is_load_action, is_store_action, is_load, is_store}
 use Rattle.run_combinations.specs.ReadChoices.{AreReadChoices, IsReadChoice, accesses_in, stores_for, may_read, same_value}
-use Rattle.run_combinations.specs.declared.combination.Action.{Action}
-use Rattle.run_combinations.specs.declared.combination.Action.TheVariants.{Load, Store, Fence}
-use Rattle.run_combinations.specs.declared.combination.Event.{Event}
+use Rattle.store_orders.specs.declared.combination.Action.{Action}
+use Rattle.store_orders.specs.declared.combination.Action.TheVariants.{Load, Store, Fence}
+use Rattle.store_orders.specs.declared.combination.Event.{Event}
 
 true_false : true ≡ false → ⊥
 true_false h = cc

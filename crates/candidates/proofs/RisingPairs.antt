@@ -9,8 +9,8 @@ use Rattle.thread_runs.specs.declared.value.Value.{Value}
 use Rattle.thread_runs.specs.declared.instruction.RunStep.{RunStep}
 use Rattle.thread_runs.specs.declared.run.Run as made
 use Rattle.thread_runs.specs.Runs.{Thread, Run, executed}
-use Rattle.dataflow.proofs.ReachLoop.{place_lt}
-use Rattle.dataflow.specs.Chains.{IsPairBefore, IsPairListOf, is_event, event_index}
+use Rattle.taints.proofs.ReachLoop.{place_lt}
+use Rattle.taints.specs.Chains.{IsPairBefore, IsPairListOf, is_event, event_index}
 use Rattle.candidates.proofs.Choosing.{GoesOnWith}
 use Rattle.candidates.proofs.Elements.{no_member, mapped}
 use Rattle.candidates.proofs.Facts as facts
@@ -19,8 +19,8 @@ use Rattle.candidates.proofs.Needs.{load_is}
 use Rattle.candidates.proofs.Places.{places_are_events}
 use Rattle.candidates.proofs.StepEvents.{in_run, place_few}
 use Rattle.candidates.proofs.Whole.{none_left_out}
-use Rattle.run_combinations.specs.Events.{initial_stores}
-use Rattle.dataflow.specs.DependencyLists.{renumbered_pairs}
+use Rattle.store_orders.specs.Events.{initial_stores}
+use Rattle.taints.specs.DependencyLists.{renumbered_pairs}
 use Rattle.run_combinations.specs.Search.{PrefixLists, with_run, initial_prefix}
 use Rattle.run_combinations.specs.declared.layout.ThreadParts.{ThreadParts}
 use Rattle.run_combinations.specs.declared.part.Part.{Part}

@@ -11,13 +11,13 @@ use Rattle.thread_runs.specs.Runs.{Thread, Run, IsThreadRun}
 use Rattle.thread_runs.specs.AllRuns.{thread_of}
 use Rattle.thread_runs.specs.LocationValues.{MayHold, AreLeft, none, stays, goes, IsUnserved}
 use Rattle.thread_runs.proofs.Serving.{all_go, left_append, left_map}
-use Rattle.ppc_semantics.specs.Domain.{threads_from, threads_of}
-use Rattle.run_combinations.specs.Events.{action_in, with_action, thread_events, initial_stores, HasLoad, HasStore, CannotRead}
-use Rattle.run_combinations.specs.Lists as lists
-use Rattle.run_combinations.specs.Lists.{IsFiltered}
-use Rattle.run_combinations.proofs.Filters.{IsFiltered-append, IsFiltered-split, Split}
+use Rattle.ppc_lowering.specs.Domain.{threads_from, threads_of}
+use Rattle.store_orders.specs.Events.{action_in, with_action, thread_events, initial_stores, HasLoad, HasStore, CannotRead}
+use Rattle.store_orders.specs.Lists as lists
+use Rattle.store_orders.specs.Lists.{IsFiltered}
+use Rattle.store_orders.proofs.Filters.{IsFiltered-append, IsFiltered-split, Split}
 use Rattle.run_combinations.proofs.Pruning.{load_front, load_behind, store_split}
-use Rattle.run_combinations.specs.declared.combination.Action.TheVariants.{Store}
+use Rattle.store_orders.specs.declared.combination.Action.TheVariants.{Store}
 use Rattle.candidates.proofs.AllListed.{filtered_there}
 use Rattle.candidates.proofs.Elements.{member_cases, member_first, member_later, no_member, mapped, joined}
 use Rattle.candidates.proofs.Listing.{none_executed}

@@ -11,28 +11,28 @@ use Rattle.thread_runs.specs.declared.run.Run as made
 use Rattle.thread_runs.specs.Runs.{Thread, Run}
 use Rattle.thread_runs.specs.AllRuns.{ShownRun}
 use Rattle.candidates.proofs.Choosing.{GoesOnWith}
-use Rattle.run_combinations.proofs.Counting.{some_order}
+use Rattle.store_orders.proofs.Counting.{some_order}
 use Rattle.candidates.proofs.Elements.{member_cases, member_later, member_first, no_member, mapped, mapped_there, joined, joined_there}
 use Rattle.candidates.proofs.Executing.{executed_so, orders_at, others_at, apart}
 use Rattle.candidates.proofs.Facts as dependencies
-use Rattle.run_combinations.proofs.Filters.{IsFiltered-unique}
+use Rattle.store_orders.proofs.Filters.{IsFiltered-unique}
 use Rattle.candidates.proofs.Flat.{flat, orders_flat}
 use Rattle.candidates.proofs.Kept.{AreOne, zip_both}
 use Rattle.candidates.proofs.Listing.{IsListed, AreListed, no_more, one_more, not_one}
 use Rattle.run_combinations.specs.Candidates.{HasFaultedCandidate as HasFaultAmong}
-use Rattle.run_combinations.specs.Events.{initial_stores, has_store}
+use Rattle.store_orders.specs.Events.{initial_stores, has_store}
 use Rattle.candidates.specs.Executions.{Execution, HasFaultedRun, IsDependency, product, events}
-use Rattle.run_combinations.specs.Lists.{tuples}
+use Rattle.store_orders.specs.Lists.{tuples}
 use Rattle.candidates.specs.Listed.{ShowsExecution, AreDependencyPairs}
 use Rattle.candidates.proofs.RisingPairs.{pairs_rise}
-use Rattle.dataflow.specs.Chains.{IsPairBefore}
-use Rattle.run_combinations.specs.Orders.{all_orders, stores_of, AreInitialStoresApart}
+use Rattle.taints.specs.Chains.{IsPairBefore}
+use Rattle.store_orders.specs.Orders.{all_orders, stores_of, AreInitialStoresApart}
 use Rattle.run_combinations.specs.Search.{PrefixLists, with_run, initial_prefix}
-use Rattle.run_combinations.specs.Combinations.{CombinationLists, combination_lists, ordered, pairs, candidates_of}
-use Rattle.candidates.specs.Space.{candidates_in, end_at, registers_at, shown_of}
+use Rattle.store_orders.specs.Combinations.{CombinationLists, combination_lists, ordered, pairs, candidates_of}
+use Rattle.candidate_spaces.specs.Space.{candidates_in, end_at, registers_at, shown_of}
 use Rattle.run_combinations.specs.ReadChoices.{IsReadChoice, accesses_in}
-use Rattle.run_combinations.specs.declared.combination.Combination.{Combination}
-use Rattle.run_combinations.specs.declared.combination.Event.{Event}
+use Rattle.store_orders.specs.declared.combination.Combination.{Combination}
+use Rattle.store_orders.specs.declared.combination.Event.{Event}
 use Rattle.run_combinations.specs.declared.layout.ThreadParts.{ThreadParts}
 use Rattle.run_combinations.specs.declared.part.Part.{Part}
 

@@ -22,14 +22,14 @@ use Rattle.thread_runs.specs.Runs.{Walk, RunOutcome, Run, walk_at, walk_after, w
 use Rattle.thread_runs.specs.AllRuns.{ShownRun, run_shown, shown_run, lines_at, thread_of}
 use Rattle.thread_runs.specs.LocationValues.{IsUnserved, ShowsServed}
 use Rattle.thread_runs.proofs.Serving.{left_contains}
-use Rattle.ppc_semantics.specs.Domain.{makes_event, has_event, IsDomain}
-use Rattle.run_combinations.specs.Events.{action_in, with_action, thread_events, initial_stores}
+use Rattle.ppc_lowering.specs.Domain.{makes_event, has_event, IsDomain}
+use Rattle.store_orders.specs.Events.{action_in, with_action, thread_events, initial_stores}
 use Rattle.run_combinations.specs.Layouts.{AreServedRuns, ArePartsOf, AreThreadsOf, IsLaidOut}
 use Rattle.run_combinations.specs.Search.{PrefixLists, with_run, combinations, initial_prefix, all_combinations}
 use Rattle.run_combinations.specs.Candidates.{AreSmall}
 use Rattle.candidates.specs.TestSpaces.{HasLayout}
-use Rattle.run_combinations.specs.declared.combination.Action.{Action}
-use Rattle.run_combinations.specs.declared.combination.Event.{Event}
+use Rattle.store_orders.specs.declared.combination.Action.{Action}
+use Rattle.store_orders.specs.declared.combination.Event.{Event}
 use Rattle.run_combinations.specs.declared.layout.Layout.{Layout}
 use Rattle.run_combinations.specs.declared.layout.ThreadParts.{ThreadParts}
 use Rattle.run_combinations.specs.declared.part.Part.{Part}

@@ -5,8 +5,8 @@ use Rattle.thread_runs.specs.declared.value.Value.{Value}
 use Rattle.thread_runs.specs.declared.value.Value.TheVariants.{Number, Address, NoValue}
 use Rattle.thread_runs.specs.Runs.{Thread, Run, AreThreadRuns, IsLexicallyBefore, IsLess}
 use Rattle.candidates.proofs.Elements.{member_cases, member_later}
-use Rattle.run_combinations.proofs.Filters.{IsFiltered-unique}
-use Rattle.run_combinations.specs.Lists.{IsFiltered}
+use Rattle.store_orders.proofs.Filters.{IsFiltered-unique}
+use Rattle.store_orders.specs.Lists.{IsFiltered}
 use Rattle.candidates.specs.Executions.{Execution, AreExecutions, IsExecution, over_runs, product}
 
 pub first_rises : {X : Type 0} (R : X → X → Type 0) (x : X) (xs : List X) (z : X)

@@ -16,14 +16,14 @@ use Rattle.thread_runs.specs.declared.instruction.RunStep.{RunStep}
 use Rattle.thread_runs.specs.declared.state.State.{State}
 use Rattle.thread_runs.specs.Machine.{register, sum_of, is_load as loads, is_fault, is_address, event_of}
 use Rattle.thread_runs.specs.Runs.{Walk, RunOutcome, walk_at, walk_after, run_of, executed, no_step}
-use Rattle.dataflow.specs.Chains.{Executed, event_index, is_event}
+use Rattle.taints.specs.Chains.{Executed, event_index, is_event}
 use Rattle.candidates.proofs.Elements.{behind_first, in_first}
 use Rattle.candidates.proofs.Places.{along, Placed, placed_more, places_same}
 use Rattle.candidates.proofs.Whole.{AreLocated, located_both, event_located, located_all}
 use Rattle.text_values.specs.declared.instruction.Fence.{Fence}
-use Rattle.run_combinations.specs.Events.{thread_events, with_action, action_in, is_store_instruction, fence_of_instruction, IsKind}
-use Rattle.run_combinations.specs.declared.combination.Action.TheVariants.{Fence as FenceAction}
-use Rattle.run_combinations.specs.declared.combination.Event.{Event}
+use Rattle.store_orders.specs.Events.{thread_events, with_action, action_in, is_store_instruction, fence_of_instruction, IsKind}
+use Rattle.store_orders.specs.declared.combination.Action.TheVariants.{Fence as FenceAction}
+use Rattle.store_orders.specs.declared.combination.Event.{Event}
 
 -- the events of an instruction that is one
 pub record Alone (t : ℕ) (i : Instruction) (es : List run.Event) : Type 0 where

@@ -12,8 +12,8 @@ use Rattle.thread_runs.specs.declared.instruction.Line.{Line}
 use Rattle.thread_runs.specs.declared.state.State.{State}
 use Rattle.thread_runs.specs.Machine.{register, is_load, event_of}
 use Rattle.thread_runs.specs.Runs.{RunOutcome, walk_at, run_of, executed, loaded_at}
-use Rattle.dataflow.specs.Chains.{Executed, Register, IsStoredRegister, event_index, is_event}
-use Rattle.dataflow.specs.Law.{state_at, events_before, IsWalkFrom}
+use Rattle.taints.specs.Chains.{Executed, Register, IsStoredRegister, event_index, is_event}
+use Rattle.taints.specs.Law.{state_at, events_before, IsWalkFrom}
 use Rattle.dataflow.proofs.Walks.{IsWalk-advanced, IsWalk-started}
 use Rattle.candidates.proofs.Elements.{behind_first, in_first, within_first}
 use Rattle.candidates.proofs.Places.{along, event_count, one_place_more}

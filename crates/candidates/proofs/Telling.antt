@@ -9,7 +9,7 @@ use Rattle.thread_runs.specs.declared.value.Value.{Value}
 use Rattle.thread_runs.specs.declared.instruction.Program.{Program}
 use Rattle.thread_runs.specs.declared.run.Run as made
 use Rattle.thread_runs.specs.Runs.{Thread, Run}
-use Rattle.ppc_semantics.specs.Domain.{IsDomain, threads_of}
+use Rattle.ppc_lowering.specs.Domain.{IsDomain, threads_of}
 use Rattle.candidates.proofs.Choosing.{AreChoices, runs_in, layout_choices}
 use Rattle.candidates.proofs.Executing.{executed_so, orders_at}
 use Rattle.candidates.proofs.Flat.{flat, orders_flat}
@@ -17,9 +17,9 @@ use Rattle.candidates.proofs.Kept.{AreKept, AllRuns, all_kept, product_kept, run
 use Rattle.candidates.proofs.Serving.{all_executions}
 use Rattle.candidates.proofs.Listing.{AreListed, no_more, one_more, not_one, Listing, all_listed}
 use Rattle.candidates.proofs.Small.{layout_small}
-use Rattle.ppc_semantics.specs.declared.fault.EvalRefusal.TheVariants.{TooManyEvents, TooManyValues, TooManyRuns, TooManyCandidates, AddressFault, TooManyCombinations}
-use Rattle.candidates.specs.declared.fault.SpaceFault.{SpaceFault}
-use Rattle.candidates.specs.declared.fault.SpaceFault.TheVariants.{Refused, OutOfMemory}
+use Rattle.ppc_lowering.specs.declared.fault.EvalRefusal.TheVariants.{TooManyEvents, TooManyValues, TooManyRuns, TooManyCandidates, AddressFault, TooManyCombinations}
+use Rattle.candidate_spaces.specs.declared.fault.SpaceFault.{SpaceFault}
+use Rattle.candidate_spaces.specs.declared.fault.SpaceFault.TheVariants.{Refused, OutOfMemory}
 use Rattle.candidates.proofs.Deciding.{combined}
 use Rattle.candidates.proofs.Showing.{AreShown, all_shown, fault_among, faulted_execution}
 use Rattle.run_combinations.specs.Candidates.{AreTooMany, AreFaulted, AreCombinations, AreCandidates, candidate_total}
@@ -27,17 +27,17 @@ use Rattle.candidates.specs.TestSpaces.{IsRefusedAs, IsTestRefusal, HasLayout, I
 use Rattle.candidates.specs.Executions.{Execution, HasFaultedRun, product, events}
 use Rattle.run_combinations.specs.Layouts.{IsLaidOut}
 use Rattle.candidates.specs.Listed.{AreTestExecutions, ShowsExecution, ListsExecutions, HasManyExecutions, HasFaultedExecution, IsSpaceRefusal, IsSpaceFault}
-use Rattle.ppc_semantics.specs.declared.fault.EvalRefusal.{EvalRefusal}
-use Rattle.ppc_semantics.specs.Lowering.{IsTestDomainFault, AreNamesOf, test_names}
+use Rattle.ppc_lowering.specs.declared.fault.EvalRefusal.{EvalRefusal}
+use Rattle.ppc_lowering.specs.Lowering.{IsTestDomainFault, AreNamesOf, test_names}
 use Rattle.text_values.specs.declared.name.Name.{Name}
-use Rattle.ppc_semantics.specs.declared.fault.DomainFault.TheVariants as domain_faults
-use Rattle.run_combinations.specs.Orders.{all_orders}
-use Rattle.run_combinations.specs.Events.{initial_stores}
+use Rattle.ppc_lowering.specs.declared.fault.DomainFault.TheVariants as domain_faults
+use Rattle.store_orders.specs.Orders.{all_orders}
+use Rattle.store_orders.specs.Events.{initial_stores}
 use Rattle.run_combinations.specs.Search.{PrefixLists, initial_prefix, all_combinations, location_count}
-use Rattle.run_combinations.specs.Combinations.{CombinationLists, combination_lists}
-use Rattle.candidates.specs.Space.{Candidate, candidates_in, shown_of}
-use Rattle.candidates.specs.declared.candidate.Space.{Space}
-use Rattle.run_combinations.specs.declared.combination.Event.{Event}
+use Rattle.store_orders.specs.Combinations.{CombinationLists, combination_lists}
+use Rattle.candidate_spaces.specs.Space.{Candidate, candidates_in, shown_of}
+use Rattle.candidate_spaces.specs.declared.candidate.Space.{Space}
+use Rattle.store_orders.specs.declared.combination.Event.{Event}
 use Rattle.run_combinations.specs.declared.layout.Layout.{Layout}
 use Rattle.run_combinations.specs.declared.layout.ThreadParts.{ThreadParts}
 

@@ -1,44 +1,44 @@
 -- What a search through all combinations has found.
 use Rattle.std.proofs.Common.{Vec, Result, Ok, Err, IfOk, ℕ, zero, suc, ◌≡◌, ◌<◌, ◌≤◌, ◌+◌, ◌*◌, ◌⊎◌, ◌||◌, ◌&&◌, cond, min, Bool, true, false, List, [], ◌∷◌, ◌++◌, map, take, length, Option, Some, None, MatchOption, is_some, append_assoc, if◌then◌else◌, inl, inr, arith, refl, sym, ap, subst, ◌∙◌}
 use Rattle.thread_runs.specs.declared.value.Value.{Value}
-use Rattle.run_combinations.specs.Events.{numbers, has_store, is_store_to, initial_stores}
-use Rattle.run_combinations.specs.Orders.{all_orders, stores_of, is_thread_store}
+use Rattle.store_orders.specs.Events.{numbers, has_store, is_store_to, initial_stores}
+use Rattle.store_orders.specs.Orders.{all_orders, stores_of, is_thread_store}
 use Rattle.std.specs.declared.alloc.AllocError.{AllocError}
 use Rattle.std.specs.declared.alloc.Global.{Global}
 use Rattle.std.proofs.lemmas.Bool.{or_cases, or_parts}
 use Rattle.std.proofs.lemmas.List.{length-append, length-map}
 use Rattle.text_values.specs.declared.test.Test.{Test}
-use Rattle.ppc_semantics.specs.declared.fault.EvalRefusal.{EvalRefusal}
-use Rattle.candidates.specs.declared.fault.SpaceFault.{SpaceFault}
-use Rattle.candidates.specs.declared.fault.SpaceFault.TheVariants.{Refused, OutOfMemory}
+use Rattle.ppc_lowering.specs.declared.fault.EvalRefusal.{EvalRefusal}
+use Rattle.candidate_spaces.specs.declared.fault.SpaceFault.{SpaceFault}
+use Rattle.candidate_spaces.specs.declared.fault.SpaceFault.TheVariants.{Refused, OutOfMemory}
 use Rattle.thread_runs.specs.declared.instruction.Program.{Program}
 use Rattle.thread_runs.specs.declared.run.Run.{Run}
-use Rattle.ppc_semantics.specs.Domain.{IsDomain, LacksDomain}
-use Rattle.ppc_semantics.specs.Lowering.{IsProgram}
+use Rattle.ppc_lowering.specs.Domain.{IsDomain, LacksDomain}
+use Rattle.ppc_lowering.specs.Lowering.{IsProgram}
 use Rattle.run_combinations.specs.Keys.{IsKeyed, bit_of}
 use Rattle.run_combinations.specs.Layouts.{AreServedRuns, IsLaidOut}
-use Rattle.candidates.specs.declared.candidate.Space.{Space}
+use Rattle.candidate_spaces.specs.declared.candidate.Space.{Space}
 use Rattle.run_combinations.specs.ReadChoices.{AreReadChoices, IsReadChoice, accesses_in}
-use Rattle.run_combinations.specs.Lists.{lists_of, tuples}
+use Rattle.store_orders.specs.Lists.{lists_of, tuples}
 use Rattle.run_combinations.specs.Search.{PrefixLists, Tally, PrefixFits, AllPrefixesFit, tally_with, with_run, combinations, TalliesAll, none, more, AreTooMuch, now, later, no_tally, tally, initial_prefix, all_combinations, location_count}
-use Rattle.run_combinations.specs.Combinations.{CombinationLists, candidates_of, combination_lists, ordered}
+use Rattle.store_orders.specs.Combinations.{CombinationLists, candidates_of, combination_lists, ordered}
 use Rattle.run_combinations.specs.Candidates.{AreCombinations, nothing_left, with_read_choices, without, candidate_total, HasFaultedCandidate, AreCandidates, AreTooMany, AreFaulted, AreSmall}
 use Rattle.candidates.specs.declared.space_parts.SpaceParts.{SpaceParts}
 use Rattle.candidates.specs.Parts.{IsWholeOf, AreCounted}
-use Rattle.candidates.specs.Space.{candidates_in}
+use Rattle.candidate_spaces.specs.Space.{candidates_in}
 use Rattle.candidates.specs.TestSpaces.{AreLayoutParts, HasKeyedLayout, IsAnswerTo, IsLayoutFault, IsTestSpace, IsTestRefusal}
-use Rattle.candidates.specs.Faults.{space_fault_of}
-use Rattle.ppc_semantics.specs.declared.fault.DomainFault.{DomainFault}
-use Rattle.ppc_semantics.specs.declared.fault.DomainFault.TheVariants as domain_faults
-use Rattle.run_combinations.specs.declared.combination.Combination.{Combination}
-use Rattle.run_combinations.specs.declared.combination.Event.{Event}
+use Rattle.candidate_spaces.specs.Faults.{space_fault_of}
+use Rattle.ppc_lowering.specs.declared.fault.DomainFault.{DomainFault}
+use Rattle.ppc_lowering.specs.declared.fault.DomainFault.TheVariants as domain_faults
+use Rattle.store_orders.specs.declared.combination.Combination.{Combination}
+use Rattle.store_orders.specs.declared.combination.Event.{Event}
 use Rattle.run_combinations.specs.declared.layout.Layout.{Layout}
 use Rattle.run_combinations.specs.declared.layout.ThreadParts.{ThreadParts}
 use Rattle.run_combinations.specs.declared.part.Part.{Part}
 use Rattle.run_combinations.specs.declared.search.Found.{Found}
-use Rattle.run_combinations.proofs.Counting.{numbers_above}
-use Rattle.run_combinations.proofs.Filters.{IsFiltered-unique}
-use Rattle.run_combinations.proofs.Pairs.{length-candidates}
+use Rattle.store_orders.proofs.Counting.{numbers_above}
+use Rattle.store_orders.proofs.Filters.{IsFiltered-unique}
+use Rattle.store_orders.proofs.Pairs.{length-candidates}
 use Rattle.run_combinations.proofs.Searching.{going_on, small_front, small_rest}
 
 -- what was found of combinations, one after another

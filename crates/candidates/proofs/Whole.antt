@@ -13,9 +13,9 @@ use Rattle.thread_runs.specs.declared.instruction.Line.TheVariants.{Label, Does}
 use Rattle.thread_runs.specs.declared.state.State.{State}
 use Rattle.thread_runs.specs.Machine.{register, sum_of, is_load, is_fault, is_address, takes_branch, event_of}
 use Rattle.thread_runs.specs.Runs.{Walk, RunOutcome, walk_at, walk_after, walk_past, ends, after_load, after_instruction, after_line, run_from, run_of}
-use Rattle.run_combinations.specs.Events.{action_in, with_action, thread_events}
-use Rattle.run_combinations.specs.declared.combination.Action.{Action}
-use Rattle.run_combinations.specs.declared.combination.Action.TheVariants as actions
+use Rattle.store_orders.specs.Events.{action_in, with_action, thread_events}
+use Rattle.store_orders.specs.declared.combination.Action.{Action}
+use Rattle.store_orders.specs.declared.combination.Action.TheVariants as actions
 
 -- each event is a fence or is at a location
 abbrev pub AreLocated : List run.Event → Type 0

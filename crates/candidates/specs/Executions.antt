@@ -4,15 +4,15 @@
 -- list of the values that its loads may take.
 use Rattle.std.specs.Prelude.{ℕ, ◌≡◌, ◌+◌, List, [], ◌∷◌, ◌++◌, map, take, length, replicate, Some, slice_get, Contains, All, true}
 use Rattle.std.specs.List.{flat_map, AllZip}
-use Rattle.bit_relations.specs.Pairs.{Union, IsAcyclic}
+use Rattle.bit_rows.specs.Pairs.{Union, IsAcyclic}
 use Rattle.thread_runs.specs.declared.value.Value.{Value}
 use Rattle.thread_runs.specs.Runs.{Thread, Run, IsThreadRun, AreThreadRuns, executed}
-use Rattle.dataflow.specs.Chains.{Executed, IsNeed, event_index}
-use Rattle.run_combinations.specs.Lists.{IsFiltered}
-use Rattle.run_combinations.specs.Events.{numbers, is_store_to, AreDistinct, thread_events, initial_stores, is_load, is_store, ReadsFrom}
-use Rattle.run_combinations.specs.declared.combination.Action.{Action}
-use Rattle.run_combinations.specs.declared.combination.Action.TheVariants.{Load, Store}
-use Rattle.run_combinations.specs.declared.combination.Event.{Event}
+use Rattle.taints.specs.Chains.{Executed, IsNeed, event_index}
+use Rattle.store_orders.specs.Lists.{IsFiltered}
+use Rattle.store_orders.specs.Events.{numbers, is_store_to, AreDistinct, thread_events, initial_stores, is_load, is_store, ReadsFrom}
+use Rattle.store_orders.specs.declared.combination.Action.{Action}
+use Rattle.store_orders.specs.declared.combination.Action.TheVariants.{Load, Store}
+use Rattle.store_orders.specs.declared.combination.Event.{Event}
 
 -- An execution: a run of each thread; reads-from, which gives for each load, in the order of the
 -- events, the store that it reads; and coherence, which gives for each location its stores from the

@@ -5,20 +5,20 @@ use Rattle.std.specs.List.{AllZip}
 use Rattle.text_values.specs.declared.test.Test.{Test}
 use Rattle.thread_runs.specs.declared.instruction.Program.{Program}
 use Rattle.thread_runs.specs.declared.value.Value.{Value}
-use Rattle.ppc_semantics.specs.Domain.{IsDomainAt, load_total, threads_of}
-use Rattle.ppc_semantics.specs.Lowering.{IsProgram, IsTestDomain}
-use Rattle.ppc_semantics.specs.declared.fault.EvalRefusal.{EvalRefusal}
+use Rattle.ppc_lowering.specs.Domain.{IsDomainAt, load_total, threads_of}
+use Rattle.ppc_lowering.specs.Lowering.{IsProgram, IsTestDomain}
+use Rattle.ppc_lowering.specs.declared.fault.EvalRefusal.{EvalRefusal}
 use Rattle.thread_runs.specs.ValueSet.{IsProperValue}
 use Rattle.thread_runs.specs.Runs.{Thread, Run, IsThreadRun, run_of, executed}
 use Rattle.candidates.specs.Executions.{Execution, IsExecution, AreExecutions, Does, events, stores, over_runs, event_number}
-use Rattle.run_combinations.specs.Lists.{IsFiltered}
-use Rattle.dataflow.specs.Chains.{is_event}
-use Rattle.run_combinations.specs.Events.{thread_events, CannotRead, IsKind}
-use Rattle.run_combinations.specs.declared.combination.Event.{Event}
-use Rattle.candidates.specs.Space.{shown_by, ShowTheSame}
-use Rattle.run_combinations.specs.declared.combination.Action.TheVariants.{Store}
-use Rattle.candidates.specs.declared.execution.Execution as shown
-use Rattle.candidates.specs.declared.candidate.Space.{Space}
+use Rattle.store_orders.specs.Lists.{IsFiltered}
+use Rattle.taints.specs.Chains.{is_event}
+use Rattle.store_orders.specs.Events.{thread_events, CannotRead, IsKind}
+use Rattle.store_orders.specs.declared.combination.Event.{Event}
+use Rattle.candidate_spaces.specs.Space.{shown_by, ShowTheSame}
+use Rattle.store_orders.specs.declared.combination.Action.TheVariants.{Store}
+use Rattle.candidate_spaces.specs.declared.execution.Execution as shown
+use Rattle.candidate_spaces.specs.declared.candidate.Space.{Space}
 use Rattle.candidates.specs.Listed.{AreTestExecutions, ShowsExecution, ListsExecutions, HasNoDomain, IsSpaceRefusal}
 
 -- the law of the domain: what is shown, where the loads of the execution take any values whatever,

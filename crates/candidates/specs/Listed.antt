@@ -6,20 +6,20 @@ use Rattle.std.specs.List.{AllPairs, AllZip, flat_map}
 use Rattle.text_values.specs.declared.test.Test.{Test}
 use Rattle.thread_runs.specs.declared.instruction.Program.{Program}
 use Rattle.thread_runs.specs.declared.value.Value.{Value}
-use Rattle.ppc_semantics.specs.Domain.{IsDomain, IsDomainRefusal, threads_of}
-use Rattle.ppc_semantics.specs.Lowering.{IsProgram, AreNamesOf, test_names}
-use Rattle.ppc_semantics.specs.declared.fault.EvalRefusal.{EvalRefusal}
-use Rattle.ppc_semantics.specs.declared.fault.EvalRefusal.TheVariants.{TooManyEvents, TooManyValues, TooManyRuns, TooManyCandidates, AddressFault, TooManyCombinations}
-use Rattle.candidates.specs.declared.fault.SpaceFault.{SpaceFault}
-use Rattle.candidates.specs.declared.fault.SpaceFault.TheVariants.{Refused, OutOfMemory}
-use Rattle.dataflow.specs.Chains.{Executed, IsAddr, IsData, IsCtrl, IsCtrlIsync, IsNeed, IsPairBefore}
+use Rattle.ppc_lowering.specs.Domain.{IsDomain, IsDomainRefusal, threads_of}
+use Rattle.ppc_lowering.specs.Lowering.{IsProgram, AreNamesOf, test_names}
+use Rattle.ppc_lowering.specs.declared.fault.EvalRefusal.{EvalRefusal}
+use Rattle.ppc_lowering.specs.declared.fault.EvalRefusal.TheVariants.{TooManyEvents, TooManyValues, TooManyRuns, TooManyCandidates, AddressFault, TooManyCombinations}
+use Rattle.candidate_spaces.specs.declared.fault.SpaceFault.{SpaceFault}
+use Rattle.candidate_spaces.specs.declared.fault.SpaceFault.TheVariants.{Refused, OutOfMemory}
+use Rattle.taints.specs.Chains.{Executed, IsAddr, IsData, IsCtrl, IsCtrlIsync, IsNeed, IsPairBefore}
 use Rattle.thread_runs.specs.Runs.{Thread, Run, IsThreadRun}
 use Rattle.candidates.specs.Executions.{Execution, IsExecution, AreExecutions, HasFaultedRun, IsDependency, IsStoreOrder, MayRead, events, loads, read_choices, orders, locations_from, over_runs}
-use Rattle.run_combinations.specs.Lists.{IsFiltered}
-use Rattle.run_combinations.specs.Events.{ReadsFrom}
-use Rattle.bit_relations.specs.Pairs.{Union, IsAcyclic}
-use Rattle.candidates.specs.Space.{Shown, shown_in}
-use Rattle.candidates.specs.declared.candidate.Space.{Space}
+use Rattle.store_orders.specs.Lists.{IsFiltered}
+use Rattle.store_orders.specs.Events.{ReadsFrom}
+use Rattle.bit_rows.specs.Pairs.{Union, IsAcyclic}
+use Rattle.candidate_spaces.specs.Space.{Shown, shown_in}
+use Rattle.candidate_spaces.specs.declared.candidate.Space.{Space}
 
 -- the executions of the test: those of its threads over its domain
 pub record AreTestExecutions (t : Test) (initial : List Value) (xs : List Execution) : Type 0 where

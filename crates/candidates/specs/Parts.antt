@@ -2,11 +2,11 @@
 -- of `parts` and of `SpaceParts::whole` cite it. Read `Listed` first.
 use Rattle.std.specs.Prelude.{◌≡◌, map, min}
 use Rattle.text_values.specs.declared.test.Test.{Test}
-use Rattle.run_combinations.specs.Combinations.{combination_lists, ordered}
-use Rattle.candidates.specs.declared.candidate.Space.{Space}
+use Rattle.store_orders.specs.Combinations.{combination_lists, ordered}
+use Rattle.candidate_spaces.specs.declared.candidate.Space.{Space}
 use Rattle.candidates.specs.declared.space_parts.SpaceParts.{SpaceParts}
 use Rattle.candidates.specs.Listed.{ListsExecutions}
-use Rattle.candidates.specs.Space.{candidate_count}
+use Rattle.candidate_spaces.specs.Space.{candidate_count}
 
 -- the space has these combinations with all orders of their stores, of at most 128 locations
 pub record IsWholeOf (p : SpaceParts) (s : Space) : Type 0 where

@@ -1,23 +1,23 @@
 -- The space of a layout, or why it has none; and the space of a test, or why it has none.
 use Rattle.std.specs.Prelude.{Vec, ℕ, ◌≡◌, ◌⊎◌, List, map, Option, Result, Ok, Err}
-use Rattle.ppc_semantics.specs.declared.fault.EvalRefusal.{EvalRefusal}
-use Rattle.ppc_semantics.specs.declared.fault.EvalRefusal.TheVariants.{TooManyCandidates, AddressFault}
+use Rattle.ppc_lowering.specs.declared.fault.EvalRefusal.{EvalRefusal}
+use Rattle.ppc_lowering.specs.declared.fault.EvalRefusal.TheVariants.{TooManyCandidates, AddressFault}
 use Rattle.std.specs.declared.alloc.Global.{Global}
 use Rattle.thread_runs.specs.declared.value.Value.{Value}
-use Rattle.candidates.specs.declared.fault.SpaceFault.{SpaceFault}
-use Rattle.candidates.specs.declared.fault.SpaceFault.TheVariants.{Refused, OutOfMemory}
+use Rattle.candidate_spaces.specs.declared.fault.SpaceFault.{SpaceFault}
+use Rattle.candidate_spaces.specs.declared.fault.SpaceFault.TheVariants.{Refused, OutOfMemory}
 use Rattle.thread_runs.specs.declared.instruction.Program.{Program}
 use Rattle.thread_runs.specs.declared.run.Run.{Run}
-use Rattle.ppc_semantics.specs.Domain.{IsDomain}
-use Rattle.ppc_semantics.specs.Lowering.{IsProgram, IsTestDomainFault}
-use Rattle.ppc_semantics.specs.declared.fault.DomainFault.TheVariants as domain_faults
+use Rattle.ppc_lowering.specs.Domain.{IsDomain}
+use Rattle.ppc_lowering.specs.Lowering.{IsProgram, IsTestDomainFault}
+use Rattle.ppc_lowering.specs.declared.fault.DomainFault.TheVariants as domain_faults
 use Rattle.text_values.specs.declared.test.Test.{Test}
 use Rattle.run_combinations.specs.Keys.{IsKeyed}
-use Rattle.run_combinations.specs.Events.{initial_stores}
+use Rattle.store_orders.specs.Events.{initial_stores}
 use Rattle.run_combinations.specs.Layouts.{AreServedRuns, IsLaidOut}
 use Rattle.run_combinations.specs.Search.{all_combinations, location_count}
-use Rattle.run_combinations.specs.Combinations.{combination_lists}
-use Rattle.candidates.specs.declared.candidate.Space.{Space}
+use Rattle.store_orders.specs.Combinations.{combination_lists}
+use Rattle.candidate_spaces.specs.declared.candidate.Space.{Space}
 use Rattle.candidates.specs.declared.space_parts.SpaceParts.{SpaceParts}
 use Rattle.candidates.specs.Parts.{IsWholeOf, AreCounted}
 use Rattle.run_combinations.specs.declared.layout.Layout.{Layout}

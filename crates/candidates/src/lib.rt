@@ -10,18 +10,11 @@ ghost use Rattle.std.specs.Prelude.{IfOk, IfErr};
 ghost use Rattle.candidates.specs.Listed.{ListsExecutions, IsSpaceFault};
 ghost use Rattle.candidates.specs.TestSpaces.{IsLayoutFault, HasKeyedLayout};
 
-mod candidate;
-mod ends;
-mod execution;
-mod fault;
 pub mod laws;
-mod same;
 mod space_parts;
 
-pub use candidate::Space;
+pub use candidate_spaces::{Execution, Space, SpaceFault};
 pub use dataflow::Dependencies;
-pub use execution::Execution;
-pub use fault::SpaceFault;
 pub use ppc_semantics::EvalRefusal;
 use ppc_semantics::{domain_of, program};
 use run_combinations::Layout;

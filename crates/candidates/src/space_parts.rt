@@ -3,16 +3,15 @@
 ghost use Rattle.std.specs.Prelude.{ℕ, ◌≡◌, List, Option, IfOk, IfErr, length, map};
 ghost use Rattle.thread_runs.specs.declared.value.Value.{Value};
 ghost use Rattle.run_combinations.specs.Candidates.{AreSmall};
-ghost use Rattle.run_combinations.specs.Events.{initial_stores};
+ghost use Rattle.store_orders.specs.Events.{initial_stores};
 ghost use Rattle.run_combinations.specs.Keys.{IsKeyed};
 ghost use Rattle.run_combinations.specs.Search.{all_combinations};
 ghost use Rattle.candidates.specs.Listed.{IsSpaceFault};
 ghost use Rattle.candidates.specs.Parts.{IsWholeOf, AreSpaceParts, AreCounted};
 ghost use Rattle.candidates.specs.TestSpaces.{IsAnswerTo};
 
-use crate::candidate::Space;
-use crate::fault::SpaceFault;
 use crate::layout_of;
+use candidate_spaces::{Space, SpaceFault};
 use ppc_semantics::{EvalRefusal, Value};
 use run_combinations::{Combination, Found, Layout, find_combinations, registers, with_orders};
 use std::alloc::{AllocError, Global};

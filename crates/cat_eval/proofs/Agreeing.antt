@@ -2,20 +2,20 @@
 -- same.
 use Rattle.std.proofs.Common.{ℕ, ◌≡◌, ◌<◌, List, [], ◌∷◌, length, get_or, Contains, zero, suc, IsTrue, arith, refl}
 use Rattle.std.proofs.lemmas.List.Elements.{Contains-append_left, Contains-append_right}
-use Rattle.bit_relations.specs.Relation.{Relation}
-use Rattle.text_values.specs.declared.predefined.Predefined.{Predefined}
+use Rattle.bit_rows.specs.Relation.{Relation}
+use Rattle.predefined_names.specs.declared.predefined.Predefined.{Predefined}
 use Rattle.binding_graph.specs.declared.resolved.Body.{Body}
 use Rattle.binding_graph.specs.declared.resolved.Source.{Source}
 use Rattle.binding_graph.specs.declared.resolved.Source.TheVariants as sources
 use Rattle.binding_graph.specs.declared.resolved.Step.{Step}
 use Rattle.binding_graph.specs.declared.resolved.Step.TheVariants as steps
 use Rattle.binding_graph.specs.Trees.{SetTree, SetName, AllEvents, NoEvent, BlendSets, ComplementSet, RelTree, RelName, NoPair, BlendRelations, SequenceRelations, ProductOfSets, IdentityOn, Close, ComplementRelation, set_code, rel_code}
-use Rattle.cat_eval.specs.Least.{IsLeast, body}
-use Rattle.cat_eval.specs.Meaning.{MeansSet, MeansRelation}
-use Rattle.cat_eval.specs.Named.{WithOwn, OwnPairs}
+use Rattle.cat_machine.specs.Least.{IsLeast, body}
+use Rattle.cat_machine.specs.Meaning.{MeansSet, MeansRelation}
+use Rattle.cat_machine.specs.Named.{WithOwn, OwnPairs}
 use Rattle.cat_eval.specs.Needed.{source_names, step_names, predefined_names_in, bodies_names}
-use Rattle.cat_eval.specs.Rising.{AreCodes}
-use Rattle.cat_eval.proofs.Same.{Same, SameSet, same_sets, same_others, same_blend, same_then, same_cross, same_on, same_close, same_turn}
+use Rattle.cat_machine.specs.Rising.{AreCodes}
+use Rattle.cat_machine.proofs.Same.{Same, SameSet, same_sets, same_others, same_blend, same_then, same_cross, same_on, same_close, same_turn}
 
 -- ---- what holds of each name that a list of steps pushes holds of each name of its tree
 

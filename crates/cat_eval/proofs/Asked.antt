@@ -5,11 +5,11 @@ use Rattle.std.proofs.lemmas.Option.{none-some, same_Some}
 use Rattle.std.proofs.Math.Bool.{and-false}
 use denote.Ref.{Bor}
 use Rattle.binding_graph.specs.declared.resolved.CheckCode.{CheckCode}
-use Rattle.cat_eval.specs.declared.column.Column.{Column}
+use Rattle.cat_machine.specs.declared.column.Column.{Column}
 use Rattle.cat_eval.specs.Kept.{AreWhere, AreAskedOver, IsLastAnswer, is_asked_at}
 use Rattle.cat_eval.specs.OverNames.{IsAnswerOver}
-use Rattle.cat_eval.specs.Seen.{NamedValues}
-use Rattle.cat_eval.specs.Steady.{HaveSameInputs, IsSteady, HasAsLast}
+use Rattle.cat_machine.specs.Seen.{NamedValues}
+use Rattle.cat_machine.specs.Steady.{HaveSameInputs, IsSteady, HasAsLast}
 use Rattle.cat_eval.proofs.Columns.{get_last}
 use Rattle.cat_eval.proofs.Deciding.{some_answer}
 use Rattle.cat_eval.proofs.Repeating.{answer_again, ends_long}

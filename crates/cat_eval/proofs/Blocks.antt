@@ -3,9 +3,9 @@ use Rattle.std.proofs.Common.{ℕ, ◌≡◌, ◌<◌, ◌⊎◌, ◌++◌, inl,
 use Rattle.std.proofs.lemmas.List.{get_or_append_left}
 use Rattle.std.proofs.lemmas.List.Elements.{Contains-append_cases}
 use Rattle.std.proofs.Math.Seq.{get_or-append_seam}
-use Rattle.text_values.specs.declared.predefined.Predefined.{Predefined}
-use Rattle.candidates.specs.Space.{Candidate}
-use Rattle.cat_eval.specs.declared.seen.NamedColumn.{NamedColumn}
+use Rattle.predefined_names.specs.declared.predefined.Predefined.{Predefined}
+use Rattle.candidate_spaces.specs.Space.{Candidate}
+use Rattle.cat_machine.specs.declared.seen.NamedColumn.{NamedColumn}
 use Rattle.cat_eval.specs.declared.table.Entry.{Entry}
 use Rattle.cat_eval.specs.Tables.{IsColumnOf, IsBlock, AreBlocks, HasName, AreColumnsFor, entry_names}
 use Rattle.cat_eval.proofs.Listed.{single}

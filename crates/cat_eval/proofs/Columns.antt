@@ -6,7 +6,7 @@ use Rattle.std.proofs.lemmas.Option.{none-some}
 use Rattle.std.proofs.lemmas.List.{get_or_append_left, get_or_read}
 use Rattle.std.proofs.Math.Seq.{get_or-append_right}
 use denote.Ref.{Bor}
-use Rattle.bit_relations.specs.Relation.{Relation, IsRelation, Events, IsEvents, no_slot}
+use Rattle.bit_rows.specs.Relation.{Relation, IsRelation, Events, IsEvents, no_slot}
 use Rattle.binding_graph.specs.declared.resolved.Body.{Body}
 use Rattle.binding_kinds.specs.declared.kinds.Kind.{Kind}
 use Rattle.binding_kinds.specs.declared.kinds.Kind.TheVariants as kinds
@@ -14,18 +14,18 @@ use Rattle.binding_graph.specs.declared.resolved.Role.{Role}
 use Rattle.binding_graph.specs.declared.resolved.Role.TheVariants as roles
 use Rattle.binding_graph.specs.declared.resolved.Step.{Step}
 use Rattle.binding_graph.specs.Trees.{SetTree, RelTree, set_code, rel_code}
-use Rattle.candidates.specs.declared.candidate.Space.{Space}
-use Rattle.cat_eval.specs.Seen.{NamedValues}
-use Rattle.cat_eval.specs.declared.column.Column.{Column}
-use Rattle.cat_eval.specs.declared.column.Column.TheVariants as columns
+use Rattle.candidate_spaces.specs.declared.candidate.Space.{Space}
+use Rattle.cat_machine.specs.Seen.{NamedValues}
+use Rattle.cat_machine.specs.declared.column.Column.{Column}
+use Rattle.cat_machine.specs.declared.column.Column.TheVariants as columns
 use Rattle.cat_eval.specs.Candidates.{name_count}
-use Rattle.cat_eval.specs.Columns.{HasColumnValue, ColumnsOf, HasOwn}
+use Rattle.cat_machine.specs.Columns.{HasColumnValue, ColumnsOf, HasOwn}
 use Rattle.cat_eval.specs.OverNames.{HaveValuesOver, AreColumnsOver, IsMeaningOver}
-use Rattle.cat_eval.specs.Least.{IsLeast, AreMonotone}
-use Rattle.cat_eval.specs.Meaning.{MeansSet, MeansRelation}
-use Rattle.cat_eval.specs.Named.{EventsIn, PairsOutside, WithOwn, OwnPairs}
-use Rattle.cat_eval.specs.Values.{AddsValue, IsFor, column_len}
-use Rattle.cat_eval.specs.Rising.{AreCodes}
+use Rattle.cat_machine.specs.Least.{IsLeast, AreMonotone}
+use Rattle.cat_machine.specs.Meaning.{MeansSet, MeansRelation}
+use Rattle.cat_machine.specs.Named.{EventsIn, PairsOutside, WithOwn, OwnPairs}
+use Rattle.cat_machine.specs.Values.{AddsValue, IsFor, column_len}
+use Rattle.cat_machine.specs.Rising.{AreCodes}
 use Rattle.cat_eval.proofs.Visits.{get_more, get_within}
 
 -- a column without a value more, for the next body

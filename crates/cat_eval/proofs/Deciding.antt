@@ -7,17 +7,17 @@ use Rattle.std.proofs.lemmas.Nat.Bits.{bit_at_above}
 use Rattle.std.proofs.lemmas.Nat.{pow_pos}
 use Rattle.std.proofs.Math.Pow.{pow-lt}
 use denote.Ref.{Bor}
-use Rattle.bit_relations.specs.Pairs.{Union, Complement, Composite, Product, On, Plus, PlusBelow, Identity}
-use Rattle.bit_relations.specs.Relation.{Bit, Relation, Events, Has, IsMember}
-use Rattle.bit_relations.proofs.Bits.{Bit-zero, Bit_cases}
-use Rattle.bit_relations.proofs.Closing.{Plus-within}
-use Rattle.bit_relations.proofs.Paths.{PlusBelow-suc, PlusBelow-zero, PlusBelow-all}
+use Rattle.bit_rows.specs.Pairs.{Union, Complement, Composite, Product, On, Plus, PlusBelow, Identity}
+use Rattle.bit_rows.specs.Relation.{Bit, Relation, Events, Has, IsMember}
+use Rattle.bit_rows.proofs.Bits.{Bit-zero, Bit_cases}
+use Rattle.bit_rows.proofs.Closing.{Plus-within}
+use Rattle.bit_rows.proofs.Paths.{PlusBelow-suc, PlusBelow-zero, PlusBelow-all}
 use Rattle.base_names.specs.Known.{EventsFound}
 use Rattle.text_values.specs.declared.model.CheckWord.{CheckWord}
 use Rattle.text_values.specs.declared.model.CheckWord.TheVariants as words
 use Rattle.text_values.specs.declared.model.Postfix.{Postfix}
 use Rattle.text_values.specs.declared.model.Postfix.TheVariants as postfix
-use Rattle.text_values.specs.declared.predefined.Predefined.{Predefined}
+use Rattle.predefined_names.specs.declared.predefined.Predefined.{Predefined}
 use Rattle.binding_kinds.specs.declared.kinds.Kind.{Kind}
 use Rattle.binding_kinds.specs.declared.kinds.Kind.TheVariants as kinds
 use Rattle.binding_graph.specs.declared.resolved.Blend.{Blend}
@@ -27,18 +27,18 @@ use Rattle.binding_graph.specs.declared.resolved.Source.{Source}
 use Rattle.binding_graph.specs.declared.resolved.Source.TheVariants as sources
 use Rattle.binding_graph.specs.declared.resolved.Step.{Step}
 use Rattle.binding_graph.specs.Trees.{SetTree, SetName, AllEvents, NoEvent, BlendSets, ComplementSet, RelTree, RelName, NoPair, BlendRelations, SequenceRelations, ProductOfSets, IdentityOn, Close, ComplementRelation, set_code, rel_code}
-use Rattle.cat_eval.specs.declared.column.Column.{Column}
-use Rattle.cat_eval.specs.declared.column.Column.TheVariants as columns
-use Rattle.cat_eval.specs.Checks.{Holds, IsEmptySet}
-use Rattle.cat_eval.specs.Meaning.{MeansSet, MeansRelation, BlendedSets, Blended, Closed, Others}
-use Rattle.cat_eval.specs.Named.{ColumnEvents, ColumnPairs, InputEvents, InputPairs, EventsIn, PairsOutside, WithOwn, OwnPairs}
+use Rattle.cat_machine.specs.declared.column.Column.{Column}
+use Rattle.cat_machine.specs.declared.column.Column.TheVariants as columns
+use Rattle.cat_machine.specs.Checks.{Holds, IsEmptySet}
+use Rattle.cat_machine.specs.Meaning.{MeansSet, MeansRelation, BlendedSets, Blended, Closed, Others}
+use Rattle.cat_machine.specs.Named.{ColumnEvents, ColumnPairs, InputEvents, InputPairs, EventsIn, PairsOutside, WithOwn, OwnPairs}
 use Rattle.cat_eval.specs.OverNames.{IsAnswerOver}
-use Rattle.cat_eval.specs.Running.{BuildsTrees, sets_after, rels_after}
-use Rattle.cat_eval.specs.Seen.{NamedValues, NamedValue, PairsFound, EventsAmong, PairsAmong}
-use Rattle.cat_eval.specs.Values.{Unless}
-use Rattle.cat_eval.proofs.Codes.{code_leads, set_code_leads}
+use Rattle.cat_machine.specs.Running.{BuildsTrees, sets_after, rels_after}
+use Rattle.cat_machine.specs.Seen.{NamedValues, NamedValue, PairsFound, EventsAmong, PairsAmong}
+use Rattle.cat_machine.specs.Values.{Unless}
+use Rattle.cat_machine.proofs.Codes.{code_leads, set_code_leads}
 use mathlib.Core.List.{nil≢cons, head-eq_of_cons-eq}
-use Rattle.cat_eval.proofs.Naming.{same_name}
+use Rattle.cat_machine.proofs.Naming.{same_name}
 
 -- it can be told whether the fact holds
 abbrev pub Told : Type 0 → Type 0

@@ -7,15 +7,15 @@ use Rattle.std.proofs.lemmas.List.{map-append, append-nil}
 use Rattle.std.proofs.lemmas.Grind.{flat_map-append}
 use Rattle.std.proofs.lemmas.List.Elements.{Contains-append_right}
 use Rattle.std.proofs.Math.Seq.{take-suc}
-use Rattle.run_combinations.specs.declared.combination.Combination.{Combination}
+use Rattle.store_orders.specs.declared.combination.Combination.{Combination}
 use Rattle.base_names.specs.Known.{Known, set_names}
 use Rattle.base_names.specs.Candidate.{SuppliesName}
-use Rattle.run_combinations.specs.Lists.{lists_of}
-use Rattle.run_combinations.specs.Combinations.{pairs, candidates_of}
-use Rattle.candidates.specs.Space.{candidates_in, Candidate}
+use Rattle.store_orders.specs.Lists.{lists_of}
+use Rattle.store_orders.specs.Combinations.{pairs, candidates_of}
+use Rattle.candidate_spaces.specs.Space.{candidates_in, Candidate}
 use Rattle.cat_eval.specs.Candidates.{reading_so, reading_in, of_combinations}
-use Rattle.text_values.specs.declared.predefined.Predefined.{Predefined}
-use Rattle.text_values.specs.PredefinedNames.{is_set}
+use Rattle.predefined_names.specs.declared.predefined.Predefined.{Predefined}
+use Rattle.predefined_names.specs.PredefinedNames.{is_set}
 use Rattle.cat_eval.specs.Worlds.{AreNamesHeld, AreWorlds}
 
 -- what holds all sets among the names, and what the relations among them need, holds the names

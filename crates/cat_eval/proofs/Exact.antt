@@ -1,7 +1,7 @@
 -- What was made over what is seen of each candidate is what the definitions say of it.
 use Rattle.std.proofs.Common.{ℕ, ◌≡◌, ◌↔◌, ◌∙◌, List, [], get_or, Contains, Bool, true, false, subst}
 use denote.Ref.{Bor}
-use Rattle.bit_relations.specs.Relation.{Relation, Events}
+use Rattle.bit_rows.specs.Relation.{Relation, Events}
 use Rattle.binding_kinds.specs.declared.kinds.Kind.{Kind}
 use Rattle.binding_kinds.specs.declared.kinds.Kind.TheVariants as kinds
 use Rattle.binding_graph.specs.declared.resolved.Body.{Body}
@@ -10,24 +10,24 @@ use Rattle.binding_graph.specs.declared.resolved.Source.{Source}
 use Rattle.binding_graph.specs.declared.resolved.Source.TheVariants as sources
 use Rattle.binding_graph.specs.declared.resolved.Step.{Step}
 use Rattle.binding_graph.specs.Trees.{SetTree, RelTree, set_code, rel_code}
-use Rattle.text_values.specs.declared.predefined.Predefined.{Predefined}
-use Rattle.cat_eval.specs.declared.seen.NamedColumn.{NamedColumn}
-use Rattle.cat_eval.specs.Seen.{NamedValues, values_seen, seen_in}
+use Rattle.predefined_names.specs.declared.predefined.Predefined.{Predefined}
+use Rattle.cat_machine.specs.declared.seen.NamedColumn.{NamedColumn}
+use Rattle.cat_machine.specs.Seen.{NamedValues, values_seen, seen_in}
 use Rattle.cat_eval.specs.Tables.{AreColumnsFor, column_names}
-use Rattle.cat_eval.proofs.Seeing.{in_long, first_at}
+use Rattle.cat_machine.proofs.Seeing.{in_long, first_at}
 use Rattle.cat_eval.proofs.Looking.{IsSeen, seen_right}
-use Rattle.cat_eval.specs.declared.column.Column.{Column}
-use Rattle.candidates.specs.Space.{Candidate}
-use Rattle.cat_eval.specs.Columns.{HaveValues, AreGroupColumns}
-use Rattle.cat_eval.specs.Executions.{events_of, EventsAt, PairsAt}
+use Rattle.cat_machine.specs.declared.column.Column.{Column}
+use Rattle.candidate_spaces.specs.Space.{Candidate}
+use Rattle.cat_machine.specs.Columns.{HaveValues, AreGroupColumns}
+use Rattle.cat_machine.specs.Executions.{events_of, EventsAt, PairsAt}
 use Rattle.cat_eval.specs.OverNames.{IsAnswerOver, AreAnswersOver, IsMeaningOver, HaveValuesOver, AreColumnsOver}
-use Rattle.cat_eval.specs.Least.{body}
-use Rattle.cat_eval.specs.Meaning.{MeansSet, MeansRelation}
-use Rattle.cat_eval.specs.Named.{EventsIn, PairsOutside, WithOwn, OwnPairs}
+use Rattle.cat_machine.specs.Least.{body}
+use Rattle.cat_machine.specs.Meaning.{MeansSet, MeansRelation}
+use Rattle.cat_machine.specs.Named.{EventsIn, PairsOutside, WithOwn, OwnPairs}
 use Rattle.cat_eval.specs.Needed.{ListsNeeded, predefined_names_in, bodies_names}
-use Rattle.cat_eval.specs.Values.{IsCheckAnswer, AreAnswers, IsMeaning, Unless}
+use Rattle.cat_machine.specs.Values.{IsCheckAnswer, AreAnswers, IsMeaning, Unless}
 use Rattle.cat_eval.proofs.Agreeing.{Agree, OfSteps, of_steps, set_parts, relation_parts, set_agrees, relation_agrees, least_agrees, body_named, code_at}
-use Rattle.cat_eval.proofs.Same.{Same, SameSet, changed, changed_set}
+use Rattle.cat_machine.proofs.Same.{Same, SameSet, changed, changed_set}
 use Rattle.cat_eval.proofs.Visits.{holds_same, empty_same}
 
 pub unless_same : (negated : Bool) (A P Q : Type 0) → P ↔ Q → A ↔ Unless negated P

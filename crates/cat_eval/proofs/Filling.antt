@@ -4,28 +4,28 @@ use Rattle.std.specs.Prelude.{Some, slice_get}
 use Rattle.std.proofs.lemmas.Bool.{false≢true}
 use Rattle.std.proofs.lemmas.Option.{same_Some}
 use Rattle.std.proofs.lemmas.List.Elements.{Contains-append_right}
-use Rattle.bit_relations.specs.Relation.{Relation, Events, IsRelation, IsEvents}
-use Rattle.text_values.specs.declared.predefined.Predefined.{Predefined}
-use Rattle.text_values.specs.declared.predefined.Predefined.TheVariants as names
-use Rattle.text_values.specs.PredefinedNames.{is_set}
-use Rattle.run_combinations.specs.declared.combination.Combination.{Combination}
+use Rattle.bit_rows.specs.Relation.{Relation, Events, IsRelation, IsEvents}
+use Rattle.predefined_names.specs.declared.predefined.Predefined.{Predefined}
+use Rattle.predefined_names.specs.declared.predefined.Predefined.TheVariants as names
+use Rattle.predefined_names.specs.PredefinedNames.{is_set}
+use Rattle.store_orders.specs.declared.combination.Combination.{Combination}
 use Rattle.base_names.specs.Candidate.{SetIn, RelationIn}
 use Rattle.base_names.specs.Known.{Known, EventsFound, KnownEvents, KnownPairs}
-use Rattle.candidates.specs.Space.{Candidate}
-use Rattle.cat_eval.specs.declared.column.Column.{Column}
-use Rattle.cat_eval.specs.declared.column.Column.TheVariants as columns
+use Rattle.candidate_spaces.specs.Space.{Candidate}
+use Rattle.cat_machine.specs.declared.column.Column.{Column}
+use Rattle.cat_machine.specs.declared.column.Column.TheVariants as columns
 use Rattle.cat_eval.specs.declared.table.Entry.{Entry}
-use Rattle.cat_eval.specs.Columns.{HasColumnValue}
-use Rattle.cat_eval.specs.Executions.{events_of}
+use Rattle.cat_machine.specs.Columns.{HasColumnValue}
+use Rattle.cat_machine.specs.Executions.{events_of}
 use Rattle.cat_eval.specs.Needs.{AreSuited}
-use Rattle.cat_eval.specs.Seen.{PairsFound}
+use Rattle.cat_machine.specs.Seen.{PairsFound}
 use Rattle.cat_eval.specs.Reordered.{HoldsSame}
-use Rattle.cat_eval.specs.Steady.{HasAsLast, Repeats}
+use Rattle.cat_machine.specs.Steady.{HasAsLast, Repeats}
 use Rattle.cat_eval.specs.Tables.{StandsFor, IsColumnOf, IsBlock, IsHeld, IsEntryFilled, AreFilled, entry_names, kind_for}
-use Rattle.cat_eval.specs.Values.{AddsValue, IsFor, column_len}
+use Rattle.cat_machine.specs.Values.{AddsValue, IsFor, column_len}
 use Rattle.cat_eval.specs.Worlds.{IsWorld, AreWorlds}
 use Rattle.cat_eval.proofs.Columns.{get_last, adds_for, adds_long, adds_old, adds_new}
-use Rattle.cat_eval.proofs.Same.{Same, SameSet}
+use Rattle.cat_machine.proofs.Same.{Same, SameSet}
 use Rattle.cat_eval.proofs.Standing.{set_meant, relation_meant}
 use Rattle.cat_eval.proofs.Visits.{get_more, get_within}
 

@@ -1,16 +1,16 @@
 -- What is seen under a name is what the name stands for in the candidate.
 use Rattle.std.proofs.Common.{ℕ, ◌≡◌, ◌↔◌, inl, inr, zero, suc, List, [], ◌∷◌, Contains, arith, refl}
 use Rattle.std.specs.Prelude.{Some, slice_get, map}
-use Rattle.text_values.specs.declared.predefined.Predefined.{Predefined}
+use Rattle.predefined_names.specs.declared.predefined.Predefined.{Predefined}
 use Rattle.base_names.specs.Candidate.{SetIn, RelationIn}
 use Rattle.base_names.proofs.Same.{same_or_not}
-use Rattle.candidates.specs.Space.{Candidate}
-use Rattle.cat_eval.specs.declared.seen.NamedColumn.{NamedColumn}
-use Rattle.cat_eval.specs.Executions.{events_of}
-use Rattle.cat_eval.specs.Seen.{NamedValues, EventsAmong, PairsAmong, EventsNamedBy, PairsNamedBy, value_at, values_seen}
+use Rattle.candidate_spaces.specs.Space.{Candidate}
+use Rattle.cat_machine.specs.declared.seen.NamedColumn.{NamedColumn}
+use Rattle.cat_machine.specs.Executions.{events_of}
+use Rattle.cat_machine.specs.Seen.{NamedValues, EventsAmong, PairsAmong, EventsNamedBy, PairsNamedBy, value_at, values_seen}
 use Rattle.cat_eval.specs.Tables.{StandsFor, AreColumnsFor, column_names}
-use Rattle.cat_eval.proofs.Same.{Same, SameSet}
-use Rattle.cat_eval.proofs.Seeing.{events_found, pairs_found}
+use Rattle.cat_machine.proofs.Same.{Same, SameSet}
+use Rattle.cat_machine.proofs.Seeing.{events_found, pairs_found}
 
 -- what is seen under these names is what they stand for in the candidate
 pub record IsSeen (names : List Predefined) (base : NamedValues) (one : Candidate) : Type 0 where

@@ -1,10 +1,10 @@
 -- What a name stands for where the stores are ordered in another way.
 use Rattle.std.proofs.Common.{◌≡◌, Bool, true, false, refl}
 use Rattle.std.proofs.lemmas.Bool.{true≢false}
-use Rattle.bit_relations.specs.Relation.{Relation, Events}
-use Rattle.text_values.specs.declared.predefined.Predefined.{Predefined}
-use Rattle.text_values.specs.declared.predefined.Predefined.TheVariants as names
-use Rattle.text_values.specs.PredefinedNames.{is_set}
+use Rattle.bit_rows.specs.Relation.{Relation, Events}
+use Rattle.predefined_names.specs.declared.predefined.Predefined.{Predefined}
+use Rattle.predefined_names.specs.declared.predefined.Predefined.TheVariants as names
+use Rattle.predefined_names.specs.PredefinedNames.{is_set}
 use Rattle.base_names.specs.Known.{Known, KnownPairs, SharedPairs}
 use Rattle.cat_eval.specs.Needed.{changes_with_orders}
 use Rattle.cat_eval.specs.Reordered.{IsReordered, HoldsSame}

@@ -3,8 +3,8 @@
 use Rattle.std.proofs.Common.{ℕ, ◌≡◌, ◌<◌, ◌+◌, ◌-◌, ◌++◌, ◌∙◌, List, [], ◌∷◌, length, length-append, get_or, zero, suc, Bool, true, false, sym, ap, subst, refl, arith}
 use Rattle.std.specs.Prelude.{Option, Some, None, slice_get}
 use denote.Ref.{Bor}
-use Rattle.bit_relations.specs.Relation.{Relation, Events, no_slot}
-use Rattle.cat_eval.specs.Seen.{NamedValues}
+use Rattle.bit_rows.specs.Relation.{Relation, Events, no_slot}
+use Rattle.cat_machine.specs.Seen.{NamedValues}
 use Rattle.binding_kinds.specs.declared.kinds.Kind.{Kind}
 use Rattle.binding_kinds.specs.declared.kinds.Kind.TheVariants as kinds
 use Rattle.binding_graph.specs.declared.resolved.Body.{Body}
@@ -13,19 +13,19 @@ use Rattle.binding_graph.specs.declared.resolved.Source.{Source}
 use Rattle.binding_graph.specs.declared.resolved.Source.TheVariants as sources
 use Rattle.binding_graph.specs.declared.resolved.Step.{Step}
 use Rattle.binding_graph.specs.Trees.{SetTree, SetName, AllEvents, NoEvent, BlendSets, ComplementSet, RelTree, RelName, NoPair, BlendRelations, SequenceRelations, ProductOfSets, IdentityOn, Close, ComplementRelation}
-use Rattle.cat_eval.specs.declared.column.Column.{Column}
-use Rattle.cat_eval.specs.declared.column.Column.TheVariants as columns
-use Rattle.cat_eval.specs.Columns.{HasColumnValue}
-use Rattle.cat_eval.specs.Least.{body}
-use Rattle.cat_eval.specs.Meaning.{MeansSet, MeansRelation}
-use Rattle.cat_eval.specs.Named.{ColumnEvents, ColumnPairs, InputEvents, InputPairs, EventsIn, PairsOutside, WithOwn, OwnPairs}
+use Rattle.cat_machine.specs.declared.column.Column.{Column}
+use Rattle.cat_machine.specs.declared.column.Column.TheVariants as columns
+use Rattle.cat_machine.specs.Columns.{HasColumnValue}
+use Rattle.cat_machine.specs.Least.{body}
+use Rattle.cat_machine.specs.Meaning.{MeansSet, MeansRelation}
+use Rattle.cat_machine.specs.Named.{ColumnEvents, ColumnPairs, InputEvents, InputPairs, EventsIn, PairsOutside, WithOwn, OwnPairs}
 use Rattle.cat_eval.specs.OverNames.{IsAnswerOver, IsMeaningOver, HaveValuesOver, AreColumnsOver}
-use Rattle.cat_eval.specs.Steady.{HasSame, HaveSameInputs, IsSteady, Repeats, HasAsLast}
-use Rattle.cat_eval.specs.Values.{AddsValue, column_len}
+use Rattle.cat_machine.specs.Steady.{HasSame, HaveSameInputs, IsSteady, Repeats, HasAsLast}
+use Rattle.cat_machine.specs.Values.{AddsValue, column_len}
 use Rattle.cat_eval.proofs.Agreeing.{Agree, OfSet, OfRelation, set_agrees, relation_agrees, least_agrees}
 use Rattle.cat_eval.proofs.Columns.{get_last, adds_new, columns_more}
 use Rattle.cat_eval.proofs.Exact.{unless_same}
-use Rattle.cat_eval.proofs.Same.{Same, SameSet, changed, changed_set}
+use Rattle.cat_machine.proofs.Same.{Same, SameSet, changed, changed_set}
 use Rattle.cat_eval.proofs.Visits.{holds_same, empty_same}
 
 column_events : (c : Column) (j k n : ℕ) → HasSame c j k

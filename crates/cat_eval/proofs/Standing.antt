@@ -1,17 +1,17 @@
 -- What is held under a name is what the name stands for in the candidate.
 use Rattle.std.proofs.Common.{ℕ, ◌≡◌, List, [], ◌∷◌, Contains, IsTrue, false, inl, inr, arith, refl}
 use Rattle.std.proofs.lemmas.List.Elements.{Contains-append_right}
-use Rattle.bit_relations.specs.Relation.{Has}
-use Rattle.text_values.specs.declared.predefined.Predefined.{Predefined}
-use Rattle.text_values.specs.declared.predefined.Predefined.TheVariants as names
-use Rattle.text_values.specs.PredefinedNames.{is_set}
-use Rattle.run_combinations.specs.declared.combination.Combination.{Combination}
+use Rattle.bit_rows.specs.Relation.{Has}
+use Rattle.predefined_names.specs.declared.predefined.Predefined.{Predefined}
+use Rattle.predefined_names.specs.declared.predefined.Predefined.TheVariants as names
+use Rattle.predefined_names.specs.PredefinedNames.{is_set}
+use Rattle.store_orders.specs.declared.combination.Combination.{Combination}
 use Rattle.base_names.specs.declared.names.Named.{Named}
 use Rattle.base_names.specs.declared.names.Shared.{Shared}
 use Rattle.base_names.specs.Known.{Known, IsConsistent, EventsUnder, PairsUnder, KnownEvents, KnownPairs, SharedPairs, set_names, shared_names}
 use Rattle.base_names.specs.Candidate.{IsEntered, HasReadsFrom, HasCoherence, SuppliesName, SetIn, SharedIn, RelationIn, FromReadsIn}
 use Rattle.cat_eval.specs.Needed.{changes_with_reads, changes_with_orders}
-use Rattle.cat_eval.proofs.Same.{Same, SameSet}
+use Rattle.cat_machine.proofs.Same.{Same, SameSet}
 use Rattle.base_names.proofs.Meant.{both, either}
 
 -- what has events or pairs is held

@@ -4,23 +4,23 @@ use Rattle.std.specs.Prelude.{Some, slice_get, not}
 use mathlib.Core.Bool.{beq}
 use Rattle.std.proofs.lemmas.Bool.{false≢true}
 use Rattle.std.proofs.lemmas.Option.{none-some, same_Some}
-use Rattle.bit_relations.specs.Relation.{Relation, Has, IsRelation, Events, IsMember, IsEvents}
+use Rattle.bit_rows.specs.Relation.{Relation, Has, IsRelation, Events, IsMember, IsEvents}
 use Rattle.binding_kinds.specs.declared.kinds.Kind.{Kind}
 use Rattle.binding_kinds.specs.declared.kinds.Kind.TheVariants as kinds
 use Rattle.binding_graph.specs.Trees.{SetTree, RelTree, set_code, rel_code}
-use Rattle.cat_eval.specs.Meaning.{MeansSet, MeansRelation}
-use Rattle.cat_eval.specs.Named.{EventsIn, PairsOutside, WithOwn, OwnPairs}
+use Rattle.cat_machine.specs.Meaning.{MeansSet, MeansRelation}
+use Rattle.cat_machine.specs.Named.{EventsIn, PairsOutside, WithOwn, OwnPairs}
 use denote.Ref.{Bor}
 use Rattle.text_values.specs.declared.model.CheckWord.{CheckWord}
 use Rattle.text_values.specs.declared.model.CheckWord.TheVariants as words
 use Rattle.binding_graph.specs.declared.resolved.CheckCode.{CheckCode}
-use Rattle.cat_eval.specs.Seen.{NamedValues}
-use Rattle.cat_eval.specs.declared.column.Column.{Column}
-use Rattle.cat_eval.specs.Checks.{Holds, IsEmptySet}
+use Rattle.cat_machine.specs.Seen.{NamedValues}
+use Rattle.cat_machine.specs.declared.column.Column.{Column}
+use Rattle.cat_machine.specs.Checks.{Holds, IsEmptySet}
 use Rattle.cat_eval.specs.OverNames.{IsAnswerOver, AreAnswersOver}
-use Rattle.cat_eval.specs.Values.{Unless}
-use Rattle.cat_eval.proofs.Same.{Same, SameSet}
-use Rattle.bit_relations.proofs.Closing.{Plus-map}
+use Rattle.cat_machine.specs.Values.{Unless}
+use Rattle.cat_machine.proofs.Same.{Same, SameSet}
+use Rattle.bit_rows.proofs.Closing.{Plus-map}
 
 pub get_more : {X : Type 0} (xs : List X) (x y : X) (k : ℕ) → slice_get (xs ++ x ∷ []) k ≡ Some y
     → (slice_get xs k ≡ Some y) ⊎ ((k ≡ length xs) × (x ≡ y))

@@ -4,25 +4,25 @@ use Rattle.std.proofs.lemmas.Bool.{cases_eq, false≢true}
 use Rattle.std.proofs.lemmas.Option.{same_Some}
 use Rattle.std.proofs.lemmas.List.{length_push, get_or_push, get_or_default, get_or_append_left}
 use denote.Ref.{Bor}
-use Rattle.bit_relations.specs.Relation.{Relation, Events, no_slot}
+use Rattle.bit_rows.specs.Relation.{Relation, Events, no_slot}
 use Rattle.binding_graph.specs.declared.resolved.Body.{Body}
 use Rattle.binding_graph.specs.declared.resolved.Role.{Role}
 use Rattle.binding_graph.specs.Trees.{RelTree}
-use Rattle.candidates.specs.declared.candidate.Space.{Space}
-use Rattle.candidates.specs.Space.{Candidate}
-use Rattle.cat_eval.specs.declared.seen.NamedColumn.{NamedColumn}
-use Rattle.cat_eval.specs.declared.column.Column.{Column}
-use Rattle.cat_eval.specs.declared.column.Column.TheVariants as columns
-use Rattle.cat_eval.specs.Columns.{HasColumnValue, HasOwn, AreGroupColumns, ColumnsOf}
-use Rattle.cat_eval.specs.Least.{IsLeast, AreMonotone}
-use Rattle.cat_eval.specs.Named.{EventsIn, PairsOutside}
+use Rattle.candidate_spaces.specs.declared.candidate.Space.{Space}
+use Rattle.candidate_spaces.specs.Space.{Candidate}
+use Rattle.cat_machine.specs.declared.seen.NamedColumn.{NamedColumn}
+use Rattle.cat_machine.specs.declared.column.Column.{Column}
+use Rattle.cat_machine.specs.declared.column.Column.TheVariants as columns
+use Rattle.cat_machine.specs.Columns.{HasColumnValue, HasOwn, AreGroupColumns, ColumnsOf}
+use Rattle.cat_machine.specs.Least.{IsLeast, AreMonotone}
+use Rattle.cat_machine.specs.Named.{EventsIn, PairsOutside}
 use Rattle.cat_eval.specs.OverNames.{IsMeaningOver, AreColumnsOver}
-use Rattle.cat_eval.specs.Rising.{AreCodes}
+use Rattle.cat_machine.specs.Rising.{AreCodes}
 use Rattle.cat_eval.specs.Needed.{ListsNeeded, bodies_names}
-use Rattle.cat_eval.specs.Seen.{NamedValues, seen_in}
-use Rattle.cat_eval.specs.Steady.{IsSteady, Repeats, HasAsLast}
+use Rattle.cat_machine.specs.Seen.{NamedValues, seen_in}
+use Rattle.cat_machine.specs.Steady.{IsSteady, Repeats, HasAsLast}
 use Rattle.cat_eval.specs.Tables.{AreColumnsFor, column_names}
-use Rattle.cat_eval.specs.Values.{AddsValue, IsFor, column_len}
+use Rattle.cat_machine.specs.Values.{AddsValue, IsFor, column_len}
 use Rattle.cat_eval.specs.Wanted.{is_wanted, AreWantedColumns, AreWantedOver, IsWantedColumn, WantedColumnsOf, AddsIf, RepeatsIf}
 use Rattle.cat_eval.proofs.Bodies.{AreBodyColumns, bodies_more, bodies_all}
 use Rattle.cat_eval.proofs.Columns.{columns_none, columns_moved, evaluated_more, solved_more}

@@ -1,10 +1,10 @@
 -- Combinations of runs that differ in values alone.
 use Rattle.std.specs.Prelude.{ℕ, ◌≡◌, ◌<◌, List, length, slice_index_or}
-use Rattle.dataflow.specs.DependencyLists.{dependency_lists}
-use Rattle.run_combinations.specs.declared.combination.Action.{Action}
-use Rattle.run_combinations.specs.declared.combination.Action.TheVariants.{Load, Store, Fence}
-use Rattle.run_combinations.specs.declared.combination.Combination.{Combination}
-use Rattle.run_combinations.specs.declared.combination.Event.{Event}
+use Rattle.taints.specs.DependencyLists.{dependency_lists}
+use Rattle.store_orders.specs.declared.combination.Action.{Action}
+use Rattle.store_orders.specs.declared.combination.Action.TheVariants.{Load, Store, Fence}
+use Rattle.store_orders.specs.declared.combination.Combination.{Combination}
+use Rattle.store_orders.specs.declared.combination.Event.{Event}
 
 -- of one kind and one location
 abbrev pub IsActionLike : Action → Action → Type 0

@@ -3,12 +3,12 @@ use Rattle.std.specs.Prelude.{ℕ, ◌≡◌, ◌-◌, ◌&&◌, Bool, true, fal
 use denote.Ref.{Bor}
 use Rattle.binding_graph.specs.declared.resolved.CheckCode.{CheckCode}
 use Rattle.binding_graph.specs.declared.resolved.Role.{Role}
-use Rattle.candidates.specs.declared.candidate.Space.{Space}
-use Rattle.cat_eval.specs.declared.column.Column.{Column}
+use Rattle.candidate_spaces.specs.declared.candidate.Space.{Space}
+use Rattle.cat_machine.specs.declared.column.Column.{Column}
 use Rattle.cat_eval.specs.OverNames.{IsAnswerOver, AreAnswersOver}
-use Rattle.cat_eval.specs.Seen.{NamedValues}
-use Rattle.cat_eval.specs.Steady.{HasAsLast}
-use Rattle.cat_eval.specs.Values.{AnswersOf}
+use Rattle.cat_machine.specs.Seen.{NamedValues}
+use Rattle.cat_machine.specs.Steady.{HasAsLast}
+use Rattle.cat_machine.specs.Values.{AnswersOf}
 
 -- whether the candidate of that number is kept
 abbrev pub is_kept_at : List Bool → ℕ → Bool

@@ -1,8 +1,8 @@
 -- Which predefined names change with what the loads read, and which with the order of the stores.
 use Rattle.std.specs.Prelude.{Bool, true, false, List, [], ◌∷◌, Contains}
 use Rattle.std.specs.List.{list_any, flat_map}
-use Rattle.text_values.specs.declared.predefined.Predefined.{Predefined}
-use Rattle.text_values.specs.declared.predefined.Predefined.TheVariants as names
+use Rattle.predefined_names.specs.declared.predefined.Predefined.{Predefined}
+use Rattle.predefined_names.specs.declared.predefined.Predefined.TheVariants as names
 use Rattle.binding_graph.specs.declared.resolved.Body.{Body}
 use Rattle.binding_graph.specs.declared.resolved.Role.{Role}
 use Rattle.binding_graph.specs.declared.resolved.Role.TheVariants as roles

@@ -1,6 +1,6 @@
 -- What the names among some change with.
 use Rattle.std.specs.Prelude.{Bool, IsTrue, List, Contains, ◌||◌}
-use Rattle.text_values.specs.declared.predefined.Predefined.{Predefined}
+use Rattle.predefined_names.specs.declared.predefined.Predefined.{Predefined}
 use Rattle.cat_eval.specs.Needed.{changes_with_reads, changes_with_orders}
 
 -- where one of the names changes with reads-from, or with coherence, it is said so

@@ -1,16 +1,16 @@
 -- Answers and values over the predefined names that are held for each candidate.
 use Rattle.std.specs.Prelude.{ℕ, ◌≡◌, ◌<◌, Bool, List, length, Some, slice_get, slice_index_or}
 use denote.Ref.{Bor}
-use Rattle.bit_relations.specs.Relation.{Relation, Events}
+use Rattle.bit_rows.specs.Relation.{Relation, Events}
 use Rattle.binding_kinds.specs.declared.kinds.Kind.{Kind}
 use Rattle.binding_graph.specs.declared.resolved.Body.{Body}
 use Rattle.binding_graph.specs.declared.resolved.CheckCode.{CheckCode}
 use Rattle.binding_graph.specs.declared.resolved.Step.{Step}
-use Rattle.cat_eval.specs.Seen.{NamedValues}
-use Rattle.cat_eval.specs.declared.column.Column.{Column}
-use Rattle.cat_eval.specs.Columns.{HaveValues}
-use Rattle.cat_eval.specs.Named.{EventsIn, PairsOutside}
-use Rattle.cat_eval.specs.Values.{IsCheckAnswer, IsFor, IsMeaning, column_len}
+use Rattle.cat_machine.specs.Seen.{NamedValues}
+use Rattle.cat_machine.specs.declared.column.Column.{Column}
+use Rattle.cat_machine.specs.Columns.{HaveValues}
+use Rattle.cat_machine.specs.Named.{EventsIn, PairsOutside}
+use Rattle.cat_machine.specs.Values.{IsCheckAnswer, IsFor, IsMeaning, column_len}
 
 abbrev pub IsAnswerOver : CheckCode → List (Bor Column) → NamedValues → ℕ → Kind → Bool → Type 0
 IsAnswerOver check inputs base k =

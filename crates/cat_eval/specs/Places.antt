@@ -1,9 +1,9 @@
 -- How far the candidates were visited.
 use Rattle.std.specs.Prelude.{ℕ, ◌≡◌, ◌-◌, List, length, Some}
-use Rattle.cat_eval.specs.declared.seen.NamedColumn.{NamedColumn}
+use Rattle.cat_machine.specs.declared.seen.NamedColumn.{NamedColumn}
 use Rattle.cat_eval.specs.declared.visit.Place.{Place}
-use Rattle.cat_eval.specs.Seen.{NamedValues, values_seen, columns_of}
-use Rattle.cat_eval.specs.Steady.{IsSteady, HasAsLast}
+use Rattle.cat_machine.specs.Seen.{NamedValues, values_seen, columns_of}
+use Rattle.cat_machine.specs.Steady.{IsSteady, HasAsLast}
 
 -- so many were visited; up to where the names stand for what they stood for in the last one; what
 -- was seen in it

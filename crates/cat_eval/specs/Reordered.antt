@@ -1,10 +1,10 @@
 -- Candidates that differ from the one before in coherence alone.
 use Rattle.std.specs.Prelude.{◌≡◌, List}
-use Rattle.bit_relations.specs.Relation.{Relation, Events}
-use Rattle.text_values.specs.declared.predefined.Predefined.{Predefined}
-use Rattle.text_values.specs.PredefinedNames.{is_set}
+use Rattle.bit_rows.specs.Relation.{Relation, Events}
+use Rattle.predefined_names.specs.declared.predefined.Predefined.{Predefined}
+use Rattle.predefined_names.specs.PredefinedNames.{is_set}
 use Rattle.base_names.specs.Known.{Known}
-use Rattle.cat_eval.specs.Steady.{HasAsLast}
+use Rattle.cat_machine.specs.Steady.{HasAsLast}
 use Rattle.cat_eval.specs.Tables.{IsHeld}
 
 -- the second is the first but for the order of the stores

@@ -1,23 +1,23 @@
 -- The columns of predefined names over the candidates of a space.
 use Rattle.std.specs.Prelude.{ℕ, ◌≡◌, ◌<◌, ◌↔◌, Bool, true, false, List, Vec, length, map, Some, slice_get, slice_index_or, Contains}
 use Rattle.std.specs.declared.alloc.Global.{Global}
-use Rattle.bit_relations.specs.Relation.{Relation, Events, IsRelation, IsEvents}
-use Rattle.text_values.specs.declared.predefined.Predefined.{Predefined}
-use Rattle.text_values.specs.PredefinedNames.{is_set}
+use Rattle.bit_rows.specs.Relation.{Relation, Events, IsRelation, IsEvents}
+use Rattle.predefined_names.specs.declared.predefined.Predefined.{Predefined}
+use Rattle.predefined_names.specs.PredefinedNames.{is_set}
 use Rattle.base_names.specs.Known.{Known, KnownEvents, KnownPairs}
 use Rattle.base_names.specs.Candidate.{SetIn, RelationIn}
-use Rattle.candidates.specs.declared.candidate.Space.{Space}
-use Rattle.candidates.specs.Space.{candidates_in, Candidate}
+use Rattle.candidate_spaces.specs.declared.candidate.Space.{Space}
+use Rattle.candidate_spaces.specs.Space.{candidates_in, Candidate}
 use Rattle.binding_kinds.specs.declared.kinds.Kind.{Kind}
 use Rattle.binding_kinds.specs.declared.kinds.Kind.TheVariants as kinds
-use Rattle.cat_eval.specs.declared.column.Column.{Column}
-use Rattle.cat_eval.specs.declared.seen.NamedColumn.{NamedColumn}
+use Rattle.cat_machine.specs.declared.column.Column.{Column}
+use Rattle.cat_machine.specs.declared.seen.NamedColumn.{NamedColumn}
 use Rattle.cat_eval.specs.declared.table.Entry.{Entry}
 use Rattle.cat_eval.specs.declared.evaluator.Evaluator.{Evaluator}
-use Rattle.cat_eval.specs.Columns.{HasColumnValue}
-use Rattle.cat_eval.specs.Executions.{events_of}
-use Rattle.cat_eval.specs.Named.{ColumnEvents, ColumnPairs}
-use Rattle.cat_eval.specs.Values.{IsFor, column_len}
+use Rattle.cat_machine.specs.Columns.{HasColumnValue}
+use Rattle.cat_machine.specs.Executions.{events_of}
+use Rattle.cat_machine.specs.Named.{ColumnEvents, ColumnPairs}
+use Rattle.cat_machine.specs.Values.{IsFor, column_len}
 
 -- the column's value for the candidate of number k is what the name stands for in that candidate
 pub record StandsFor (column : Column) (k : ℕ) (name : Predefined) (one : Candidate) : Type 0 where

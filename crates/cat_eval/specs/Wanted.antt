@@ -2,17 +2,17 @@
 -- it; read `Columns` first.
 use Rattle.std.specs.Prelude.{ℕ, ◌≡◌, ◌<◌, Bool, true, false, List, length, slice_index_or}
 use denote.Ref.{Bor}
-use Rattle.bit_relations.specs.Relation.{Relation, Events}
+use Rattle.bit_rows.specs.Relation.{Relation, Events}
 use Rattle.binding_graph.specs.declared.resolved.Body.{Body}
 use Rattle.binding_graph.specs.declared.resolved.Role.{Role}
-use Rattle.candidates.specs.declared.candidate.Space.{Space}
-use Rattle.cat_eval.specs.declared.column.Column.{Column}
-use Rattle.cat_eval.specs.Columns.{ColumnsOf}
+use Rattle.candidate_spaces.specs.declared.candidate.Space.{Space}
+use Rattle.cat_machine.specs.declared.column.Column.{Column}
+use Rattle.cat_machine.specs.Columns.{ColumnsOf}
 use Rattle.cat_eval.specs.OverNames.{AreColumnsOver}
 use Rattle.cat_eval.specs.Runs.{IsBodyColumn}
-use Rattle.cat_eval.specs.Seen.{NamedValues}
-use Rattle.cat_eval.specs.Steady.{Repeats}
-use Rattle.cat_eval.specs.Values.{AddsValue, column_len}
+use Rattle.cat_machine.specs.Seen.{NamedValues}
+use Rattle.cat_machine.specs.Steady.{Repeats}
+use Rattle.cat_machine.specs.Values.{AddsValue, column_len}
 
 -- whether the name at that position is wanted: a name without an entry is
 abbrev pub is_wanted : List Bool → ℕ → Bool

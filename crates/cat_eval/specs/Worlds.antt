@@ -1,11 +1,11 @@
 -- The predefined names of each candidate.
 use Rattle.std.specs.Prelude.{◌≡◌, Bool, IsTrue, false, List, [], ◌∷◌, Contains}
-use Rattle.text_values.specs.declared.predefined.Predefined.{Predefined}
-use Rattle.text_values.specs.PredefinedNames.{is_set}
-use Rattle.run_combinations.specs.declared.combination.Combination.{Combination}
+use Rattle.predefined_names.specs.declared.predefined.Predefined.{Predefined}
+use Rattle.predefined_names.specs.PredefinedNames.{is_set}
+use Rattle.store_orders.specs.declared.combination.Combination.{Combination}
 use Rattle.base_names.specs.Known.{Known, IsConsistent, set_names}
 use Rattle.base_names.specs.Candidate.{IsEntered, HasReadsFrom, HasCoherence, SuppliesName}
-use Rattle.candidates.specs.Space.{Candidate}
+use Rattle.candidate_spaces.specs.Space.{Candidate}
 
 -- what these names need is held: the sets among them, and what the relations among them are made of
 pub record AreNamesHeld (names : List Predefined) (base : Known) : Type 0 where

@@ -2,15 +2,14 @@
 
 ghost use Rattle.std.specs.Prelude.{◌≡◌, ◌<◌, ◌≤◌, ◌+◌, ◌^◌, ◌++◌, ◌∷◌, [], List, length, Some, IsTrue, OnOk};
 ghost use Rattle.cat_eval.specs.Runs.{IsAskedAt};
-ghost use Rattle.cat_eval.specs.Seen.{NamedValues, values_seen};
+ghost use Rattle.cat_machine.specs.Seen.{NamedValues, values_seen};
 
 use crate::check::{is_asked_at, is_held};
-use crate::column::Column;
 use crate::keeper::{Keeper, Spot};
 use crate::runs::RunVisit;
-use crate::seen::NamedColumn;
 use crate::spread::Spread;
 use binding_graph::CheckCode;
+use cat_machine::{Column, NamedColumn};
 use std::alloc::AllocError;
 
 /// A check on its way through the candidates.

@@ -2,15 +2,14 @@
 
 ghost use Rattle.std.specs.Prelude.{◌≡◌, ◌<◌, ◌≤◌, ◌+◌, ◌-◌, ◌^◌, ◌++◌, List, length, Some, OnOk};
 ghost use Rattle.cat_eval.specs.Runs.{IsBodyAt};
-ghost use Rattle.cat_eval.specs.Seen.{NamedValues, seen_run};
-ghost use Rattle.cat_eval.specs.Values.{column_len};
+ghost use Rattle.cat_machine.specs.Seen.{NamedValues, seen_run};
+ghost use Rattle.cat_machine.specs.Values.{column_len};
 
-use crate::column::Column;
 use crate::keeper::{Keeper, Spot};
 use crate::runs::RunVisit;
-use crate::seen::NamedColumn;
 use crate::spread::Spread;
 use binding_graph::Body;
+use cat_machine::{Column, NamedColumn};
 use std::alloc::AllocError;
 
 /// A body on its way through the candidates.

@@ -1,27 +1,24 @@
 //! Whether a check holds.
 
 ghost use Rattle.std.specs.Prelude.{◌≡◌, ◌⊎◌, ◌&&◌, List, Bool, false, Some, None, length, unwrap_or, IsTrue, IfOk};
-ghost use Rattle.candidates.specs.Space.{candidates_in};
+ghost use Rattle.candidate_spaces.specs.Space.{candidates_in};
 ghost use Rattle.cat_eval.specs.Kept.{is_asked_at, AreWhere, KeptAnswersOf, AreAskedOver, IsLastAnswer};
 ghost use Rattle.cat_eval.specs.OverNames.{IsAnswerOver};
-ghost use Rattle.cat_eval.specs.Values.{AnswersOf, AreAnswers};
-ghost use Rattle.cat_eval.specs.Seen.{seen_in};
+ghost use Rattle.cat_machine.specs.Values.{AnswersOf, AreAnswers};
+ghost use Rattle.cat_machine.specs.Seen.{seen_in};
 ghost use Rattle.cat_eval.specs.Tables.{IsOver};
-ghost use Rattle.cat_eval.specs.Steady.{IsSteady};
+ghost use Rattle.cat_machine.specs.Steady.{IsSteady};
 
 use crate::asked_run::AskedRun;
-use crate::column::Column;
 use crate::evaluator::Evaluator;
 use crate::keeper::Keeper;
-use crate::machine::Machine;
-use crate::names::Names;
 use crate::runs::{has_many, visit_runs};
-use crate::seen::{NamedColumn, Seen};
 use crate::steady::{is_as_before, steady_after};
 use crate::visit::{Visit, visit_all};
 use binding_graph::{CheckCode, ResolvedItem, Role};
 use bit_relations::Rel;
 use candidates::Space;
+use cat_machine::{Column, Machine, NamedColumn, Names, Seen};
 use std::alloc::{AllocError, Global};
 use std::mem;
 

@@ -1,17 +1,17 @@
 //! Where items are evaluated.
 
-ghost use Rattle.candidates.specs.declared.candidate.Space.{Space};
+ghost use Rattle.candidate_spaces.specs.declared.candidate.Space.{Space};
 ghost use Rattle.cat_eval.specs.Needed.{ListsNeeded, role_names};
 ghost use Rattle.cat_eval.specs.Tables.{IsOver, HasName};
 ghost use Rattle.std.specs.Prelude.{OnOk, Contains};
 
-use crate::machine::Machine;
 use crate::needs::Needs;
 use crate::table::Table;
 use base_names::Base;
 use binding_graph::ResolvedItem;
 use bit_relations::Rel;
 use candidates::Space;
+use cat_machine::Machine;
 use std::alloc::{AllocError, Global};
 
 /// Where items are evaluated over the candidates of one space: the predefined names are made once,

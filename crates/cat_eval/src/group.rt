@@ -1,35 +1,32 @@
 //! The values of the names of a group.
 
 ghost use Rattle.std.specs.Prelude.{◌≡◌, ℕ, ◌<◌, ◌≤◌, List, [], length, slice_index_or, false, IsTrue, IfOk, OnOk};
-ghost use Rattle.bit_relations.specs.Relation.{Relation, Events, no_slot};
+ghost use Rattle.bit_rows.specs.Relation.{Relation, Events, no_slot};
 ghost use Rattle.binding_graph.specs.Trees.{RelTree};
 ghost use Rattle.cat_eval.specs.Candidates.{name_count};
-ghost use Rattle.cat_eval.specs.Columns.{ColumnsOf, HasOwn};
+ghost use Rattle.cat_machine.specs.Columns.{ColumnsOf, HasOwn};
 ghost use Rattle.cat_eval.specs.OverNames.{IsMeaningOver};
-ghost use Rattle.cat_eval.specs.Least.{IsLeast, AreMonotone};
-ghost use Rattle.cat_eval.specs.Named.{EventsIn, PairsOutside};
-ghost use Rattle.cat_eval.specs.Rising.{AreCodes};
+ghost use Rattle.cat_machine.specs.Least.{IsLeast, AreMonotone};
+ghost use Rattle.cat_machine.specs.Named.{EventsIn, PairsOutside};
+ghost use Rattle.cat_machine.specs.Rising.{AreCodes};
 ghost use Rattle.cat_eval.specs.Runs.{IsBodyColumn};
-ghost use Rattle.cat_eval.specs.Seen.{seen_in};
+ghost use Rattle.cat_machine.specs.Seen.{seen_in};
 ghost use Rattle.cat_eval.specs.Tables.{IsOver};
-ghost use Rattle.candidates.specs.Space.{candidates_in};
-ghost use Rattle.cat_eval.specs.Steady.{IsSteady};
-ghost use Rattle.cat_eval.specs.Values.{IsFor, column_len};
+ghost use Rattle.candidate_spaces.specs.Space.{candidates_in};
+ghost use Rattle.cat_machine.specs.Steady.{IsSteady};
+ghost use Rattle.cat_machine.specs.Values.{IsFor, column_len};
 ghost use Rattle.cat_eval.specs.Wanted.{is_wanted, AreWantedOver, IsWantedColumn, WantedColumnsOf, AddsIf, RepeatsIf};
 
 use crate::body_run::BodyRun;
-use crate::column::Column;
 use crate::evaluator::Evaluator;
 use crate::keeper::Keeper;
-use crate::machine::Machine;
 use crate::runs::{has_many, visit_runs};
-use crate::seen::{NamedColumn, Seen};
-use crate::solver::Solver;
 use crate::steady::{is_as_before, steady_after};
 use crate::visit::{Visit, visit_all};
 use binding_graph::{Body, Kind, ResolvedItem, Role};
 use bit_relations::{EventSet, Rel};
 use candidates::Space;
+use cat_machine::{Column, Machine, NamedColumn, Seen, Solver};
 use std::alloc::{AllocError, Global};
 use std::mem;
 

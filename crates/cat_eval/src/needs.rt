@@ -1,7 +1,7 @@
 //! Which predefined names an item uses, and what they change with.
 
 ghost use Rattle.std.specs.Prelude.{◌≡◌, ◌++◌, ◌∷◌, ◌||◌, [], false, OnOk, IsTrue, Contains};
-ghost use Rattle.text_values.specs.declared.predefined.Predefined.{Predefined};
+ghost use Rattle.predefined_names.specs.declared.predefined.Predefined.{Predefined};
 ghost use Rattle.cat_eval.specs.Needs.{AreSuited, is_changing_name};
 ghost use Rattle.cat_eval.specs.Needed.{changes_with_reads, changes_with_orders, step_passes, steps_read, steps_order, bodies_read, bodies_order, role_reads, role_orders, step_names, predefined_names_in, bodies_names, role_names, ListsNeeded};
 

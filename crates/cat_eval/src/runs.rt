@@ -1,11 +1,11 @@
 //! All candidates of a space, combination by combination.
 
 ghost use Rattle.std.specs.Prelude.{◌≤◌, ◌++◌, List, [], length, OnOk};
-ghost use Rattle.candidates.specs.Space.{candidates_in};
-ghost use Rattle.cat_eval.specs.Seen.{NamedValues, seen_run, seen_in};
+ghost use Rattle.candidate_spaces.specs.Space.{candidates_in};
+ghost use Rattle.cat_machine.specs.Seen.{NamedValues, seen_run, seen_in};
 
-use crate::seen::NamedColumn;
 use candidates::Space;
+use cat_machine::NamedColumn;
 use std::alloc::AllocError;
 
 /// From how many candidates on each step of an expression keeps its value: where there are fewer,
@@ -19,7 +19,7 @@ pub(crate) fn has_many(space: &Space) -> bool {
 
 /// What is done with the candidates.
 pub(crate) trait RunVisit {
-    ghost use Rattle.cat_eval.specs.declared.seen.NamedColumn.{NamedColumn};
+    ghost use Rattle.cat_machine.specs.declared.seen.NamedColumn.{NamedColumn};
 
     /// From the first state on it has taken candidates of these predefined names, one after
     /// another.

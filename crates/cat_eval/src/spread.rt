@@ -1,14 +1,13 @@
 //! What the names of an item stand for, in one candidate and in those behind it that have the same.
 
 ghost use Rattle.std.specs.Prelude.{ℕ, ◌+◌, ◌^◌, ◌<◌, ◌≤◌, ◌↔◌};
-ghost use Rattle.bit_relations.specs.Relation.{IsRelation, IsEvents};
-ghost use Rattle.cat_eval.specs.Named.{InputEvents, InputPairs, EventsIn, PairsOutside};
-ghost use Rattle.cat_eval.specs.Seen.{values_seen};
+ghost use Rattle.bit_rows.specs.Relation.{IsRelation, IsEvents};
+ghost use Rattle.cat_machine.specs.Named.{InputEvents, InputPairs, EventsIn, PairsOutside};
+ghost use Rattle.cat_machine.specs.Seen.{values_seen};
 
-use crate::column::Column;
-use crate::seen::{NamedColumn, column_of};
 use binding_graph::Source;
 use bit_relations::{EventSet, Rel};
+use cat_machine::{Column, NamedColumn, column_of};
 
 /// The columns of all names that an item can use.
 #[derive(Clone, Copy)]

@@ -1,11 +1,10 @@
 //! Candidates in which the inputs of an item have the values that they had in the one before.
 
 ghost use Rattle.std.specs.Prelude.{◌+◌, ◌<◌, IsTrue};
-ghost use Rattle.cat_eval.specs.Seen.{columns_of};
-ghost use Rattle.cat_eval.specs.Steady.{AreSteady, IsSteady};
+ghost use Rattle.cat_machine.specs.Seen.{columns_of};
+ghost use Rattle.cat_machine.specs.Steady.{AreSteady, IsSteady};
 
-use crate::column::Column;
-use crate::seen::NamedColumn;
+use cat_machine::{Column, NamedColumn};
 
 /// Up to where the candidates from one on have its inputs.
 fn same_until(inputs: &[&Column], candidate: usize) -> usize

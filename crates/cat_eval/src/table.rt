@@ -2,24 +2,22 @@
 
 ghost use Rattle.std.specs.Prelude.{◌≡◌, ℕ, ◌<◌, ◌++◌, ◌∷◌, ◌⊎◌, [], List, length, slice_index_or, IfOk, OnOk, IsTrue, MatchOption, Contains, false};
 ghost use Rattle.base_names.specs.Known.{Known};
-ghost use Rattle.candidates.specs.declared.candidate.Space.{Space};
-ghost use Rattle.candidates.specs.Space.{candidates_in, Candidate};
-ghost use Rattle.text_values.specs.PredefinedNames.{is_set};
+ghost use Rattle.candidate_spaces.specs.declared.candidate.Space.{Space};
+ghost use Rattle.candidate_spaces.specs.Space.{candidates_in, Candidate};
+ghost use Rattle.predefined_names.specs.PredefinedNames.{is_set};
 ghost use Rattle.cat_eval.specs.Needs.{AreSuited, is_changing_name};
 ghost use Rattle.cat_eval.specs.Needed.{changes_with_orders};
 ghost use Rattle.cat_eval.specs.Reordered.{EndsReordered, HoldsSame};
-ghost use Rattle.cat_eval.specs.Steady.{HasAsLast};
+ghost use Rattle.cat_machine.specs.Steady.{HasAsLast};
 ghost use Rattle.cat_eval.specs.Tables.{IsColumnOf, IsBlock, AreBlocks, HasName, AreColumnsFor, AreFilled, IsEntryFilled, entry_names, column_names, kind_for};
-ghost use Rattle.cat_eval.specs.Values.{IsFor, column_len};
+ghost use Rattle.cat_machine.specs.Values.{IsFor, column_len};
 
-use crate::column::Column;
-use crate::few::Few;
 use crate::needs::{Needs, changes_with_orders};
-use crate::seen::NamedColumn;
 use crate::walk::{Enter, enter_space};
 use base_names::Base;
 use bit_relations::Rel;
 use candidates::Space;
+use cat_machine::{Column, Few, NamedColumn};
 use std::alloc::{AllocError, Global};
 use std::mem;
 use text_values::Predefined;

@@ -2,15 +2,14 @@
 //! for.
 
 ghost use Rattle.std.specs.Prelude.{◌≡◌, ◌≤◌, ◌*◌, ◌++◌, List, [], ◌∷◌, length, Some, IsTrue, OnOk};
-ghost use Rattle.candidates.specs.Space.{candidates_in};
+ghost use Rattle.candidate_spaces.specs.Space.{candidates_in};
 ghost use Rattle.cat_eval.specs.Places.{IsAt};
-ghost use Rattle.cat_eval.specs.Seen.{NamedValues, values_seen, seen_run, seen_in};
-ghost use Rattle.cat_eval.specs.Steady.{HasAsLast};
+ghost use Rattle.cat_machine.specs.Seen.{NamedValues, values_seen, seen_run, seen_in};
+ghost use Rattle.cat_machine.specs.Steady.{HasAsLast};
 
-use crate::machine::Machine;
-use crate::seen::{NamedColumn, Seen};
 use crate::steady::{is_as_before, named_after};
 use candidates::{Combination, Space};
+use cat_machine::{Machine, NamedColumn, Seen};
 use std::alloc::AllocError;
 
 /// What is done with each candidate.

@@ -1,11 +1,11 @@
 //! The predefined names of all candidates of a space, one after another.
 
 ghost use Rattle.std.specs.Prelude.{◌≡◌, ℕ, ◌++◌, List, [], ◌∷◌, IsTrue, IfOk, IfSome, OnOk};
-ghost use Rattle.candidates.specs.Space.{candidates_in};
+ghost use Rattle.candidate_spaces.specs.Space.{candidates_in};
 ghost use Rattle.base_names.specs.Known.{Known, IsConsistent};
 ghost use Rattle.base_names.specs.Candidate.{IsEntered, HasReadsFrom, HasCoherence};
 ghost use Rattle.cat_eval.specs.Candidates.{reading_so, reading_in};
-ghost use Rattle.cat_eval.specs.Steady.{HasAsLast};
+ghost use Rattle.cat_machine.specs.Steady.{HasAsLast};
 ghost use Rattle.cat_eval.specs.Reordered.{IsReordered, EndsReordered};
 ghost use Rattle.cat_eval.specs.Worlds.{AreNamesHeld, IsBaseReady, AreWorlds};
 

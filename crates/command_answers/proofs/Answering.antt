@@ -24,7 +24,7 @@ use Rattle.cat_syntax.specs.declared.fault.CatFault.TheVariants as model_faults
 use Rattle.command_answers.specs.declared.fault.EvalFault.{EvalFault}
 use Rattle.command_answers.specs.declared.fault.EvalFault.TheVariants as eval_faults
 use Rattle.text_values.specs.declared.model.ModelText.{ModelText}
-use Rattle.verdict.specs.declared.answer.Outcome.{Outcome}
+use Rattle.outcome_states.specs.declared.answer.Outcome.{Outcome}
 use Rattle.command_line.specs.declared.fault.SessionFault.{SessionFault}
 use Rattle.command_line.specs.declared.fault.SessionFault.TheVariants as faults
 use Rattle.command_answers.specs.declared.stream.Answer.{Answer}

@@ -14,7 +14,7 @@ use Rattle.command_answers.specs.Answer.{IsModelRefused, IsTestRefused}
 use Rattle.command_answers.specs.Files.{AddsFault}
 use Rattle.command_answers.specs.Reports.{AddsModel, IsModelFault, IsTestFault, AreModels, NoModel, NextModel, AddsTest, AreTests, NoTest, NextTest, IsModelTold, IsTestTold, IsToldOf}
 use Rattle.text_values.specs.declared.model.ModelText.{ModelText}
-use Rattle.verdict.specs.declared.answer.Outcome.{Outcome}
+use Rattle.outcome_states.specs.declared.answer.Outcome.{Outcome}
 use Rattle.outcome_texts.specs.Cells.{Settled}
 use Rattle.from_scratch.specs.FromScratch.{IsFromScratch}
 use Rattle.from_scratch.specs.Suites.{AreOutcomes}

@@ -10,7 +10,7 @@ use Rattle.text_values.specs.declared.model.ModelText.{ModelText}
 use Rattle.text_values.specs.declared.model.Item.{Item}
 use Rattle.command_answers.specs.Told.{IsFaultTold, IsRead}
 use Rattle.command_answers.specs.declared.file.TextFile.{TextFile}
-use Rattle.fault_models.specs.Told.{IsModelFaultText}
+use Rattle.fault_texts.specs.Told.{IsModelFaultText}
 
 -- the lines of the model that the file's text means
 pub fault_told_of : (r : Result (Vec ℕ Global) AllocError) (file : TextFile) (m : ModelText)

@@ -19,7 +19,7 @@ use Rattle.text_values.specs.ModelValue as cat_value
 use Rattle.text_values.specs.ModelValues.{clauses_of}
 use Rattle.cat_grammar.specs.declared.form.Form.TheVariants.{Model}
 use Rattle.cat_grammar.specs.Reads.{ReadsClauses, FaultAt}
-use Rattle.verdict.specs.declared.answer.Outcome.{Outcome}
+use Rattle.outcome_states.specs.declared.answer.Outcome.{Outcome}
 use Rattle.from_scratch.specs.FromScratch.{IsFromScratch}
 use Rattle.command_answers.specs.declared.fault.EvalFault.{EvalFault}
 use Rattle.command_answers.specs.declared.fault.EvalFault.TheVariants as eval_faults

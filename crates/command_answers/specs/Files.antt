@@ -1,9 +1,9 @@
 -- Files: the name of a model, and the lines that say where a text is refused.
 use Rattle.std.specs.Prelude.{◌≡◌, ℕ, ◌-◌, List, ◌++◌, Bool, true, false, nat_eq, length, take, drop, codes}
 use Rattle.std.specs.Cmp.Lexicographic.{pointwise}
-use Rattle.fault_lines.specs.Lines.{fault_lines}
-use Rattle.fault_lines.specs.Positions.{count_behind}
-use Rattle.fault_lines.specs.Words.{rule_words}
+use Rattle.fault_texts.specs.Lines.{fault_lines}
+use Rattle.fault_texts.specs.Positions.{count_behind}
+use Rattle.fault_texts.specs.Words.{rule_words}
 
 -- the part of a path behind its last slash
 abbrev pub file_name : List ℕ → List ℕ

@@ -7,7 +7,7 @@ use Rattle.text_values.specs.ModelValues.{clauses_of}
 use Rattle.text_values.specs.declared.model.ModelText.{ModelText}
 use Rattle.command_answers.specs.Answer.{IsModelRefused}
 use Rattle.command_answers.specs.declared.file.TextFile.{TextFile}
-use Rattle.fault_models.specs.Told.{IsModelFaultText}
+use Rattle.fault_texts.specs.Told.{IsModelFaultText}
 
 -- the lines of its first fault, where it has one; a text that is refused is told elsewhere
 pub data IsFaultTold (file : TextFile) (lines : List ℕ) : Type 0 where

@@ -3,7 +3,7 @@
 ghost use Rattle.std.specs.Prelude.{◌≡◌, OnOk};
 ghost use Rattle.command_answers.specs.Files.{file_name, model_stem, AddsFault};
 
-use fault_lines::{count_behind, put_fault_lines, rule_words};
+use fault_texts::{count_behind, put_fault_lines, rule_words};
 use std::alloc::AllocError;
 
 /// A file of a model or of a test.

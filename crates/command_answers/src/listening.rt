@@ -4,8 +4,9 @@ use crate::file::TextFile;
 use crate::reading::refusal_lines;
 use crate::told::model_fault;
 use cat_syntax::Item;
-use fault_lines::{MOST_SHOWN, put_fault_lines, put_rule, put_shown, rule_words};
-use fault_models::model_fault_lines;
+use fault_texts::{
+    MOST_SHOWN, model_fault_lines, put_fault_lines, put_rule, put_shown, rule_words,
+};
 use session_answers::{Progress, ProgressListener};
 use session_script::number_of;
 use std::alloc::{AllocError, Global};

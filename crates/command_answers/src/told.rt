@@ -5,7 +5,7 @@ ghost use Rattle.command_answers.specs.Told.{IsFaultTold};
 
 use crate::file::TextFile;
 use cat_syntax::{CatFault, read_model};
-use fault_models::model_fault_lines;
+use fault_texts::model_fault_lines;
 use std::alloc::{AllocError, Global};
 
 /// What is told of the first fault of a model whose text reads: the item, the rule in words, the

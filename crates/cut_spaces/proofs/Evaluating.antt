@@ -4,23 +4,23 @@ use Rattle.std.specs.List.{AllByRecursion}
 use Rattle.std.specs.declared.alloc.AllocError.{AllocError}
 use Rattle.std.proofs.lemmas.List.{reverse-append}
 use Rattle.text_values.specs.declared.model.ModelText.{ModelText}
-use Rattle.text_values.specs.declared.predefined.TheConstants.{PREDEFINED}
+use Rattle.predefined_names.specs.declared.predefined.TheConstants.{PREDEFINED}
 use Rattle.text_values.specs.declared.test.Test.{Test}
 use Rattle.text_values.specs.TestValue.{formula_of}
 use Rattle.litmus_printing.specs.Printing.{condition_text}
-use Rattle.ppc_semantics.specs.declared.fault.EvalRefusal.{EvalRefusal}
+use Rattle.ppc_lowering.specs.declared.fault.EvalRefusal.{EvalRefusal}
 use Rattle.candidates.specs.Listed.{IsSpaceRefusal}
-use Rattle.verdict.specs.declared.answer.Refusal.TheVariants as refusals
+use Rattle.outcome_states.specs.declared.answer.Refusal.TheVariants as refusals
 use Rattle.binding_kinds.specs.Outermost.{outermost_names}
 use Rattle.binding_graph.specs.declared.resolved.ResolvedItem.{ResolvedItem}
-use Rattle.candidates.specs.declared.candidate.Space.{Space}
+use Rattle.candidate_spaces.specs.declared.candidate.Space.{Space}
 use Rattle.candidates.specs.declared.space_parts.SpaceParts.{SpaceParts}
 use Rattle.candidates.specs.Parts.{AreSpaceParts}
 use Rattle.verdict.specs.Evaluated.{IsEvaluatedAs}
-use Rattle.verdict.specs.declared.answer.Evaluation.{Evaluation}
-use Rattle.verdict.specs.declared.answer.Outcome.{Outcome}
-use Rattle.verdict.specs.declared.answer.OutcomeResult.{OutcomeResult}
-use Rattle.verdict.specs.declared.answer.OutcomeResult.TheVariants.{Refused, Evaluated}
+use Rattle.outcome_states.specs.declared.answer.Evaluation.{Evaluation}
+use Rattle.outcome_states.specs.declared.answer.Outcome.{Outcome}
+use Rattle.outcome_states.specs.declared.answer.OutcomeResult.{OutcomeResult}
+use Rattle.outcome_states.specs.declared.answer.OutcomeResult.TheVariants.{Refused, Evaluated}
 use Rattle.from_scratch.specs.Answers.{AreSoundItems}
 use Rattle.from_scratch.specs.Cell.{IsSaidFromSome, IsEvaluationBy, IsEvaluationOver}
 use Rattle.from_scratch.specs.FromScratch.{bare_items, IsFaultless, AreItemsOf, IsResultOf, IsFromScratch}

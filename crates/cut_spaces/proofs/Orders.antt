@@ -2,12 +2,12 @@
 use Rattle.std.proofs.Common.{ℕ, ◌≡◌, ◌<◌, ◌+◌, ◌++◌, ◌∙◌, zero, suc, List, [], ◌∷◌, map, length, get_or, refl, sym, ap, subst, arith, append_assoc}
 use Rattle.std.specs.List.{flat_map}
 use Rattle.binding_graph.specs.declared.resolved.ResolvedItem.{ResolvedItem}
-use Rattle.run_combinations.specs.Lists.{each_behind}
-use Rattle.run_combinations.specs.Orders.{all_orders, stores_of}
-use Rattle.run_combinations.specs.Rows.{rows_of}
-use Rattle.run_combinations.specs.declared.combination.Combination.{Combination}
-use Rattle.run_combinations.proofs.Rows.{rows_some}
-use Rattle.kept_orders.specs.Sublists.{LeavesOut, nothing_left, stays, is_left}
+use Rattle.store_orders.specs.Lists.{each_behind}
+use Rattle.store_orders.specs.Orders.{all_orders, stores_of}
+use Rattle.store_orders.specs.Rows.{rows_of}
+use Rattle.store_orders.specs.declared.combination.Combination.{Combination}
+use Rattle.store_orders.proofs.Rows.{rows_some}
+use Rattle.whole_outcomes.specs.Sublists.{LeavesOut, nothing_left, stays, is_left}
 use Rattle.cut_spaces.specs.Rows.{IsRowRefused, KeepsRows, IsRefusedByRow, KeepsOrders}
 
 nothing_behind : (xs : List ℕ) → xs ≡ xs ++ []

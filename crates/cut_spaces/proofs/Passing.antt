@@ -6,15 +6,15 @@ use Rattle.std.proofs.lemmas.List.{append-nil, length-map}
 use Rattle.std.proofs.lemmas.Option.{slice_get-map}
 use Rattle.binding_graph.specs.declared.resolved.ResolvedItem.{ResolvedItem}
 use Rattle.binding_graph.specs.declared.resolved.Role.{Role}
-use Rattle.dataflow.specs.DependencyLists.{dependency_lists}
-use Rattle.run_combinations.specs.Combinations.{pairs, candidates_of}
-use Rattle.run_combinations.specs.Lists.{lists_of}
-use Rattle.run_combinations.specs.Rows.{rows_kept}
-use Rattle.run_combinations.specs.declared.combination.Combination.{Combination}
-use Rattle.candidates.specs.declared.candidate.Space.{Space}
-use Rattle.candidates.specs.Space.{Candidate, candidates_in}
-use Rattle.cat_eval.specs.Values.{AnswersOf}
-use Rattle.kept_orders.specs.Sublists.{LeavesOut, nothing_left, stays, is_left}
+use Rattle.taints.specs.DependencyLists.{dependency_lists}
+use Rattle.store_orders.specs.Combinations.{pairs, candidates_of}
+use Rattle.store_orders.specs.Lists.{lists_of}
+use Rattle.store_orders.specs.Rows.{rows_kept}
+use Rattle.store_orders.specs.declared.combination.Combination.{Combination}
+use Rattle.candidate_spaces.specs.declared.candidate.Space.{Space}
+use Rattle.candidate_spaces.specs.Space.{Candidate, candidates_in}
+use Rattle.cat_machine.specs.Values.{AnswersOf}
+use Rattle.whole_outcomes.specs.Sublists.{LeavesOut, nothing_left, stays, is_left}
 use Rattle.cut_spaces.specs.Rows.{IsTried, IsProbe, HasProbe, IsRowRefused, KeepsRows}
 
 pub nothing : {X : Type 0} (xs : List X) → length xs ≡ 0 → xs ≡ []

@@ -1,7 +1,7 @@
 -- A check refuses each candidate whose order has a row that it refuses alone.
 use Rattle.std.proofs.Common.{ℕ, ◌≡◌, ◌++◌, List, [], ◌∷◌, Bor, Some, refl, sym, ◌∙◌, subst}
 use Rattle.std.specs.Prelude.{slice_get}
-use Rattle.dataflow.specs.DependencyLists.{dependency_lists}
+use Rattle.taints.specs.DependencyLists.{dependency_lists}
 use Rattle.binding_kinds.specs.declared.kinds.Kind.{Kind}
 use Rattle.binding_kinds.specs.declared.kinds.Kind.TheVariants as kinds
 use Rattle.binding_kinds.specs.declared.scope.Input.{Input}
@@ -10,12 +10,12 @@ use Rattle.binding_graph.specs.declared.resolved.Role.{Role}
 use Rattle.binding_graph.specs.declared.resolved.Role.TheVariants.{Check}
 use Rattle.binding_graph.specs.declared.resolved.Step.{Step}
 use Rattle.binding_graph.specs.Trees.{RelTree, rel_code}
-use Rattle.run_combinations.specs.declared.combination.Combination.{Combination}
-use Rattle.candidates.specs.declared.candidate.Space.{Space}
-use Rattle.candidates.specs.Space.{Candidate, candidates_in}
-use Rattle.cat_eval.specs.declared.column.Column.{Column}
-use Rattle.cat_eval.specs.Executions.{events_of}
-use Rattle.cat_eval.specs.Values.{AnswersOf}
+use Rattle.store_orders.specs.declared.combination.Combination.{Combination}
+use Rattle.candidate_spaces.specs.declared.candidate.Space.{Space}
+use Rattle.candidate_spaces.specs.Space.{Candidate, candidates_in}
+use Rattle.cat_machine.specs.declared.column.Column.{Column}
+use Rattle.cat_machine.specs.Executions.{events_of}
+use Rattle.cat_machine.specs.Values.{AnswersOf}
 use Rattle.from_scratch.specs.Answers.{AreNamed, AreItemColumns}
 use Rattle.order_growth.specs.Within.{IsWithin, AreInputsGrown, HasExpression}
 use Rattle.order_growth.proofs.Refused as checks

@@ -6,16 +6,16 @@ use Rattle.std.specs.List.{AllZip}
 use Rattle.std.proofs.lemmas.List.{length-map, map-append}
 use Rattle.thread_runs.specs.declared.value.Value.{Value}
 use Rattle.binding_graph.specs.declared.resolved.ResolvedItem.{ResolvedItem}
-use Rattle.dataflow.specs.DependencyLists.{dependency_lists}
-use Rattle.run_combinations.specs.Combinations.{CombinationLists, combination_lists, ordered, pairs, candidates_of}
-use Rattle.run_combinations.specs.Lists.{lists_of}
-use Rattle.run_combinations.specs.Orders.{all_orders}
-use Rattle.run_combinations.specs.declared.combination.Combination.{Combination}
-use Rattle.candidates.specs.declared.candidate.Space.{Space}
+use Rattle.taints.specs.DependencyLists.{dependency_lists}
+use Rattle.store_orders.specs.Combinations.{CombinationLists, combination_lists, ordered, pairs, candidates_of}
+use Rattle.store_orders.specs.Lists.{lists_of}
+use Rattle.store_orders.specs.Orders.{all_orders}
+use Rattle.store_orders.specs.declared.combination.Combination.{Combination}
+use Rattle.candidate_spaces.specs.declared.candidate.Space.{Space}
 use Rattle.candidates.specs.declared.space_parts.SpaceParts.{SpaceParts}
 use Rattle.candidates.specs.Parts.{IsWholeOf}
-use Rattle.candidates.specs.Space.{Candidate, candidates_in, shown_of, registers_at}
-use Rattle.kept_orders.specs.Sublists.{LeavesOut, nothing_left, stays, is_left}
+use Rattle.candidate_spaces.specs.Space.{Candidate, candidates_in, shown_of, registers_at}
+use Rattle.whole_outcomes.specs.Sublists.{LeavesOut, nothing_left, stays, is_left}
 use Rattle.order_growth.specs.Coded.{IsOfExpressions}
 use Rattle.whole_outcomes.specs.Cut.{IsRefusedAt, IsCut}
 use Rattle.whole_outcomes.proofs.Leaving.{indexes_of, with_indexes, changed}

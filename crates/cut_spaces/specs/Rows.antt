@@ -1,18 +1,18 @@
--- Orders of stores that a check refuses by one of their rows. Read `Sublists` of kept_orders and
--- `Growth` of order_growth first. Read next: Spaces.
+-- Orders of stores that a check refuses by one of their rows. Read `Sublists` of whole_outcomes
+-- and `Growth` of order_growth first. Read next: Spaces.
 use Rattle.std.specs.Prelude.{ℕ, ◌≡◌, Bool, false, List, [], ◌∷◌, ◌++◌, None, Some, slice_get}
 use Rattle.binding_kinds.specs.declared.kinds.Kind.TheVariants.{OfSet}
 use Rattle.binding_graph.specs.declared.resolved.CheckCode.{CheckCode}
 use Rattle.binding_graph.specs.declared.resolved.ResolvedItem.{ResolvedItem}
 use Rattle.binding_graph.specs.declared.resolved.Role.TheVariants.{Check}
 use Rattle.binding_graph.specs.Trees.{RelTree, rel_code}
-use Rattle.dataflow.specs.DependencyLists.{dependency_lists}
-use Rattle.run_combinations.specs.Lists.{lists_of}
-use Rattle.run_combinations.specs.declared.combination.Combination.{Combination}
-use Rattle.candidates.specs.declared.candidate.Space.{Space}
-use Rattle.candidates.specs.Space.{candidates_in}
-use Rattle.cat_eval.specs.Values.{AnswersOf}
-use Rattle.kept_orders.specs.Sublists.{LeavesOut}
+use Rattle.taints.specs.DependencyLists.{dependency_lists}
+use Rattle.store_orders.specs.Lists.{lists_of}
+use Rattle.store_orders.specs.declared.combination.Combination.{Combination}
+use Rattle.candidate_spaces.specs.declared.candidate.Space.{Space}
+use Rattle.candidate_spaces.specs.Space.{candidates_in}
+use Rattle.cat_machine.specs.Values.{AnswersOf}
+use Rattle.whole_outcomes.specs.Sublists.{LeavesOut}
 use Rattle.order_growth.specs.declared.growth.Growth.TheVariants.{Unknown}
 use Rattle.order_growth.specs.Growth.{growth_of, source_growth}
 

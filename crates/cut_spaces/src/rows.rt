@@ -1,8 +1,8 @@
 //! Rows of stores, each in a candidate whose loads read nothing.
 
 ghost use Rattle.std.specs.Prelude.{◌<◌, [], min, IfOk};
-ghost use Rattle.run_combinations.specs.Orders.{all_orders};
-ghost use Rattle.run_combinations.specs.Rows.{rows_of};
+ghost use Rattle.store_orders.specs.Orders.{all_orders};
+ghost use Rattle.store_orders.specs.Rows.{rows_of};
 ghost use Rattle.cut_spaces.specs.Rows.{IsTried, HasProbe, KeepsRows, KeepsOrders};
 
 use binding_graph::ResolvedItem;

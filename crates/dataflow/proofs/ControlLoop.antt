@@ -5,17 +5,17 @@ use Rattle.std.proofs.lemmas.List.{length-set}
 use Rattle.std.proofs.lemmas.Bool.{false≢true, cases_eq}
 use Rattle.thread_runs.specs.declared.instruction.Instruction.{Instruction}
 use Rattle.thread_runs.specs.declared.instruction.Instruction.TheVariants.{Immediate, Move, AddImmediate, Operate, Load, LoadIndexed, Store, StoreIndexed, Compare, CompareImmediate, Branch, Jump, Fence}
-use Rattle.dataflow.specs.declared.taints.Taints.{Taints}
+use Rattle.taints.specs.declared.taints.Taints.{Taints}
 use Rattle.dataflow.specs.declared.pass.Control.{Control}
 use Rattle.thread_runs.specs.Machine.{is_load, is_branch}
-use Rattle.dataflow.specs.Chains.{Executed, Resource, IsOperand, event_index, is_event, is_no_access, is_isync, LoadReaches, IsCtrl}
-use Rattle.bit_relations.specs.Relation.{Bit}
-use Rattle.bit_relations.proofs.Bits.{Bit-zero, Bit-or}
-use Rattle.dataflow.specs.Taints.{IsInFile, AreTaints, AreLoadWordsOf, HasRegistersInFile, IsWrittenBetween, passes_of, operand_word}
+use Rattle.taints.specs.Chains.{Executed, Resource, IsOperand, event_index, is_event, is_no_access, is_isync, LoadReaches, IsCtrl}
+use Rattle.bit_rows.specs.Relation.{Bit}
+use Rattle.bit_rows.proofs.Bits.{Bit-zero, Bit-or}
+use Rattle.taints.specs.Taints.{IsInFile, AreTaints, AreLoadWordsOf, HasRegistersInFile, IsWrittenBetween, passes_of, operand_word}
 use Rattle.dataflow.specs.Control.{branched_after, synchronised_after, steered, control_of, control_word, clean_control}
-use Rattle.dataflow.proofs.TaintSteps.{operand_word-union, taints_first}
-use Rattle.dataflow.proofs.Cleaning.{no_word, written_first, written_next}
-use Rattle.dataflow.proofs.ReachLoop.{Found, union_found, taints_next, columns_first, columns_event, columns_other, place_event, place_other, load_place}
+use Rattle.taints.proofs.TaintSteps.{operand_word-union, taints_first}
+use Rattle.taints.proofs.Cleaning.{no_word, written_first, written_next}
+use Rattle.taints.proofs.ReachLoop.{Found, union_found, taints_next, columns_first, columns_event, columns_other, place_event, place_other, load_place}
 
 -- the load reaches the CR0 of a conditional branch before the place
 abbrev pub BehindBranch : Executed → ℕ → ℕ → Type 0

@@ -15,12 +15,12 @@ use Rattle.thread_runs.specs.declared.instruction.Event.TheVariants as run_event
 use Rattle.thread_runs.specs.declared.state.State.{State}
 use Rattle.thread_runs.specs.Machine.{register, event_of, is_load, sum_of}
 use Rattle.thread_runs.specs.Runs.{Walk, RunOutcome, Thread, walk_at, run_of, executed, loaded_at, no_step, StoresFreely, InDomain}
-use Rattle.dataflow.specs.Chains.{Executed, Register, IsNeed, IsStoredRegister}
-use Rattle.dataflow.specs.Law.{state_at, events_before, IsWalkFrom, IsPicked}
+use Rattle.taints.specs.Chains.{Executed, Register, IsNeed, IsStoredRegister}
+use Rattle.taints.specs.Law.{state_at, events_before, IsWalkFrom, IsPicked}
 use Rattle.dataflow.specs.Execution.{LoadSource, Initial, From, FreeExecution, IsFreeExecution, Node, LoadNode, StoreNode, IsEdge, EdgePath, LoadNeedsLoad, IsReadValue, loaded_value, executed_by, loaded_by}
-use Rattle.dataflow.proofs.Agreement.{stores_the_same}
+use Rattle.taints.proofs.Agreement.{stores_the_same}
 use Rattle.dataflow.proofs.Walks.{follow, IsWalk-started, state_prefix}
-use Rattle.dataflow.proofs.Inversion.{Decision, decide_need}
+use Rattle.taints.proofs.Inversion.{Decision, decide_need}
 
 -- Each element comes after as many rounds as there are elements, if it comes a round after those
 -- that precede it.

@@ -1,11 +1,5 @@
-pub mod Agreement
 pub mod Walks
-pub mod Inversion
 pub mod DomainLaw
-pub mod TaintSteps
-pub mod Cleaning
-pub mod ReachLoop
 pub mod ControlLoop
 pub mod PairLists
 pub mod LinkLists
-pub mod PairDecision

@@ -8,11 +8,11 @@ use Rattle.thread_runs.specs.declared.instruction.Instruction.TheVariants.{Immed
 use Rattle.thread_runs.specs.declared.instruction.RunStep.{RunStep}
 use Rattle.thread_runs.specs.Machine.{is_load}
 use Rattle.thread_runs.specs.Runs.{executed, no_step}
-use Rattle.dataflow.specs.Chains.{Executed, Resource, event_index, is_event, LoadReaches, IsCtrl, IsCtrlIsync, IsPairListOf, OfEvents}
-use Rattle.dataflow.specs.Taints.{AreLoadWordsOf, reads_of}
-use Rattle.bit_relations.specs.Relation.{Bit}
+use Rattle.taints.specs.Chains.{Executed, Resource, event_index, is_event, LoadReaches, IsCtrl, IsCtrlIsync, IsPairListOf, OfEvents}
+use Rattle.taints.specs.Taints.{AreLoadWordsOf, reads_of}
+use Rattle.bit_rows.specs.Relation.{Bit}
 use Rattle.dataflow.specs.Dependencies.{ArePairsOfWords}
-use Rattle.dataflow.proofs.ReachLoop.{place_lt}
+use Rattle.taints.proofs.ReachLoop.{place_lt}
 
 -- past the end of a run nothing is an event
 pub event_within : (steps : List RunStep) (i : ℕ) → is_event (executed steps i) ≡ true

@@ -5,8 +5,8 @@ use Rattle.std.proofs.lemmas.List.{length-append, get_or_append_left}
 use Rattle.std.proofs.lemmas.List.Elements.{Contains-append_left, Contains-append_right, Contains-append_cases, Contains-get_or}
 use Rattle.std.proofs.Math.Seq.{get_or-append_seam}
 use Rattle.std.proofs.lemmas.Bool.{cases_eq}
-use Rattle.dataflow.specs.Chains.{IsPairBefore, ArePairsRising}
-use Rattle.bit_relations.specs.Relation.{Bit}
+use Rattle.taints.specs.Chains.{IsPairBefore, ArePairsRising}
+use Rattle.bit_rows.specs.Relation.{Bit}
 use Rattle.dataflow.specs.Dependencies.{ArePairsOfWords}
 use Rattle.dataflow.specs.Bounds.{IsPairBelow}
 

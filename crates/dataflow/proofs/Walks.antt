@@ -16,8 +16,8 @@ use Rattle.thread_runs.specs.declared.instruction.Event.{Event}
 use Rattle.thread_runs.specs.declared.state.State.{State}
 use Rattle.thread_runs.specs.Machine.{state_after, event_of, is_load, is_branch, is_fault, takes_branch}
 use Rattle.thread_runs.specs.Runs.{Walk, RunOutcome, walk_at, ended, walk_after, walk_past, after_load, after_instruction, after_line, ends, run_from, free_from, after_free_instruction, after_free_line, no_step, executed, loaded_at}
-use Rattle.dataflow.specs.Chains.{Executed}
-use Rattle.dataflow.specs.Law.{state_at, events_before, IsWalkFrom, IsPicked}
+use Rattle.taints.specs.Chains.{Executed}
+use Rattle.taints.specs.Law.{state_at, events_before, IsWalkFrom, IsPicked}
 use Rattle.thread_runs.proofs.FreeStores.{step_of}
 
 -- only what stands before the place counts

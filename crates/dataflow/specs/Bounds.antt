@@ -1,6 +1,6 @@
 -- Where the pairs of a run lie.
 use Rattle.std.specs.Prelude.{ℕ, ◌<◌, All}
-use Rattle.dataflow.specs.declared.lists.Links.{Links}
+use Rattle.taints.specs.declared.lists.Links.{Links}
 
 abbrev pub IsPairBelow : ℕ → ℕ × ℕ → Type 0
 IsPairBelow n p = (p.0 < n) × (p.1 < n)

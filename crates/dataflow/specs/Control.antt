@@ -2,10 +2,10 @@
 use Rattle.std.specs.Prelude.{ℕ, bit_or, Bool, true, false, if◌then◌else◌}
 use Rattle.thread_runs.specs.declared.instruction.Instruction.{Instruction}
 use Rattle.thread_runs.specs.Machine.{is_branch}
-use Rattle.dataflow.specs.declared.taints.Taints.{Taints}
-use Rattle.dataflow.specs.Taints.{operand_word, taints_after, clean_taints}
+use Rattle.taints.specs.declared.taints.Taints.{Taints}
+use Rattle.taints.specs.Taints.{operand_word, taints_after, clean_taints}
 use Rattle.dataflow.specs.declared.pass.Control.{Control}
-use Rattle.dataflow.specs.Chains.{Executed, IsCtrl, IsCtrlIsync, is_isync}
+use Rattle.taints.specs.Chains.{Executed, IsCtrl, IsCtrlIsync, is_isync}
 
 -- what is known of the loads after an instruction: those that reach the CR0 of a conditional
 -- branch, and those that did so before an `isync`

@@ -1,9 +1,9 @@
 -- The dependencies of a run, as lists of pairs.
 use Rattle.std.specs.Prelude.{◌≡◌, ℕ, ◌<◌, ◌↔◌, List, [], Contains, slice_index}
-use Rattle.dataflow.specs.declared.lists.Links.{Links}
-use Rattle.dataflow.specs.DependencyLists.{link_lists, no_dependencies}
-use Rattle.dataflow.specs.Chains.{Executed, IsAddr, IsData, IsCtrl, IsCtrlIsync, IsNeed, ArePairsRising, IsPairListOf}
-use Rattle.bit_relations.specs.Relation.{Bit}
+use Rattle.taints.specs.declared.lists.Links.{Links}
+use Rattle.taints.specs.DependencyLists.{link_lists, no_dependencies}
+use Rattle.taints.specs.Chains.{Executed, IsAddr, IsData, IsCtrl, IsCtrlIsync, IsNeed, ArePairsRising, IsPairListOf}
+use Rattle.bit_rows.specs.Relation.{Bit}
 
 -- each list has just the pairs of its dependency, in rising order
 pub record AreLinks (at : Executed) (links : Links) : Type 0 where

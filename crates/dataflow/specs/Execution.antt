@@ -4,8 +4,8 @@ use Rattle.thread_runs.specs.declared.value.Value.{Value}
 use Rattle.thread_runs.specs.declared.value.Value.TheVariants.{NoValue}
 use Rattle.thread_runs.specs.Machine.{register, is_load}
 use Rattle.thread_runs.specs.Runs.{Thread, RunOutcome, InDomain, run_of, executed, loaded_at}
-use Rattle.dataflow.specs.Chains.{Executed, Register, IsNeed, IsStoredRegister}
-use Rattle.dataflow.specs.Law.{state_at}
+use Rattle.taints.specs.Chains.{Executed, Register, IsNeed, IsStoredRegister}
+use Rattle.taints.specs.Law.{state_at}
 
 -- where a load's value comes from: an initial store, or the store at an index of a thread's run
 pub data LoadSource : Type 0 where

@@ -1,10 +1,9 @@
-//! Dependencies between the events of a run. Read specs/Chains first, then specs/Dependencies.
+//! Dependencies between the events of a run. Read specs/Chains of `taints`
+//! first, then specs/Dependencies.
 #![tactic(auto)]
 
 pub mod laws;
-mod lists;
 mod pass;
-mod taints;
 
-pub use lists::{Dependencies, Links, add_pairs};
 pub use pass::{Workspace, links};
+pub use taints::{Dependencies, Links, add_pairs};

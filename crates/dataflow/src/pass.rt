@@ -1,19 +1,18 @@
 //! The dependencies of a run.
 ghost use Rattle.std.specs.Prelude.{ℕ, ◌≡◌, ◌<◌, ◌≤◌, ◌↔◌, true, IfOk, IsTrue, All, length};
-ghost use Rattle.dataflow.specs.Chains as chains;
+ghost use Rattle.taints.specs.Chains as chains;
 ghost use Rattle.dataflow.specs.Control as steering;
 ghost use Rattle.dataflow.specs.Dependencies as found;
 ghost use Rattle.thread_runs.specs.Machine as machine;
-ghost use Rattle.bit_relations.specs.Relation.{Bit};
-ghost use Rattle.dataflow.specs.Taints as taint;
+ghost use Rattle.bit_rows.specs.Relation.{Bit};
+ghost use Rattle.taints.specs.Taints as taint;
 ghost use Rattle.dataflow.specs.Bounds.{IsPairBelow, HasBound};
 ghost use Rattle.thread_runs.specs.Runs as runs;
 
-use crate::lists::Links;
-use crate::taints::{
-    Columns, Taints, clean, is_event, no_taints, note, operands, reach, registers_fit,
-};
 use std::alloc::{AllocError, Global};
+use taints::{
+    Columns, Links, Taints, clean, is_event, no_taints, note, operands, reach, registers_fit,
+};
 use text_values::Fence;
 use thread_runs::{Instruction, Run, RunStep};
 

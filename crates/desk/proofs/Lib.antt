@@ -1,9 +1,5 @@
-pub mod Outcomes
-pub mod Appending
-pub mod Growing
-pub mod Refusing
-pub mod Returning
 pub mod Exchanging
 pub mod Numbering
 pub mod Reaching
-pub mod Editing
+pub mod Refusing
+pub mod Returning

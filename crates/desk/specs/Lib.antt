@@ -1,9 +1,5 @@
-pub mod Boards
-pub mod Edited
-pub mod Told
-pub mod Posts
-pub mod Held
 pub mod Exchanges
-pub mod Runs
-pub mod Rows
+pub mod Held
 pub mod Numbers
+pub mod Rows
+pub mod Runs

@@ -2,7 +2,7 @@
 
 ghost use Rattle.std.specs.Prelude.{◌≡◌, ◌≢◌, ◌≤◌, ◌⊎◌, [], IfOk, IfErr, IsSome, OnErr, OnOk, fold, leb, ⊤};
 ghost use mathlib.Core.List.{IsPrefix};
-ghost use Rattle.desk.specs.Boards.{AreSettled};
+ghost use Rattle.desk_ledger.specs.Boards.{AreSettled};
 ghost use Rattle.desk.specs.Held.{accepted_number, IsClaimRefusedBy, IsRefusedAfter, IsRefusedBy, TellsEdit, TellsSettled};
 ghost use Rattle.desk.specs.Numbers.{desk_fault_number};
 
@@ -11,10 +11,10 @@ use crate::fault::DeskFault;
 use crate::refusals::Refusals;
 use crate::seed::DeskSeed;
 use crate::state::DeskState;
-use crate::texts::BoardTexts;
 use cells::job::{Done, Job};
 use crossbeam_utils::Backoff;
 use desk_history::{Entry, Naming, Plate, Viewer};
+use desk_ledger::BoardTexts;
 use left_right::Absorb;
 use memo_core::claims::Finish;
 use memo_engine::graph::LAST;

@@ -6,9 +6,9 @@ ghost use Rattle.desk.specs.Held.{held, IsSeedRefusedBy};
 
 use crate::fault::DeskFault;
 use crate::state::DeskState;
-use crate::texts::BoardTexts;
 use cells::bench::Bench;
 use desk_history::{Entry, Naming, OpenFault, Opened as OpenedBook, Opening, Plate, SEATS, open};
+use desk_ledger::BoardTexts;
 use left_right::Absorb;
 use std::alloc::{AllocError, Global};
 use std::marker::Model;

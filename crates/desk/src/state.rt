@@ -6,19 +6,18 @@ ghost use Rattle.memo_core.specs.Laws.{meaning};
 ghost use Rattle.memo_core.specs.Run.{Claim as Claimed, IsNewBench, NoClaim, Returned, Lose as Lost, Renew as Renewed, Refused, Step};
 ghost use Rattle.cells.specs.Cells.{cells as cells_of};
 ghost use Rattle.cells.specs.Views.{IsRightBench};
-ghost use Rattle.desk.specs.Boards.{ArePosted, ArePostedBut, AreSettled};
-ghost use Rattle.desk.specs.Edited.{IsEditOf, IsEditOfPosted};
-ghost use Rattle.desk.specs.Posts.{Posts};
+ghost use Rattle.desk_ledger.specs.Boards.{ArePosted, ArePostedBut, AreSettled};
+ghost use Rattle.desk_ledger.specs.Edited.{IsEditOf, IsEditOfPosted};
+ghost use Rattle.desk_ledger.specs.Posts.{Posts};
 ghost use Rattle.desk.specs.Held.{IsEditAppended, IsRefusedBy, IsClaimRefusedBy, IsClosing, ShowsAllOrAsBefore};
 
 use crate::answer::{Accepted, Posted, Settling};
 use crate::fault::DeskFault;
-use crate::ledger::Ledger;
 use crate::taking::take;
-use crate::texts::BoardTexts;
 use cells::bench::Bench;
 use cells::job::{Done, Job};
 use desk_history::{Entry, Naming, Opening, Plate, Seats, Viewer};
+use desk_ledger::{BoardTexts, Ledger};
 use left_right::Absorb;
 use memo_core::claims::{ClaimFault, Finish};
 use memo_core::keys::Node;
@@ -53,7 +52,7 @@ where
     ghost use Rattle.std.specs.Prelude.{◌≡◌, ◌≤◌, false, fold};
     ghost use Rattle.memo_core.specs.Laws.{meaning};
     ghost use Rattle.cells.specs.Cells.{cells as cells_of};
-    ghost use Rattle.desk.specs.Boards.{ArePosted};
+    ghost use Rattle.desk_ledger.specs.Boards.{ArePosted};
     ghost use Rattle.desk.specs.Held.{Held, held};
     ghost use Rattle.desk.specs.Runs.{IsReachedByEvents};
 
@@ -245,7 +244,7 @@ impl<J: Naming + StoreName, X: BoardTexts, R: Wait + Drop> DeskState<J, X, R> {
 
     // Appends the cells that are settled, and publishes. Where a node is given, all are posted but
     // those whose verdicts stand on it.
-    #[tactic(auto, using(crate::proofs::Growing::prefix_same, crate::proofs::Growing::grown_from))]
+    #[tactic(auto, using(desk_ledger::proofs::Growing::prefix_same, desk_ledger::proofs::Growing::grown_from))]
     fn catch_up<W: Wait>(&mut self, rt: &W, above: Option<Node>) -> Posted
         requires rest { IfSome above (λ node. ArePostedBut X.net
             (cells_of X.verdict_of X.outcome_in X.from_scratch X.reaches) self.old.bench node
@@ -270,7 +269,7 @@ impl<J: Naming + StoreName, X: BoardTexts, R: Wait + Drop> DeskState<J, X, R> {
     }
 
     // Tries again what may be left.
-    #[tactic(auto, using(crate::proofs::Growing::prefix_same))]
+    #[tactic(auto, using(desk_ledger::proofs::Growing::prefix_same))]
     fn try_again<W: Wait>(&mut self, rt: &W)
         ensures bench { self.new.bench ≡ self.old.bench }
         ensures appends { AppendsSettles X.is_settle self.old.all self.old self.new }

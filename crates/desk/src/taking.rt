@@ -4,13 +4,12 @@ ghost use Rattle.std.specs.Prelude.{◌≡◌, false, fold, IfSome};
 ghost use Rattle.memo_core.specs.Laws.{meaning};
 ghost use Rattle.memo_core.specs.Run.{Returned, Step};
 ghost use Rattle.cells.specs.Cells.{cells as cells_of};
-ghost use Rattle.desk.specs.Boards.{ArePosted, ArePostedBut};
+ghost use Rattle.desk_ledger.specs.Boards.{ArePosted, ArePostedBut};
 
-use crate::ledger::Ledger;
-use crate::texts::BoardTexts;
 use cells::bench::Bench;
 use cells::job::Done;
 use desk_history::Naming;
+use desk_ledger::{BoardTexts, Ledger};
 use memo_core::claims::Finish;
 use memo_core::keys::Node;
 use value_store::StoreName;

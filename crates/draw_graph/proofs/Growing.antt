@@ -5,8 +5,8 @@ use Rattle.std.specs.List.{Contains}
 use Rattle.std.proofs.lemmas.Bool.{cases_eq, false≢true}
 use Rattle.std.proofs.lemmas.List.Elements.{Contains-append_left, Contains-append_right, Contains-append_cases}
 use Rattle.std.proofs.lemmas.Option.{slice_get_within, same_Some}
-use Rattle.bit_relations.specs.Relation.{Events, IsMember, IsEvents}
-use Rattle.run_combinations.specs.declared.combination.Event.{Event}
+use Rattle.bit_rows.specs.Relation.{Events, IsMember, IsEvents}
+use Rattle.store_orders.specs.declared.combination.Event.{Event}
 use Rattle.draw_graph.specs.Drawn.{IsDrawnEvent, IsAmongIfInitial}
 
 -- the drawn events below a number

@@ -5,11 +5,11 @@ use Rattle.std.proofs.lemmas.List.{length-append, get_or_append_left}
 use Rattle.std.proofs.lemmas.List.Elements.{Contains-append_left, Contains-append_right, Contains-append_cases, Contains-get_or}
 use Rattle.std.proofs.Math.Seq.{get_or-append_seam}
 use Rattle.std.proofs.lemmas.Bool.{cases_eq}
-use Rattle.dataflow.specs.Chains.{IsPairBefore, ArePairsRising}
+use Rattle.taints.specs.Chains.{IsPairBefore, ArePairsRising}
 use Rattle.std.specs.Prelude.{Bool, IsTrue, slice_index}
 use Rattle.std.specs.Int.{bit_at}
-use Rattle.bit_relations.specs.Pairs.{Composite, Minus, Restriction, IsEmpty}
-use Rattle.bit_relations.specs.Relation.{Relation, Bit, Has, IsRelation, IsRegular}
+use Rattle.bit_rows.specs.Pairs.{Composite, Minus, Restriction, IsEmpty}
+use Rattle.bit_rows.specs.Relation.{Relation, Bit, Has, IsRelation, IsRegular}
 use Rattle.draw_graph.specs.Drawn.{AreEdges, Drawn, DrawnAmong, IsStrictOrder, IsTransitive}
 
 -- before the pair of these two

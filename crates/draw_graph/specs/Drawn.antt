@@ -1,9 +1,9 @@
 -- Which pairs of a relation are drawn. Read first: `edges` cites it.
 use Rattle.std.specs.Prelude.{ℕ, ◌≡◌, ◌↔◌, List, Option, Some, None, slice_get}
 use Rattle.std.specs.List.{Contains}
-use Rattle.dataflow.specs.Chains.{ArePairsRising}
-use Rattle.bit_relations.specs.Pairs.{Composite, Restriction, IsIrreflexive}
-use Rattle.run_combinations.specs.declared.combination.Event.{Event}
+use Rattle.taints.specs.Chains.{ArePairsRising}
+use Rattle.bit_rows.specs.Pairs.{Composite, Restriction, IsIrreflexive}
+use Rattle.store_orders.specs.declared.combination.Event.{Event}
 
 -- what precedes an event precedes all that the event precedes
 abbrev pub IsTransitive : (ℕ → ℕ → Type 0) → Type 0

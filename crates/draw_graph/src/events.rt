@@ -2,7 +2,7 @@
 
 ghost use Rattle.std.specs.Prelude.{◌≤◌, ◌↔◌, ◌++◌, IsTrue, length};
 ghost use Rattle.std.specs.List.{Contains};
-ghost use Rattle.bit_relations.specs.Relation.{IsEvents};
+ghost use Rattle.bit_rows.specs.Relation.{IsEvents};
 ghost use Rattle.draw_graph.specs.Drawn.{IsDrawnEvent, IsAmongIfInitial};
 
 use bit_relations::EventSet;

@@ -1,7 +1,7 @@
 //! The pairs of a relation that are drawn.
 
 ghost use Rattle.std.specs.Prelude.{◌≡◌, ◌↔◌, IfOk, IsTrue};
-ghost use Rattle.bit_relations.specs.Relation.{Has, IsMember, IsRelation};
+ghost use Rattle.bit_rows.specs.Relation.{Has, IsMember, IsRelation};
 ghost use Rattle.draw_graph.specs.Drawn.{AreEdges, Drawn, DrawnAmong, IsStrictOrder, IsTransitive};
 
 use crate::drawing::Edge;

@@ -24,13 +24,13 @@ use Rattle.binding_kinds.specs.Faults.{names_after, senses_after}
 use Rattle.binding_kinds.specs.Functions.{formula_in}
 use Rattle.binding_kinds.specs.Senses.{Sense, kind_in}
 use Rattle.binding_kinds.specs.Value.{Naming, Check, bare_item}
-use Rattle.bit_relations.specs.Relation.{Events, Relation}
-use Rattle.candidates.specs.declared.candidate.Space.{Space}
-use Rattle.cat_eval.specs.declared.column.Column.{Column}
-use Rattle.cat_eval.specs.declared.column.Column.TheVariants as columns
-use Rattle.cat_eval.specs.Columns.{HasColumnValue}
-use Rattle.cat_eval.specs.Executions.{events_of, EventsAt, PairsAt}
-use Rattle.cat_eval.specs.Values.{IsFor, IsMeaning}
+use Rattle.bit_rows.specs.Relation.{Events, Relation}
+use Rattle.candidate_spaces.specs.declared.candidate.Space.{Space}
+use Rattle.cat_machine.specs.declared.column.Column.{Column}
+use Rattle.cat_machine.specs.declared.column.Column.TheVariants as columns
+use Rattle.cat_machine.specs.Columns.{HasColumnValue}
+use Rattle.cat_machine.specs.Executions.{events_of, EventsAt, PairsAt}
+use Rattle.cat_machine.specs.Values.{IsFor, IsMeaning}
 use Rattle.text_values.specs.declared.model.CheckWord.{CheckWord}
 use Rattle.text_values.specs.declared.model.Item.{Item}
 use Rattle.text_values.specs.declared.model.Item.TheVariants as items
@@ -38,7 +38,7 @@ use Rattle.text_values.specs.declared.model.CheckWord.TheVariants as words
 use Rattle.text_values.specs.declared.model.ModelText.{ModelText}
 use Rattle.text_values.specs.ModelValue.{Clause, Term, Checking, Checked}
 use Rattle.text_values.specs.ModelValues as means
-use Rattle.text_values.specs.declared.predefined.TheConstants.{PREDEFINED}
+use Rattle.predefined_names.specs.declared.predefined.TheConstants.{PREDEFINED}
 use Rattle.from_scratch.specs.declared.cell.ItemAnswers.{ItemAnswers}
 use Rattle.from_scratch.specs.Answers.{AreSoundItems}
 use Rattle.from_scratch.specs.FromScratch.{AreItemsOf, IsFaultless}

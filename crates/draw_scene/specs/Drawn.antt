@@ -7,8 +7,8 @@ use Rattle.draw_layout.specs.declared.layout.Layout.{Layout}
 use Rattle.draw_layout.specs.declared.picture.Picture.{Picture}
 use Rattle.draw_layout.specs.Layout.{IsLayout, picture_fits}
 use Rattle.draw_svg.specs.Svg.{svg_text}
-use Rattle.html_text.specs.Elements.{element}
-use Rattle.html_text.specs.Escaped.{escaped}
+use Rattle.escaped_texts.specs.Elements.{element}
+use Rattle.escaped_texts.specs.Escaped.{escaped}
 use Rattle.why_text.specs.Events.{event_name}
 use Rattle.why_text.specs.declared.reason.ToldStep.{ToldStep}
 use Rattle.draw_scene.specs.Scene.{IsPicture}

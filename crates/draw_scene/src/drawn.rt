@@ -9,7 +9,7 @@ use crate::lines::picture_of;
 use draw_graph::{Drawing, put_drawing};
 use draw_layout::{LayoutError, Picture, lay_out};
 use draw_svg::put_svg;
-use html_text::put_element;
+use escaped_texts::put_element;
 use std::alloc::{AllocError, Global};
 use text_values::put_bytes;
 use why_text::{Telling, ToldStep, put_name};

@@ -10,7 +10,7 @@ use Rattle.draw_layout.specs.declared.arrow.Arrow.{Arrow}
 use Rattle.draw_layout.specs.declared.frame.Frame.{Frame}
 use Rattle.draw_layout.specs.declared.layout.Layout.{Layout}
 use Rattle.draw_layout.specs.Layout.{top_of}
-use Rattle.html_text.specs.Escaped.{escaped}
+use Rattle.escaped_texts.specs.Escaped.{escaped}
 use Rattle.draw_svg.specs.Paths.{pair, path_on, head_on}
 
 -- ---- attributes

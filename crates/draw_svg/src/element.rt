@@ -6,7 +6,7 @@ ghost use Rattle.draw_svg.specs.Svg.{at_point, sizes, ink_class, line_class, tex
 use crate::bytes::{put_bytes, put_number};
 use crate::path::{head_bytes, put_pair, put_path};
 use draw_layout::{Arrow, Frame, Ink, Label, Layout, Line, Picture, top_of};
-use html_text::put_escaped;
+use escaped_texts::put_escaped;
 use std::alloc::AllocError;
 
 #[tactic(auto, unfolding(crate::specs::Svg::at_point))]

@@ -7,8 +7,8 @@ use Rattle.text_values.specs.declared.test.Test.{Test}
 use Rattle.text_values.specs.TestValue.{content_of}
 use Rattle.binding_kinds.specs.Value.{bare_item}
 use Rattle.binding_graph.specs.declared.resolved.ResolvedItem.{ResolvedItem}
-use Rattle.cat_eval_laws.specs.Items.{ItemContent, item_content}
-use Rattle.verdict.specs.declared.answer.Evaluation.{Evaluation}
+use Rattle.order_growth.specs.Items.{ItemContent, item_content}
+use Rattle.outcome_states.specs.declared.answer.Evaluation.{Evaluation}
 use Rattle.bench_texts.specs.declared.model.NamedModel.{NamedModel}
 use Rattle.bench_texts.specs.declared.reading.Reading.{Reading}
 use Rattle.bench_texts.specs.declared.reading.Reading.TheVariants as readings

@@ -21,8 +21,8 @@ use Rattle.binding_kinds.specs.Senses.{count_of}
 use Rattle.binding_graph.specs.Inputs.{index_of, with_used, with_binder, with_found, with_name}
 use Rattle.binding_graph.specs.Usages.{Usage, with_all_used, is_among, with_item, with_items, usage_at, usage_seen, values_of, functions_of, with_meaning, with_values, with_values_among, with_functions, with_functions_among}
 use Rattle.binding_laws.specs.ItemLaws.{Scope}
-use Rattle.bench_slot_laws.proofs.Naming.{binder_at}
-use Rattle.bench_slot_laws.proofs.Using.{IsBoundBy, items_in}
+use Rattle.bench_slots.proofs.Naming.{binder_at}
+use Rattle.bench_slots.proofs.Using.{IsBoundBy, items_in}
 use Rattle.binding_laws.proofs.Named.{IsNamed, IsApplied, HasNames, HaveNames, seen_usage}
 
 -- ---- what an expression may see

@@ -20,8 +20,8 @@ use Rattle.binding_graph.specs.Resolved.{IsResolvedIn}
 use Rattle.binding_graph.specs.Usages.{Usage, with_values, with_functions, with_all_values, with_all_functions}
 use Rattle.binding_laws.specs.ItemLaws.{Scope, scope_with_names}
 use Rattle.bench_slots.proofs.Lists.{has_reverse, has_map}
-use Rattle.bench_slot_laws.proofs.Naming.{binder_at, at_below, found_at, own_same}
-use Rattle.bench_slot_laws.proofs.Using.{IsBoundBy, items_in}
+use Rattle.bench_slots.proofs.Naming.{binder_at, at_below, found_at, own_same}
+use Rattle.bench_slots.proofs.Using.{IsBoundBy, items_in}
 use Rattle.std.proofs.lemmas.Bool.{leb-false}
 use Rattle.std.proofs.lemmas.Option.{same_Some}
 use Rattle.binding_laws.proofs.Named.{HasNames}

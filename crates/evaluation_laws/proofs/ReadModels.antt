@@ -4,8 +4,8 @@ use Rattle.std.specs.Prelude.{slice_get, slice_index_or, AllPairs}
 use Rattle.std.specs.List.{AllByRecursion as Each}
 use Rattle.std.proofs.lemmas.Option.{none-some}
 use Rattle.text_values.specs.declared.model.Item.{Item}
-use Rattle.text_values.specs.declared.predefined.Predefined.{Predefined}
-use Rattle.text_values.specs.declared.predefined.TheConstants.{PREDEFINED}
+use Rattle.predefined_names.specs.declared.predefined.Predefined.{Predefined}
+use Rattle.predefined_names.specs.declared.predefined.TheConstants.{PREDEFINED}
 use Rattle.memo_core.specs.Step.{Has}
 use Rattle.binding_kinds.specs.declared.scope.Binder.{Binder}
 use Rattle.binding_kinds.specs.declared.scope.Binder.TheVariants as binders
@@ -20,8 +20,8 @@ use Rattle.bench_slices.specs.Slices.{clause_at}
 use Rattle.binding_laws.specs.ItemLaws.{Scope, first_scope}
 use Rattle.bench_slots.proofs.Lists.{each_has, each_reverse, has_contains, contains_has}
 use Rattle.bench_slots.specs.Tables.{IsNameOf}
-use Rattle.bench_slot_laws.specs.Closed.{AreClosed, IsPassedOn}
-use Rattle.bench_slot_laws.proofs.Items.{resolved_closed}
+use Rattle.bench_slots.specs.Closed.{AreClosed, IsPassedOn}
+use Rattle.bench_slots.proofs.RoleItems.{resolved_closed}
 use Rattle.evaluation_laws.proofs.Kept.{Reach}
 use Rattle.binding_laws.proofs.Told.{found_here}
 use Rattle.binding_laws.proofs.Lists.{contains_here}

@@ -18,8 +18,8 @@ use Rattle.binding_graph.specs.declared.resolved.Role.TheVariants as roles
 use Rattle.binding_graph.specs.Meaning.{IsCode}
 use Rattle.binding_graph.specs.Resolved.{AreBodies, IsGroupRole, IsCheckRole, HasUses, IsResolvedIn, AreResolved, IsLabelled, IsLabelledAs, AreLabelledAs}
 use Rattle.binding_graph.specs.Usages.{Usage, with_values, usages_after}
-use Rattle.cat_eval_laws.specs.Items as content
-use Rattle.cat_eval_laws.specs.Items.{code_content, body_content, role_content, item_content}
+use Rattle.order_growth.specs.Items as content
+use Rattle.order_growth.specs.Items.{code_content, body_content, role_content, item_content}
 use Rattle.binding_kinds.specs.Outermost.{outermost_names}
 use Rattle.evaluation_laws.specs.Laws.{HasOneResolution}
 

@@ -11,25 +11,25 @@ use Rattle.binding_kinds.specs.declared.scope.Input.{Input}
 use Rattle.binding_graph.specs.declared.resolved.ResolvedItem.{ResolvedItem}
 use Rattle.binding_graph.specs.declared.resolved.Role.{Role}
 use Rattle.binding_graph.specs.declared.resolved.Role.TheVariants as roles
-use Rattle.candidates.specs.declared.candidate.Space.{Space}
-use Rattle.candidates.specs.Space.{shown_in, Shown}
-use Rattle.cat_eval.specs.declared.column.Column.{Column}
+use Rattle.candidate_spaces.specs.declared.candidate.Space.{Space}
+use Rattle.candidate_spaces.specs.Space.{shown_in, Shown}
+use Rattle.cat_machine.specs.declared.column.Column.{Column}
 use Rattle.candidates.proofs.OneOutcome as executions
 use Rattle.candidates.proofs.Outcomes.{shown_alike}
-use Rattle.verdict.specs.declared.answer.Evaluation.{Evaluation}
-use Rattle.verdict.specs.declared.answer.Outcome.{Outcome}
-use Rattle.verdict.specs.declared.answer.OutcomeResult.{OutcomeResult}
-use Rattle.verdict.specs.declared.answer.OutcomeResult.TheVariants.{Refused, Evaluated}
-use Rattle.verdict.specs.declared.answer.Refusal.TheVariants as refusals
+use Rattle.outcome_states.specs.declared.answer.Evaluation.{Evaluation}
+use Rattle.outcome_states.specs.declared.answer.Outcome.{Outcome}
+use Rattle.outcome_states.specs.declared.answer.OutcomeResult.{OutcomeResult}
+use Rattle.outcome_states.specs.declared.answer.OutcomeResult.TheVariants.{Refused, Evaluated}
+use Rattle.outcome_states.specs.declared.answer.Refusal.TheVariants as refusals
 use Rattle.verdict.specs.Evaluated.{IsEvaluation}
-use Rattle.verdict.specs.Kept.{Flag}
+use Rattle.outcome_states.specs.Kept.{Flag}
 use Rattle.verdict.proofs.Uniqueness as verdicts
 use Rattle.from_scratch.specs.Answers.{AreNamed, HasColumns, HasAnswers, AreItemColumns, IsSaidAs, IsSaidBy, AreSaid}
 use Rattle.from_scratch.specs.FromScratch.{IsFaultless, IsEvaluationOf, IsResultOf}
 use Rattle.from_scratch.proofs.Sole.{one_fault, fault_or_none}
-use Rattle.cat_eval_laws.specs.Items.{ItemContent, RoleContent, Group, Check, Silent, role_content, item_content}
-use Rattle.cat_eval_laws.specs.Laws.{AreSameItems}
-use Rattle.cat_eval_laws.proofs.Keeping.{columns_kept, answers_kept, later}
+use Rattle.order_growth.specs.Items.{ItemContent, RoleContent, Group, Check, Silent, role_content, item_content}
+use Rattle.order_growth.specs.KeptLaws.{AreSameItems}
+use Rattle.order_growth.proofs.Keeping.{columns_kept, answers_kept, later}
 use Rattle.evaluation_laws.specs.Laws.{IsCoded, HasOneOutcomeFromScratch}
 use Rattle.evaluation_laws.proofs.Sole.{one_columns, one_answers}
 use Rattle.order_growth.proofs.Coding.{coded_items}

@@ -7,11 +7,11 @@ use Rattle.binding_graph.specs.declared.resolved.ResolvedItem.{ResolvedItem}
 use Rattle.binding_graph.specs.declared.resolved.Role.{Role}
 use Rattle.binding_graph.specs.declared.resolved.Role.TheVariants as roles
 use Rattle.binding_graph.specs.Reach.{is_check}
-use Rattle.candidates.specs.declared.candidate.Space.{Space}
-use Rattle.cat_eval.specs.declared.column.Column.{Column}
-use Rattle.cat_eval_laws.specs.Items.{ItemContent, RoleContent, Group, Check, Silent, role_content, item_content}
-use Rattle.cat_eval_laws.proofs.Keeping.{columns_kept, answers_kept, later}
-use Rattle.verdict.specs.Kept.{Flag}
+use Rattle.candidate_spaces.specs.declared.candidate.Space.{Space}
+use Rattle.cat_machine.specs.declared.column.Column.{Column}
+use Rattle.order_growth.specs.Items.{ItemContent, RoleContent, Group, Check, Silent, role_content, item_content}
+use Rattle.order_growth.proofs.Keeping.{columns_kept, answers_kept, later}
+use Rattle.outcome_states.specs.Kept.{Flag}
 use Rattle.from_scratch.specs.Answers.{AreNamed, HasColumns, HasAnswers, AreItemColumns, IsSaidAs, IsSaidBy, AreSaid, IsRisingRole}
 use Rattle.from_scratch.proofs.Knowing.{least_of}
 use Rattle.evaluation_laws.specs.Alignment.{Move, First, Second, Both, pairs_of, IsPaired, AreAligned}

@@ -21,8 +21,8 @@ use Rattle.binding_graph.specs.Resolved.{AreResolved, AreLabelledAs}
 use Rattle.binding_graph.specs.Usages.{Usage, usage_of_function, usages_after, with_values}
 use Rattle.binding_laws.specs.ItemLaws.{Scope, with_function}
 use Rattle.bench_slots.proofs.Lists.{each_to, each_reverse}
-use Rattle.bench_slot_laws.proofs.Naming.{at_below, one_more, found_at}
-use Rattle.bench_slot_laws.proofs.Using.{IsBoundBy}
+use Rattle.bench_slots.proofs.Naming.{at_below, one_more, found_at}
+use Rattle.bench_slots.proofs.Using.{IsBoundBy}
 use Rattle.binding_laws.proofs.Named.{map_at}
 use Rattle.binding_laws.proofs.Before.{next_counts}
 use Rattle.evaluation_laws.proofs.Kept.{Reach, Grows, term_bound}

@@ -4,8 +4,8 @@ use Rattle.std.specs.Prelude.{slice_get, slice_index_or}
 use Rattle.std.specs.List.{AllByRecursion}
 use Rattle.std.proofs.lemmas.List.{ext_get_or}
 use Rattle.std.proofs.lemmas.Option.{get_or_from_slice_get, slice_get-get_or}
-use Rattle.bit_relations.specs.Relation.{Relation, Events, IsEvents, IsRelation, Has, no_slot}
-use Rattle.bit_relations.proofs.Bits.{same_word}
+use Rattle.bit_rows.specs.Relation.{Relation, Events, IsEvents, IsRelation, Has, no_slot}
+use Rattle.bit_rows.proofs.Bits.{same_word}
 use Rattle.bit_relations.proofs.Laws.{same_relation}
 use Rattle.binding_kinds.specs.declared.kinds.Kind.{Kind}
 use Rattle.binding_kinds.specs.declared.kinds.Kind.TheVariants as kinds
@@ -16,19 +16,19 @@ use Rattle.binding_graph.specs.declared.resolved.Role.TheVariants as roles
 use Rattle.binding_graph.specs.declared.resolved.Source.{Source}
 use Rattle.binding_graph.specs.declared.resolved.Step.{Step}
 use Rattle.binding_graph.specs.Trees.{RelTree}
-use Rattle.candidates.specs.declared.candidate.Space.{Space}
-use Rattle.candidates.specs.Space.{candidates_in, Candidate}
-use Rattle.cat_eval.specs.declared.column.Column.{Column}
-use Rattle.cat_eval.specs.declared.column.Column.TheVariants as columns
-use Rattle.cat_eval.specs.Columns.{HaveValues, HasColumnValue, AreGroupColumns}
-use Rattle.cat_eval.specs.Executions.{events_of, EventsAt, PairsAt}
-use Rattle.cat_eval.specs.Least.{IsLeast, AreMonotone}
-use Rattle.cat_eval.specs.Named.{PairsFound}
-use Rattle.cat_eval.specs.Values.{IsCheckAnswer, IsFor, IsMeaning, column_len}
+use Rattle.candidate_spaces.specs.declared.candidate.Space.{Space}
+use Rattle.candidate_spaces.specs.Space.{candidates_in, Candidate}
+use Rattle.cat_machine.specs.declared.column.Column.{Column}
+use Rattle.cat_machine.specs.declared.column.Column.TheVariants as columns
+use Rattle.cat_machine.specs.Columns.{HaveValues, HasColumnValue, AreGroupColumns}
+use Rattle.cat_machine.specs.Executions.{events_of, EventsAt, PairsAt}
+use Rattle.cat_machine.specs.Least.{IsLeast, AreMonotone}
+use Rattle.cat_machine.specs.Named.{PairsFound}
+use Rattle.cat_machine.specs.Values.{IsCheckAnswer, IsFor, IsMeaning, column_len}
 use Rattle.from_scratch.proofs.Sole.{one_least}
 use Rattle.evaluation_laws.specs.Laws.{HasTree, AreCoded, HasOneColumns, HasOneAnswers}
 use Rattle.from_scratch.proofs.Knowing.{item_at}
-use Rattle.cat_eval.proofs.Growing.{codes_long}
+use Rattle.cat_machine.proofs.Growing.{codes_long}
 
 -- ---- values
 

@@ -13,12 +13,12 @@ use Rattle.binding_graph.specs.declared.resolved.Role.{Role}
 use Rattle.binding_graph.specs.declared.resolved.Role.TheVariants as roles
 use Rattle.binding_graph.specs.declared.resolved.Step.{Step}
 use Rattle.binding_graph.specs.Trees.{SetTree, RelTree, set_code, rel_code}
-use Rattle.candidates.specs.declared.candidate.Space.{Space}
-use Rattle.cat_eval.specs.declared.column.Column.{Column}
-use Rattle.cat_eval.specs.Columns.{ColumnsOf}
-use Rattle.cat_eval.specs.Values.{AnswersOf}
-use Rattle.cat_eval_laws.specs.Items.{item_content}
-use Rattle.verdict.specs.declared.answer.Outcome.{Outcome}
+use Rattle.candidate_spaces.specs.declared.candidate.Space.{Space}
+use Rattle.cat_machine.specs.declared.column.Column.{Column}
+use Rattle.cat_machine.specs.Columns.{ColumnsOf}
+use Rattle.cat_machine.specs.Values.{AnswersOf}
+use Rattle.order_growth.specs.Items.{item_content}
+use Rattle.outcome_states.specs.declared.answer.Outcome.{Outcome}
 use Rattle.from_scratch.specs.Answers.{AreRisingBodies}
 use Rattle.from_scratch.specs.FromScratch.{AreItemsOf, IsFaultless, IsFromScratch}
 

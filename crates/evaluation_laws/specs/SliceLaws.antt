@@ -4,8 +4,8 @@ use Rattle.std.specs.Prelude.{◌≡◌}
 use Rattle.text_values.specs.declared.test.Test.{Test}
 use Rattle.text_values.specs.TestValue.{content_of}
 use Rattle.text_values.specs.declared.model.ModelText.{ModelText}
-use Rattle.verdict.specs.declared.answer.Evaluation.{Evaluation}
-use Rattle.verdict.specs.declared.answer.Outcome.{Outcome}
+use Rattle.outcome_states.specs.declared.answer.Evaluation.{Evaluation}
+use Rattle.outcome_states.specs.declared.answer.Outcome.{Outcome}
 use Rattle.bench_texts.specs.declared.model.NamedModel.{NamedModel}
 use Rattle.bench_texts.specs.Held.{IsModelRead}
 use Rattle.bench_slices.specs.Slices.{slice}

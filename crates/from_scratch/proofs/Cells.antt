@@ -2,25 +2,25 @@
 use Rattle.std.proofs.Common.{◌≡◌, Bool, List, Vec, Global, reverse, Result, Ok, Err, IfOk, sym, ap, ◌∙◌, subst}
 use Rattle.std.specs.declared.alloc.AllocError.{AllocError}
 use Rattle.std.proofs.lemmas.Result.{IfOk-weaker}
-use Rattle.text_values.specs.declared.predefined.TheConstants.{PREDEFINED}
+use Rattle.predefined_names.specs.declared.predefined.TheConstants.{PREDEFINED}
 use Rattle.text_values.specs.declared.test.Place.{Place}
 use Rattle.text_values.specs.declared.test.Test.{Test}
 use Rattle.text_values.specs.TestValue.{formula_of}
 use Rattle.litmus_printing.specs.Printing.{condition_text}
 use Rattle.binding_kinds.specs.declared.fault.ModelFault.{ModelFault}
 use Rattle.binding_graph.specs.declared.resolved.ResolvedItem.{ResolvedItem}
-use Rattle.candidates.specs.Space.{shown_in}
-use Rattle.candidates.specs.declared.candidate.Space.{Space}
+use Rattle.candidate_spaces.specs.Space.{shown_in}
+use Rattle.candidate_spaces.specs.declared.candidate.Space.{Space}
 use Rattle.candidates.specs.Listed.{ListsExecutions}
 use Rattle.verdict.specs.Evaluated.{IsEvaluatedAs, IsOutcomeOn}
-use Rattle.verdict.specs.declared.answer.Evaluation.{Evaluation}
-use Rattle.verdict.specs.declared.answer.Outcome.{Outcome}
-use Rattle.verdict.specs.declared.answer.OutcomeResult.{OutcomeResult}
-use Rattle.verdict.specs.declared.answer.OutcomeResult.TheVariants.{Refused, Evaluated}
-use Rattle.verdict.specs.declared.answer.Refusal.{Refusal}
-use Rattle.verdict.specs.declared.answer.Refusal.TheVariants as refusals
-use Rattle.verdict.specs.declared.judgement.Raised.{Raised}
-use Rattle.verdict.specs.Kept.{Flag, of_raised}
+use Rattle.outcome_states.specs.declared.answer.Evaluation.{Evaluation}
+use Rattle.outcome_states.specs.declared.answer.Outcome.{Outcome}
+use Rattle.outcome_states.specs.declared.answer.OutcomeResult.{OutcomeResult}
+use Rattle.outcome_states.specs.declared.answer.OutcomeResult.TheVariants.{Refused, Evaluated}
+use Rattle.outcome_states.specs.declared.answer.Refusal.{Refusal}
+use Rattle.outcome_states.specs.declared.answer.Refusal.TheVariants as refusals
+use Rattle.outcome_states.specs.declared.raised.Raised.{Raised}
+use Rattle.outcome_states.specs.Kept.{Flag, of_raised}
 use Rattle.from_scratch.specs.declared.cell.ItemAnswers.{ItemAnswers}
 use Rattle.from_scratch.specs.declared.cell.FlagAnswer.{FlagAnswer}
 use Rattle.from_scratch.specs.Answers.{AreSaid, AreSoundItems}

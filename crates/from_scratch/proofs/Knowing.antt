@@ -13,21 +13,21 @@ use Rattle.binding_graph.specs.declared.resolved.Body.{Body}
 use Rattle.binding_graph.specs.declared.resolved.CheckCode.{CheckCode}
 use Rattle.binding_graph.specs.declared.resolved.Role.{Role}
 use Rattle.binding_graph.specs.declared.resolved.Role.TheVariants as roles
-use Rattle.candidates.specs.declared.candidate.Space.{Space}
-use Rattle.cat_eval.specs.declared.column.Column.{Column}
+use Rattle.candidate_spaces.specs.declared.candidate.Space.{Space}
+use Rattle.cat_machine.specs.declared.column.Column.{Column}
 use Rattle.from_scratch.specs.declared.cell.ItemAnswers.{ItemAnswers}
 use Rattle.std.proofs.Common.{◌&&◌, slice_index_or}
 use Rattle.std.proofs.Math.Bool.{and-true}
 use Rattle.std.proofs.lemmas.List.{length-map}
 use Rattle.std.proofs.lemmas.List.Folds.{list_all-append}
-use Rattle.candidates.specs.Space.{candidates_in, Candidate, shown_in, shown_of}
+use Rattle.candidate_spaces.specs.Space.{candidates_in, Candidate, shown_in, shown_of}
 use Rattle.cat_eval.specs.Kept.{AreWhere, KeptAnswersOf, is_kept_at}
-use Rattle.verdict.specs.Kept.{holds_at, is_kept}
-use Rattle.cat_eval.specs.Columns.{AreGroupColumns, ColumnsOf}
-use Rattle.cat_eval.specs.Values.{AnswersOf}
+use Rattle.outcome_states.specs.Kept.{holds_at, is_kept}
+use Rattle.cat_machine.specs.Columns.{AreGroupColumns, ColumnsOf}
+use Rattle.cat_machine.specs.Values.{AnswersOf}
 use Rattle.cat_eval.specs.Candidates.{name_count}
 use Rattle.binding_graph.specs.Reach.{is_check, IsCheckAt, ItemUses, IsReached, AreReached}
-use Rattle.verdict.specs.Kept.{Flag}
+use Rattle.outcome_states.specs.Kept.{Flag}
 use Rattle.from_scratch.specs.Answers.{IsNamed, AreNamed, HasAnswers, AreItemColumns, IsSaidAs, IsSaidBy, AreSaid, IsBound, AreOrdered, AreLeast, LeastOf, AreRisingBodies, IsRisingRole, AreSoundItems}
 use Rattle.from_scratch.specs.Known.{column_in, column_of, AreFound, kept_of, flags_of, ColumnsAt, HasAllColumns, AreKeptIn, AreKeptAndFlagged, IsAnswered, AreKnown, AreKnownTo}
 use Rattle.binding_graph.proofs.Reaching.{leads_more}

@@ -12,12 +12,12 @@ use Rattle.binding_graph.specs.declared.resolved.ResolvedItem.{ResolvedItem}
 use Rattle.binding_graph.specs.declared.resolved.Role.{Role}
 use Rattle.binding_graph.specs.declared.resolved.Role.TheVariants as roles
 use Rattle.binding_graph.specs.Reach.{IsReached, AreReached}
-use Rattle.candidates.specs.declared.candidate.Space.{Space}
-use Rattle.cat_eval.specs.declared.column.Column.{Column}
-use Rattle.cat_eval.specs.Columns.{ColumnsOf}
-use Rattle.cat_eval.specs.Values.{AnswersOf}
+use Rattle.candidate_spaces.specs.declared.candidate.Space.{Space}
+use Rattle.cat_machine.specs.declared.column.Column.{Column}
+use Rattle.cat_machine.specs.Columns.{ColumnsOf}
+use Rattle.cat_machine.specs.Values.{AnswersOf}
 use Rattle.cat_eval.specs.Wanted.{is_wanted, AreWantedColumns, WantedColumnsOf}
-use Rattle.verdict.specs.Kept.{Flag}
+use Rattle.outcome_states.specs.Kept.{Flag}
 use Rattle.from_scratch.specs.declared.cell.ItemAnswers.{ItemAnswers}
 use Rattle.from_scratch.specs.declared.keeping.LastUsers.{LastUsers}
 use Rattle.from_scratch.specs.Answers.{IsSaidBy, AreItemColumns, AreSoundItems}

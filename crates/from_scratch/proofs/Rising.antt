@@ -27,8 +27,8 @@ use Rattle.binding_graph.specs.declared.resolved.Role.TheVariants as roles
 use Rattle.binding_graph.specs.declared.resolved.ResolvedItem.{ResolvedItem}
 use Rattle.text_values.specs.declared.model.CheckWord.{CheckWord}
 use Rattle.binding_graph.specs.Trees.{SetTree, RelTree, rel_code}
-use Rattle.cat_eval.specs.Least.{IsMonotone, AreMonotone, body}
-use Rattle.cat_eval.specs.Rising.{AreCodes}
+use Rattle.cat_machine.specs.Least.{IsMonotone, AreMonotone, body}
+use Rattle.cat_machine.specs.Rising.{AreCodes}
 use Rattle.from_scratch.specs.Answers.{AreRisingBodies, IsRisingRole}
 use Rattle.from_scratch.proofs.Safe.{Fixed, Rises, AllFixed, AllRise, IsSafe, AreSafe, by_turned, sense_found, source_outside, safe_after}
 

@@ -25,7 +25,7 @@ use Rattle.binding_kinds.specs.Faults.{with_own, with_all, names_after, senses_a
 use Rattle.binding_graph.specs.declared.resolved.Blend.TheVariants as blends
 use Rattle.binding_graph.specs.Meaning.{source_of, source_of_binder, rel_tree}
 use Rattle.binding_graph.specs.Trees.{RelTree, RelName, NoPair, BlendRelations, SequenceRelations, ProductOfSets, IdentityOn, Close, ComplementRelation}
-use Rattle.cat_eval.specs.Least.{IsNotOwn, HasNoOwnName, IsMonotone}
+use Rattle.cat_machine.specs.Least.{IsNotOwn, HasNoOwnName, IsMonotone}
 
 -- the slot of a name is that of a name that is seen
 found_below : (names : List Naming) (x : List ℕ) (f : Found) → found names x ≡ Some f

@@ -4,7 +4,7 @@ use Rattle.std.specs.Prelude.{◌&&◌, nat_eq, slice_get, slice_index}
 use Rattle.std.specs.Int.{bit_at}
 use Rattle.std.proofs.lemmas.Bool.Decides.{nat_tests}
 use Rattle.text_values.specs.declared.test.Test.{Test}
-use Rattle.bit_relations.specs.Relation.{Relation, Bit}
+use Rattle.bit_rows.specs.Relation.{Relation, Bit}
 use Rattle.text_values.specs.declared.model.ModelText.{ModelText}
 use Rattle.binding_kinds.specs.declared.fault.ModelFault.{ModelFault}
 use Rattle.binding_kinds.specs.declared.fault.ModelFault.TheVariants as faults
@@ -13,12 +13,12 @@ use Rattle.binding_kinds.specs.Senses.{Sense}
 use Rattle.binding_kinds.specs.Faults.{rank, FirstFault, HasNoFault}
 use Rattle.binding_graph.specs.declared.resolved.Source.{Source}
 use Rattle.binding_graph.specs.Trees.{RelTree}
-use Rattle.cat_eval.specs.Least.{IsLeast, AreMonotone, body}
-use Rattle.cat_eval.specs.Named.{PairsFound, OwnPairs}
-use Rattle.cat_eval.proofs.Monotone.{monotone}
-use Rattle.verdict.specs.declared.answer.OutcomeResult.{OutcomeResult}
-use Rattle.verdict.specs.declared.answer.OutcomeResult.TheVariants.{Refused, Evaluated}
-use Rattle.verdict.specs.declared.answer.Refusal.TheVariants as refusals
+use Rattle.cat_machine.specs.Least.{IsLeast, AreMonotone, body}
+use Rattle.cat_machine.specs.Named.{PairsFound, OwnPairs}
+use Rattle.cat_machine.proofs.Monotone.{monotone}
+use Rattle.outcome_states.specs.declared.answer.OutcomeResult.{OutcomeResult}
+use Rattle.outcome_states.specs.declared.answer.OutcomeResult.TheVariants.{Refused, Evaluated}
+use Rattle.outcome_states.specs.declared.answer.Refusal.TheVariants as refusals
 use Rattle.from_scratch.specs.FromScratch.{IsFaultOf, IsResultOf}
 use Rattle.from_scratch.specs.Laws.{HasOneModelRefusal}
 

@@ -4,22 +4,22 @@ use Rattle.std.specs.Prelude.{◌≡◌, ℕ, ◌<◌, ◌⊎◌, List, [], ◌�
 use Rattle.std.specs.List.{AllZip, AllByRecursion}
 use denote.Ref.{Bor}
 use Rattle.binding_kinds.specs.declared.scope.Input.{Input}
-use Rattle.bit_relations.specs.Relation.{Relation, Events, no_slot}
+use Rattle.bit_rows.specs.Relation.{Relation, Events, no_slot}
 use Rattle.binding_graph.specs.declared.resolved.Body.{Body}
 use Rattle.binding_graph.specs.declared.resolved.ResolvedItem.{ResolvedItem}
 use Rattle.binding_graph.specs.declared.resolved.Role.{Role}
 use Rattle.binding_graph.specs.declared.resolved.Role.TheVariants as roles
 use Rattle.binding_graph.specs.Trees.{RelTree}
-use Rattle.candidates.specs.declared.candidate.Space.{Space}
-use Rattle.candidates.specs.Space.{candidates_in, Candidate}
-use Rattle.cat_eval.specs.declared.column.Column.{Column}
-use Rattle.cat_eval.specs.Columns.{ColumnsOf, HasColumnValue}
-use Rattle.cat_eval.specs.Executions.{events_of, EventsAt, PairsAt}
-use Rattle.cat_eval.specs.Least.{IsLeast, AreMonotone}
-use Rattle.cat_eval.specs.Rising.{AreCodes}
-use Rattle.cat_eval.specs.Values.{AnswersOf}
+use Rattle.candidate_spaces.specs.declared.candidate.Space.{Space}
+use Rattle.candidate_spaces.specs.Space.{candidates_in, Candidate}
+use Rattle.cat_machine.specs.declared.column.Column.{Column}
+use Rattle.cat_machine.specs.Columns.{ColumnsOf, HasColumnValue}
+use Rattle.cat_machine.specs.Executions.{events_of, EventsAt, PairsAt}
+use Rattle.cat_machine.specs.Least.{IsLeast, AreMonotone}
+use Rattle.cat_machine.specs.Rising.{AreCodes}
+use Rattle.cat_machine.specs.Values.{AnswersOf}
 use Rattle.cat_eval.specs.Candidates.{name_count}
-use Rattle.verdict.specs.Kept.{Flag}
+use Rattle.outcome_states.specs.Kept.{Flag}
 
 -- the columns of a name of some item: those at its position among the columns of the item
 abbrev pub IsNamed : (ℕ → List Column → Type 0) → Input → Bor Column → Type 0

@@ -3,18 +3,18 @@ use Rattle.std.specs.Prelude.{◌≡◌, Bool, List, reverse}
 use Rattle.text_values.specs.declared.test.Test.{Test}
 use Rattle.text_values.specs.TestValue.{formula_of}
 use Rattle.litmus_printing.specs.Printing.{condition_text}
-use Rattle.candidates.specs.Space.{shown_in}
-use Rattle.candidates.specs.declared.candidate.Space.{Space}
+use Rattle.candidate_spaces.specs.Space.{shown_in}
+use Rattle.candidate_spaces.specs.declared.candidate.Space.{Space}
 use Rattle.candidates.specs.Listed.{ListsExecutions, IsSpaceRefusal}
 use Rattle.binding_kinds.specs.declared.fault.ModelFault.{ModelFault}
 use Rattle.binding_graph.specs.declared.resolved.ResolvedItem.{ResolvedItem}
 use Rattle.verdict.specs.Evaluated.{IsEvaluation, IsOutcomeOn}
-use Rattle.verdict.specs.declared.answer.Evaluation.{Evaluation}
-use Rattle.verdict.specs.declared.answer.Outcome.{Outcome}
-use Rattle.verdict.specs.declared.answer.OutcomeResult.{OutcomeResult}
-use Rattle.verdict.specs.declared.answer.OutcomeResult.TheVariants.{Refused, Evaluated}
-use Rattle.verdict.specs.declared.answer.Refusal.TheVariants as refusals
-use Rattle.verdict.specs.Kept.{Flag}
+use Rattle.outcome_states.specs.declared.answer.Evaluation.{Evaluation}
+use Rattle.outcome_states.specs.declared.answer.Outcome.{Outcome}
+use Rattle.outcome_states.specs.declared.answer.OutcomeResult.{OutcomeResult}
+use Rattle.outcome_states.specs.declared.answer.OutcomeResult.TheVariants.{Refused, Evaluated}
+use Rattle.outcome_states.specs.declared.answer.Refusal.TheVariants as refusals
+use Rattle.outcome_states.specs.Kept.{Flag}
 use Rattle.from_scratch.specs.Answers.{AreSaid}
 
 -- the evaluation of the test's condition on the candidates of a space, from these answers of checks

@@ -8,14 +8,14 @@ use Rattle.binding_graph.specs.declared.resolved.ResolvedItem.{ResolvedItem}
 use Rattle.binding_graph.specs.declared.resolved.Role.{Role}
 use Rattle.binding_graph.specs.declared.resolved.Role.TheVariants as roles
 use Rattle.binding_graph.specs.Reach.{IsReached}
-use Rattle.candidates.specs.Space.{shown_in}
-use Rattle.candidates.specs.declared.candidate.Space.{Space}
-use Rattle.cat_eval.specs.declared.column.Column.{Column}
+use Rattle.candidate_spaces.specs.Space.{shown_in}
+use Rattle.candidate_spaces.specs.declared.candidate.Space.{Space}
+use Rattle.cat_machine.specs.declared.column.Column.{Column}
 use Rattle.from_scratch.specs.declared.cell.ItemAnswers.{ItemAnswers}
 use Rattle.from_scratch.specs.declared.cell.FlagAnswer.{FlagAnswer}
-use Rattle.cat_eval.specs.Columns.{ColumnsOf}
-use Rattle.cat_eval.specs.Values.{AnswersOf}
-use Rattle.verdict.specs.Kept.{Flag, AreKeptBy}
+use Rattle.cat_machine.specs.Columns.{ColumnsOf}
+use Rattle.cat_machine.specs.Values.{AnswersOf}
+use Rattle.outcome_states.specs.Kept.{Flag, AreKeptBy}
 use Rattle.from_scratch.specs.Answers.{IsSaidBy, AreItemColumns, AreSaid}
 
 abbrev pub column_in : Option (Vec Column Global) → ℕ → Option Column

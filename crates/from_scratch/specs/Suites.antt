@@ -4,13 +4,13 @@ use Rattle.std.specs.List.{AllZip}
 use Rattle.std.specs.declared.alloc.Global.{Global}
 use denote.Ref.{Bor}
 use Rattle.text_values.specs.declared.test.Test.{Test}
-use Rattle.candidates.specs.declared.candidate.Space.{Space}
-use Rattle.ppc_semantics.specs.declared.fault.EvalRefusal.{EvalRefusal}
+use Rattle.candidate_spaces.specs.declared.candidate.Space.{Space}
+use Rattle.ppc_lowering.specs.declared.fault.EvalRefusal.{EvalRefusal}
 use Rattle.candidates.specs.Listed.{ListsExecutions, IsSpaceRefusal}
 use Rattle.text_values.specs.declared.model.ModelText.{ModelText}
 use Rattle.binding_kinds.specs.declared.fault.ModelFault.{ModelFault}
 use Rattle.binding_graph.specs.declared.resolved.Resolved.{Resolved}
-use Rattle.verdict.specs.declared.answer.Outcome.{Outcome}
+use Rattle.outcome_states.specs.declared.answer.Outcome.{Outcome}
 use Rattle.from_scratch.specs.FromScratch.{IsFaultOf, IsFaultless, AreItemsOf, IsFromScratch}
 
 -- the outcomes of a test under these models, in their order

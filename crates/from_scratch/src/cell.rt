@@ -4,13 +4,13 @@ ghost use denote.Ref.{Bor};
 ghost use Rattle.std.specs.Prelude.{◌≡◌, ◌<◌, ◌+◌, ◌∷◌, ◌++◌, ℕ, [], List, Vec, Some, None, IfOk, OnOk, length, option_map, reverse, slice_index_or, vec_len};
 ghost use Rattle.text_values.specs.TestValue.{formula_of};
 ghost use Rattle.litmus_printing.specs.Printing.{condition_text};
-ghost use Rattle.candidates.specs.Space.{shown_in};
+ghost use Rattle.candidate_spaces.specs.Space.{shown_in};
 ghost use Rattle.cat_eval.specs.Wanted.{WantedColumnsOf};
 ghost use Rattle.cat_eval.specs.Kept.{KeptAnswersOf};
 ghost use Rattle.cat_eval.specs.Tables.{IsOver};
-ghost use Rattle.cat_eval.specs.Values.{AnswersOf};
+ghost use Rattle.cat_machine.specs.Values.{AnswersOf};
 ghost use Rattle.verdict.specs.Evaluated.{IsEvaluatedAs};
-ghost use Rattle.verdict.specs.Kept.{of_raised, AreKeptBy};
+ghost use Rattle.outcome_states.specs.Kept.{of_raised, AreKeptBy};
 ghost use Rattle.from_scratch.specs.Answers.{AreSoundItems};
 ghost use Rattle.from_scratch.specs.Known.{column_of, AreFound, IsAnswered, ColumnsAt, IsGroup, HasAllColumns, HasNoOtherColumns, of_flags, kept_of, flags_of, AreKeptAndFlagged};
 ghost use Rattle.from_scratch.specs.Keeping.{IsGone, IsLeftOut, IsAnsweredBut};
@@ -26,12 +26,17 @@ use text_values::{Name, Test};
 use verdict::{Outcome, OutcomeResult, Raised, Refusal, outcome_kept};
 
 /// A flag: its name, and whether its check holds on each candidate.
-#[derive(Drop)]
 pub struct FlagAnswer<'a> {
     /// The name after `as`.
     pub name: &'a Name,
     /// For each candidate, whether the check holds there.
     pub holds: Vec<bool>,
+}
+
+impl Drop for FlagAnswer<'_> {
+    fn drop(self) {
+        let FlagAnswer { name: _, holds: _ } = self;
+    }
 }
 
 /// What is known of a model's items over the candidates.

@@ -3,7 +3,7 @@
 ghost use denote.Ref.{Bor};
 ghost use Rattle.std.specs.Prelude.{ℕ, List};
 ghost use Rattle.binding_graph.specs.Trees.{RelTree};
-ghost use Rattle.candidates.specs.Space.{Candidate};
+ghost use Rattle.candidate_spaces.specs.Space.{Candidate};
 ghost use Rattle.from_scratch.specs.Laws.{HasOneModelFault, HasOneModelRefusal, HasOneLeast};
 
 use cat_eval::Column;

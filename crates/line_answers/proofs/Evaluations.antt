@@ -1,7 +1,7 @@
 -- The line of one evaluation.
 use Rattle.std.proofs.Common.{◌≡◌, ℕ, List, [], ◌++◌, ap, ◌∙◌}
 use Rattle.text_values.specs.declared.test.Test.{Test}
-use Rattle.verdict.specs.declared.answer.Outcome.{Outcome}
+use Rattle.outcome_states.specs.declared.answer.Outcome.{Outcome}
 use Rattle.outcome_lines.specs.Records.{TextRefusal}
 use Rattle.outcome_lines.specs.Json.{eval_lines, refused_line}
 use Rattle.command_answers.specs.declared.file.TextFile.{TextFile}

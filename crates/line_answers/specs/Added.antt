@@ -5,7 +5,7 @@ use denote.Ref.{Bor}
 use Rattle.text_values.specs.declared.model.ModelText.{ModelText}
 use Rattle.binding_kinds.specs.declared.fault.ModelFault.{ModelFault}
 use Rattle.binding_graph.specs.declared.resolved.Resolved.{Resolved}
-use Rattle.verdict.specs.declared.answer.Outcome.{Outcome}
+use Rattle.outcome_states.specs.declared.answer.Outcome.{Outcome}
 use Rattle.from_scratch.specs.Suites.{AreResolvedAs}
 use Rattle.outcome_lines.specs.Records.{ModelOutcome}
 use Rattle.command_answers.specs.declared.file.TextFile.{TextFile}

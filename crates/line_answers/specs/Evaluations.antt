@@ -11,7 +11,7 @@ use Rattle.litmus_tokens.specs.declared.rule.LitmusRule.{LitmusRule}
 use Rattle.litmus_tokens.specs.Numbers.{number_of as test_rule_number}
 use Rattle.text_values.specs.declared.test.Test.{Test}
 use Rattle.text_values.specs.TestValue.{content_of}
-use Rattle.verdict.specs.declared.answer.Outcome.{Outcome}
+use Rattle.outcome_states.specs.declared.answer.Outcome.{Outcome}
 use Rattle.from_scratch.specs.FromScratch.{IsFromScratch}
 use Rattle.outcome_lines.specs.Records.{Subject}
 use Rattle.outcome_lines.specs.Json.{eval_lines, refused_line}

@@ -7,7 +7,7 @@ use Rattle.litmus_tokens.specs.Numbers.{number_of as test_rule_number}
 use Rattle.litmus_grammar.specs.Texts.{ReadsTest}
 use Rattle.text_values.specs.declared.test.Test.{Test}
 use Rattle.text_values.specs.TestValue.{content_of}
-use Rattle.fault_lines.specs.Positions.{line_number, column_number}
+use Rattle.fault_texts.specs.Positions.{line_number, column_number}
 use Rattle.from_scratch.specs.FromScratch.{IsFromScratch}
 use Rattle.outcome_lines.specs.Records.{TextRefusal, ModelOutcome, TestResult, Refused, Tested}
 use Rattle.command_answers.specs.declared.file.TextFile.{TextFile}

@@ -4,7 +4,7 @@ ghost use Rattle.std.specs.Prelude.{◌≡◌, IfOk};
 ghost use Rattle.line_answers.specs.Results as results;
 
 use command_answers::TextFile;
-use fault_lines::position_of;
+use fault_texts::position_of;
 use outcome_lines::TextRefusal;
 use std::alloc::{AllocError, Global};
 use text_values::put_decimal;

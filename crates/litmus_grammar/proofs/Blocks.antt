@@ -14,7 +14,7 @@ use Rattle.litmus_tokens.specs.Faults.{Begins}
 use Rattle.litmus_tokens.specs.Conditions.{PlaceTree, Location, Register, place_meaning, tree_formula}
 use Rattle.litmus_table.specs.Grammar.{spelled_header, spelled_names, columns_meaning}
 use Rattle.litmus_table.specs.Late.{columns_notes}
-use Rattle.litmus_table.specs.Machine as table
+use Rattle.litmus_words.specs.Machine as table
 use Rattle.litmus_table.specs.Laws.{columns, steps_of, AreNoted}
 use Rattle.litmus_grammar.specs.declared.parts.InitExpectation.TheVariants as expectations
 use Rattle.litmus_grammar.specs.declared.parts.InitStep.{InitStep}

@@ -17,7 +17,7 @@ use Rattle.text_values.specs.declared.test.Step.{Step}
 use Rattle.litmus_tokens.specs.Conditions.{condition_limits, place_meaning, tree_formula, IsFormulaTree}
 use Rattle.litmus_table.specs.Grammar.{RowTree, spelled_rows, spelled_names, AreRowTrees, columns_meaning}
 use Rattle.litmus_table.specs.Late.{columns_notes}
-use Rattle.litmus_table.specs.Machine as table
+use Rattle.litmus_words.specs.Machine as table
 use Rattle.litmus_table.specs.Laws as laws
 use Rattle.litmus_table.specs.Laws.{IsTable, columns, then_on, steps_of, AreNoted}
 use Rattle.litmus_table.proofs.Rules.{apart}

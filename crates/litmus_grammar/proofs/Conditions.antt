@@ -24,7 +24,7 @@ use Rattle.litmus_tokens.specs.ConditionLaws.{takes_on, takes_tokens, IsProposit
 use Rattle.litmus_tokens.proofs.Sound.{sound}
 use Rattle.litmus_tokens.proofs.Complete.{complete}
 use Rattle.litmus_tokens.proofs.Beginnings.{takes_beginnings}
-use Rattle.litmus_table.specs.Machine as table
+use Rattle.litmus_words.specs.Machine as table
 use Rattle.litmus_grammar.specs.declared.parts.TextKind.{TextKind}
 use Rattle.litmus_grammar.specs.declared.parts.TextKind.TheVariants as kinds
 use Rattle.litmus_grammar.specs.TextMachine as text

@@ -11,9 +11,9 @@ use Rattle.litmus_tokens.specs.Conditions.{condition_limits}
 use Rattle.litmus_tokens.specs.PlaceMachine.{place_step}
 use Rattle.litmus_tokens.specs.ConditionMachine as condition
 use Rattle.litmus_tokens.specs.ConditionMachine.{ConditionFrame}
-use Rattle.litmus_table.specs.declared.opcode.Want.{Want}
-use Rattle.litmus_table.specs.declared.opcode.Want.TheVariants as wants
-use Rattle.litmus_table.specs.Machine as table
+use Rattle.litmus_words.specs.declared.opcode.Want.{Want}
+use Rattle.litmus_words.specs.declared.opcode.Want.TheVariants as wants
+use Rattle.litmus_words.specs.Machine as table
 use Rattle.litmus_grammar.specs.declared.parts.InitExpectation.{InitExpectation}
 use Rattle.litmus_grammar.specs.declared.parts.InitExpectation.TheVariants as expectations
 use Rattle.litmus_grammar.specs.declared.parts.ItemExpectation.{ItemExpectation}

@@ -17,7 +17,7 @@ use Rattle.litmus_tokens.specs.Faults.{Begins}
 use Rattle.litmus_tokens.specs.Conditions.{condition_limits, place_meaning, tree_formula}
 use Rattle.litmus_table.specs.Grammar.{spelled_header, spelled_names, spelled_rows, columns_meaning}
 use Rattle.litmus_table.specs.Late.{columns_notes}
-use Rattle.litmus_table.specs.Machine as table
+use Rattle.litmus_words.specs.Machine as table
 use Rattle.litmus_table.specs.Laws.{steps_of, AreNoted}
 use Rattle.litmus_grammar.specs.declared.parts.TextKind.TheVariants as kinds
 use Rattle.litmus_grammar.specs.Grammar.{spelled_init, members, TestTree, spelled_text, spelled_keylines, spelled_head, spelled_observed, spelled_condition, spelled_test, IsTestTree}

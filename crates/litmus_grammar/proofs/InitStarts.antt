@@ -19,7 +19,7 @@ use Rattle.litmus_tokens.specs.declared.place.PlaceStep.{PlaceStep}
 use Rattle.litmus_tokens.specs.declared.place.WrittenPlace.{WrittenPlace}
 use Rattle.litmus_tokens.specs.declared.place.WrittenPlace.TheVariants as written
 use Rattle.litmus_tokens.specs.PlaceMachine.{place_step, register_ends, number_read}
-use Rattle.litmus_table.specs.Machine as table
+use Rattle.litmus_words.specs.Machine as table
 use Rattle.litmus_grammar.specs.declared.parts.InitExpectation.{InitExpectation}
 use Rattle.litmus_grammar.specs.declared.parts.InitExpectation.TheVariants as expectations
 use Rattle.litmus_grammar.specs.declared.parts.TextKind.{TextKind}

@@ -22,7 +22,7 @@ use Rattle.litmus_tokens.specs.declared.place.PlaceStep.TheVariants as place_ste
 use Rattle.litmus_tokens.specs.PlaceMachine.{place_step, has_thread}
 use Rattle.litmus_tokens.specs.ConditionMachine as condition
 use Rattle.litmus_tokens.specs.Conditions.{condition_limits, PlaceTree, FormulaTree, place_meaning, tree_formula, spelled, spelled_quantifier, IsFormulaTree, IsConditionText}
-use Rattle.litmus_table.specs.Machine as table
+use Rattle.litmus_words.specs.Machine as table
 use Rattle.litmus_grammar.specs.declared.parts.ItemExpectation.TheVariants as items
 use Rattle.litmus_grammar.specs.declared.parts.TextKind.{TextKind}
 use Rattle.litmus_grammar.specs.declared.parts.TextKind.TheVariants as kinds

@@ -16,7 +16,7 @@ use Rattle.litmus_tokens.specs.declared.place.PlaceExpectation.{PlaceExpectation
 use Rattle.litmus_tokens.specs.declared.place.PlaceExpectation.TheVariants as places
 use Rattle.litmus_table.specs.Grammar.{spelled_header, spelled_names, spelled_rows}
 use Rattle.litmus_table.specs.Laws.{columns}
-use Rattle.litmus_table.specs.Machine as table
+use Rattle.litmus_words.specs.Machine as table
 use Rattle.litmus_grammar.specs.declared.parts.InitExpectation.{InitExpectation}
 use Rattle.litmus_grammar.specs.declared.parts.InitExpectation.TheVariants as expectations
 use Rattle.litmus_grammar.specs.declared.parts.TextKind.TheVariants as kinds

@@ -18,7 +18,7 @@ use Rattle.litmus_tokens.specs.Words.{is_test_name}
 use Rattle.text_values.specs.declared.test.Quantifier.TheVariants.{Exists, Forall}
 use Rattle.litmus_tokens.specs.Conditions.{PlaceTree, Location, Register, ValueTree, Number, Address, spelled_place, spelled_value}
 use Rattle.litmus_table.specs.Laws.{IsInCell, stands, is_taken}
-use Rattle.litmus_table.specs.Machine as table
+use Rattle.litmus_words.specs.Machine as table
 use Rattle.litmus_table.proofs.Rules.{rules_given}
 use Rattle.litmus_grammar.specs.declared.parts.TextKind.TheVariants as kinds
 use Rattle.litmus_grammar.specs.Grammar.{Listed, EntryTree, spelled_entry, spelled_others, spelled_listed, spelled_init, members, AreEntryTrees, IsInitText, spelled_text, spelled_keylines}

@@ -22,7 +22,7 @@ use Rattle.litmus_tokens.specs.PlaceMachine.{place_step, has_thread, value_read}
 use Rattle.litmus_tokens.specs.ConditionMachine as condition
 use Rattle.litmus_tokens.specs.Conditions.{condition_limits}
 use Rattle.text_values.specs.declared.test.Value as declared_value
-use Rattle.litmus_table.specs.Machine as table
+use Rattle.litmus_words.specs.Machine as table
 use Rattle.litmus_grammar.specs.declared.parts.InitExpectation.{InitExpectation}
 use Rattle.litmus_grammar.specs.declared.parts.InitExpectation.TheVariants as expectations
 use Rattle.litmus_grammar.specs.declared.parts.ItemExpectation.{ItemExpectation}

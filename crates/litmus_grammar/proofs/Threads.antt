@@ -12,14 +12,14 @@ use Rattle.litmus_tokens.specs.Stage.{next_stage}
 use Rattle.litmus_tokens.specs.Texts.{TokenAt, test_tokens_of, stage_after, is_end}
 use Rattle.litmus_tokens.specs.Words.{ends_table}
 use Rattle.litmus_tokens.specs.Faults.{Begins, CanFollow, Ruling, Always, Where, cell_ruling, ruling, RulingSays}
-use Rattle.litmus_table.specs.declared.opcode.Opcode.{Opcode}
-use Rattle.litmus_table.specs.declared.opcode.Opcode.TheVariants as opcodes
-use Rattle.litmus_table.specs.declared.opcode.Want.{Want}
-use Rattle.litmus_table.specs.declared.opcode.Want.TheVariants as wants
-use Rattle.litmus_table.specs.Words.{opcode_of}
+use Rattle.litmus_words.specs.declared.opcode.Opcode.{Opcode}
+use Rattle.litmus_words.specs.declared.opcode.Opcode.TheVariants as opcodes
+use Rattle.litmus_words.specs.declared.opcode.Want.{Want}
+use Rattle.litmus_words.specs.declared.opcode.Want.TheVariants as wants
+use Rattle.litmus_words.specs.Words.{opcode_of}
 use Rattle.litmus_table.specs.Grammar.{spelled_thread, thread_meaning}
 use Rattle.litmus_table.specs.Late.{thread_notes}
-use Rattle.litmus_table.specs.Machine as table
+use Rattle.litmus_words.specs.Machine as table
 use Rattle.litmus_table.specs.Laws as laws
 use Rattle.litmus_table.specs.Laws.{IsThread, then_on, steps_of, AreNoted, is_whole_table, is_taken, stands, IsInCell}
 use Rattle.litmus_table.proofs.Rules.{apart, rules_given}

@@ -21,7 +21,7 @@ use Rattle.litmus_tokens.specs.declared.place.PlaceStep.TheVariants as place_ste
 use Rattle.litmus_tokens.specs.Conditions.{condition_limits}
 use Rattle.litmus_tokens.specs.PlaceMachine.{place_step, place_of, has_thread}
 use Rattle.litmus_tokens.specs.ConditionMachine as condition
-use Rattle.litmus_table.specs.Machine as table
+use Rattle.litmus_words.specs.Machine as table
 use Rattle.litmus_grammar.specs.declared.parts.TextKind.{TextKind}
 use Rattle.litmus_grammar.specs.declared.parts.TextKind.TheVariants as kinds
 use Rattle.litmus_grammar.specs.declared.parts.ItemExpectation.{ItemExpectation}

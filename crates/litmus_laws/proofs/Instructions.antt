@@ -28,13 +28,13 @@ use Rattle.text_values.specs.declared.instruction.BranchCondition.{BranchConditi
 use Rattle.text_values.specs.declared.instruction.BranchCondition.TheVariants as branches
 use Rattle.text_values.specs.declared.instruction.Fence as fence
 use Rattle.text_values.specs.declared.instruction.Fence.TheVariants as fences
-use Rattle.litmus_table.specs.declared.opcode.DataOpcode.{DataOpcode}
-use Rattle.litmus_table.specs.declared.opcode.DataOpcode.TheVariants as data_opcodes
-use Rattle.litmus_table.specs.declared.opcode.Opcode.{Opcode}
-use Rattle.litmus_table.specs.declared.opcode.Opcode.TheVariants as opcodes
-use Rattle.litmus_table.specs.declared.opcode.Want.{Want}
-use Rattle.litmus_table.specs.declared.opcode.Want.TheVariants as wants
-use Rattle.litmus_table.specs.Words.{computing_of, accessing_of, fence_of, branch_of, opcode_of, data_form, all_fit, registers, immediate, data_meaning, instruction_meaning}
+use Rattle.litmus_words.specs.declared.opcode.DataOpcode.{DataOpcode}
+use Rattle.litmus_words.specs.declared.opcode.DataOpcode.TheVariants as data_opcodes
+use Rattle.litmus_words.specs.declared.opcode.Opcode.{Opcode}
+use Rattle.litmus_words.specs.declared.opcode.Opcode.TheVariants as opcodes
+use Rattle.litmus_words.specs.declared.opcode.Want.{Want}
+use Rattle.litmus_words.specs.declared.opcode.Want.TheVariants as wants
+use Rattle.litmus_words.specs.Words.{computing_of, accessing_of, fence_of, branch_of, opcode_of, data_form, all_fit, registers, immediate, data_meaning, instruction_meaning}
 use Rattle.litmus_table.specs.Grammar.{InstructionTree, IsOperation}
 use Rattle.litmus_printing.specs.Printing.{register_text, operation_text, branch_text, fence_text, operands_text, based_text, instruction_text}
 use Rattle.text_values.specs.Joined.{joined}

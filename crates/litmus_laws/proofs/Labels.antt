@@ -10,7 +10,7 @@ use Rattle.text_values.specs.declared.instruction.Instruction.{Instruction}
 use Rattle.text_values.specs.declared.instruction.Instruction.TheVariants as instructions
 use Rattle.text_values.specs.declared.test.Step.{Step}
 use Rattle.text_values.specs.declared.test.Step.TheVariants as steps
-use Rattle.litmus_table.specs.declared.opcode.Opcode.{Opcode}
+use Rattle.litmus_words.specs.declared.opcode.Opcode.{Opcode}
 use Rattle.litmus_table.specs.Grammar.{spelled_cell, spelled_rows}
 use Rattle.litmus_table.specs.Late.{Late, or_else, Note, Defines, Branches, branch_notes, cell_notes, nth_notes, column_notes, columns_notes, is_in, defined, late_notes, first_late, late_columns}
 use Rattle.litmus_printing.specs.Printing.{longest}

@@ -16,14 +16,14 @@ use Rattle.litmus_tokens.specs.Words.{are_digits, is_plain, is_empty, is_registe
 use Rattle.text_values.specs.declared.test.Step.{Step}
 use Rattle.text_values.specs.declared.test.Step.TheVariants as steps
 use Rattle.text_values.specs.declared.instruction.BranchCondition.{BranchCondition}
-use Rattle.litmus_table.specs.declared.opcode.DataOpcode.{DataOpcode}
-use Rattle.litmus_table.specs.declared.opcode.DataOpcode.TheVariants as data_opcodes
-use Rattle.litmus_table.specs.declared.opcode.Opcode.{Opcode}
-use Rattle.litmus_table.specs.declared.opcode.Opcode.TheVariants as opcodes
-use Rattle.litmus_table.specs.declared.opcode.Want.{Want}
-use Rattle.litmus_table.specs.declared.opcode.Want.TheVariants as wants
-use Rattle.litmus_table.specs.Words as words
-use Rattle.litmus_table.specs.Words.{data_form, token_fits, all_fit, is_label, takes_operands, registers, immediate, data_meaning, branch_meaning, instruction_meaning}
+use Rattle.litmus_words.specs.declared.opcode.DataOpcode.{DataOpcode}
+use Rattle.litmus_words.specs.declared.opcode.DataOpcode.TheVariants as data_opcodes
+use Rattle.litmus_words.specs.declared.opcode.Opcode.{Opcode}
+use Rattle.litmus_words.specs.declared.opcode.Opcode.TheVariants as opcodes
+use Rattle.litmus_words.specs.declared.opcode.Want.{Want}
+use Rattle.litmus_words.specs.declared.opcode.Want.TheVariants as wants
+use Rattle.litmus_words.specs.Words as words
+use Rattle.litmus_words.specs.Words.{data_form, token_fits, all_fit, is_label, takes_operands, registers, immediate, data_meaning, branch_meaning, instruction_meaning}
 use Rattle.litmus_table.specs.Grammar as grammar
 use Rattle.litmus_table.specs.Grammar.{InstructionTree, CellTree, RowTree, AreCells, AreRowTrees, spelled_label, spelled_instruction, spelled_cell, spelled_cells, spelled_rows, label_steps, operation_steps, instruction_steps, cell_steps, cells_steps, nth_cell, column, columns_meaning}
 use Rattle.litmus_table.specs.Late.{Late, or_else, Note, Defines, Branches, branch_notes, instruction_notes, label_notes, nth_notes, column_notes, columns_notes, is_in, defined, late_notes, first_late}

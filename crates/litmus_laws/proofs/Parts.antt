@@ -19,11 +19,11 @@ use Rattle.litmus_tokens.specs.Words.{ends_table, is_filter, is_int, column_name
 use Rattle.text_values.specs.declared.test.Quantifier.{Quantifier}
 use Rattle.text_values.specs.declared.test.Quantifier.TheVariants.{Exists, NotExists, Forall}
 use Rattle.litmus_tokens.specs.Conditions.{PlaceTree, Location, Register, ValueTree, Number, Address, spelled_place, spelled_value, spelled_quantifier, Limits, condition_limits, IsConditionText}
-use Rattle.litmus_table.specs.declared.opcode.Opcode.{Opcode}
-use Rattle.litmus_table.specs.declared.opcode.Opcode.TheVariants as opcodes
-use Rattle.litmus_table.specs.declared.opcode.Want.{Want}
-use Rattle.litmus_table.specs.declared.opcode.Want.TheVariants as wants
-use Rattle.litmus_table.specs.Words.{opcode_of, token_fits, all_fit, data_form, is_label, takes_operands}
+use Rattle.litmus_words.specs.declared.opcode.Opcode.{Opcode}
+use Rattle.litmus_words.specs.declared.opcode.Opcode.TheVariants as opcodes
+use Rattle.litmus_words.specs.declared.opcode.Want.{Want}
+use Rattle.litmus_words.specs.declared.opcode.Want.TheVariants as wants
+use Rattle.litmus_words.specs.Words.{opcode_of, token_fits, all_fit, data_form, is_label, takes_operands}
 use Rattle.litmus_table.specs.Grammar.{InstructionTree, CellTree, RowTree, ThreadTree, spelled_steps, spelled_thread, spelled_label, spelled_instruction, spelled_cells, spelled_rows, spelled_names, spelled_header, IsInstruction, AreCells, AreRowTrees}
 use Rattle.litmus_grammar.specs.Grammar.{Listed, EntryTree, TestTree, spelled_entry, spelled_end, spelled_others, spelled_listed, spelled_init, spelled_observed, spelled_text, spelled_keylines, spelled_test, IsTestTree, IsInitText, IsThreadText, IsLocationsText}
 use Rattle.litmus_grammar.specs.Texts.{IsStart}

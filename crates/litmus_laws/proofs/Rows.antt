@@ -11,7 +11,7 @@ use Rattle.litmus_tokens.specs.Texts.{tokens_from}
 use Rattle.text_values.specs.declared.instruction.Instruction.{Instruction}
 use Rattle.text_values.specs.declared.test.Step.{Step}
 use Rattle.text_values.specs.declared.test.Step.TheVariants as steps
-use Rattle.litmus_table.specs.declared.opcode.Opcode.{Opcode}
+use Rattle.litmus_words.specs.declared.opcode.Opcode.{Opcode}
 use Rattle.litmus_table.specs.Grammar as grammar
 use Rattle.litmus_table.specs.Grammar.{CellTree, RowTree, spelled_cell, spelled_cells, spelled_rows, AreCells, AreRowTrees, operation_steps, cell_steps, cells_steps, nth_cell, column, columns_meaning}
 use Rattle.litmus_printing.specs.Printing.{step_text, cell_text, row_text, rows_text, longest}

@@ -5,7 +5,7 @@ use Rattle.text_values.specs.declared.test.Step.{Step}
 use Rattle.litmus_table.specs.Grammar.{thread_meaning}
 use Rattle.litmus_table.specs.Late.{Late, Note, or_else, late_notes, first_late, thread_notes}
 use Rattle.litmus_table.specs.Laws.{steps_of, AreNoted}
-use Rattle.litmus_table.specs.Machine as table
+use Rattle.litmus_words.specs.Machine as table
 use Rattle.litmus_table.specs.Reading.{first_steps}
 use Rattle.litmus_ppc.specs.declared.fault.LitmusFault.{LitmusFault}
 use Rattle.litmus_grammar.specs.declared.parts.TextKind.TheVariants as kinds

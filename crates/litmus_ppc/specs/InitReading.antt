@@ -4,7 +4,7 @@ use Rattle.std.specs.declared.vec.Vec.{Vec}
 use Rattle.std.specs.declared.alloc.Global.{Global}
 use Rattle.std.specs.BTreeSet.{keys}
 use Rattle.litmus_tokens.specs.declared.step.StepError.{StepError}
-use Rattle.litmus_table.specs.Reading.{RefusesStep}
+use Rattle.litmus_words.specs.Taking.{RefusesStep}
 use Rattle.litmus_ppc.specs.declared.init.InitBlock.{InitBlock}
 use Rattle.litmus_grammar.specs.declared.parts.InitExpectation.{InitExpectation}
 use Rattle.litmus_grammar.specs.declared.parts.InitStep.TheVariants as steps

@@ -2,7 +2,7 @@
 use Rattle.std.specs.Prelude.{◌≡◌, Option, Some, Result, Ok, Err}
 use Rattle.litmus_tokens.specs.declared.step.StepError.{StepError}
 use Rattle.litmus_tokens.specs.ConditionReading as condition
-use Rattle.litmus_table.specs.Reading.{RefusesStep}
+use Rattle.litmus_words.specs.Taking.{RefusesStep}
 use Rattle.litmus_grammar.specs.TextMachine as machine
 use Rattle.litmus_ppc.specs.declared.parts.Part as code_part
 use Rattle.litmus_ppc.specs.declared.parts.Part.TheVariants as parts

@@ -8,7 +8,8 @@ use Rattle.litmus_tokens.specs.declared.condition.Expectation as code_expectatio
 use Rattle.litmus_tokens.specs.ConditionReading.{condition_stack_of, condition_expectation_of}
 use Rattle.text_values.specs.declared.test.Quantifier.{Quantifier}
 use Rattle.litmus_table.specs.Laws.{steps_of}
-use Rattle.litmus_table.specs.Reading.{RefusesStep, table_state_of}
+use Rattle.litmus_table.specs.Reading.{table_state_of}
+use Rattle.litmus_words.specs.Taking.{RefusesStep}
 use Rattle.litmus_ppc.specs.declared.fault.LitmusFault.{LitmusFault}
 use Rattle.litmus_ppc.specs.declared.fault.LitmusFault.TheVariants as faults
 use Rattle.litmus_ppc.specs.declared.parts.Part as code_part

@@ -6,7 +6,7 @@ ghost use Rattle.litmus_tokens.specs.Conditions.{condition_limits};
 ghost use Rattle.litmus_tokens.specs.PlaceMachine.{place_step};
 ghost use Rattle.litmus_tokens.specs.ConditionReading.{condition_stack_of, condition_expectation_of};
 ghost use Rattle.text_values.specs.TestValue.{content_of};
-ghost use Rattle.litmus_table.specs.Machine.{name_thread};
+ghost use Rattle.litmus_words.specs.Machine.{name_thread};
 ghost use Rattle.litmus_table.specs.Reading.{table_state_of, first_steps};
 ghost use Rattle.litmus_grammar.specs.TextMachine.{HasColumn, part_step, nothing, first_table, after_init, Done, title_read, table_result, item_start, item_result, next_item, item_read, proposition_result, threads_in};
 ghost use Rattle.litmus_ppc.specs.PartReading.{part_of};

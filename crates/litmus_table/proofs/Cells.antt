@@ -13,15 +13,15 @@ use Rattle.text_values.specs.declared.instruction.Instruction.{Instruction}
 use Rattle.text_values.specs.declared.instruction.Instruction.TheVariants as instructions
 use Rattle.text_values.specs.declared.test.Step.{Step}
 use Rattle.text_values.specs.declared.test.Step.TheVariants as steps
-use Rattle.litmus_table.specs.declared.opcode.DataOpcode.{DataOpcode}
-use Rattle.litmus_table.specs.declared.opcode.DataOpcode.TheVariants as data_opcodes
-use Rattle.litmus_table.specs.declared.opcode.Opcode.{Opcode}
-use Rattle.litmus_table.specs.declared.opcode.Opcode.TheVariants as opcodes
-use Rattle.litmus_table.specs.declared.opcode.Want.{Want}
-use Rattle.litmus_table.specs.Words.{opcode_of, data_form, token_fits, all_fit, is_label, takes_operands, registers, immediate, data_meaning, branch_meaning}
+use Rattle.litmus_words.specs.declared.opcode.DataOpcode.{DataOpcode}
+use Rattle.litmus_words.specs.declared.opcode.DataOpcode.TheVariants as data_opcodes
+use Rattle.litmus_words.specs.declared.opcode.Opcode.{Opcode}
+use Rattle.litmus_words.specs.declared.opcode.Opcode.TheVariants as opcodes
+use Rattle.litmus_words.specs.declared.opcode.Want.{Want}
+use Rattle.litmus_words.specs.Words.{opcode_of, data_form, token_fits, all_fit, is_label, takes_operands, registers, immediate, data_meaning, branch_meaning}
 use Rattle.litmus_table.specs.Grammar.{InstructionTree, CellTree, spelled_label, spelled_instruction, spelled_cell, IsInstruction, label_steps, operation_steps, instruction_steps, cell_steps}
 use Rattle.litmus_table.specs.Late.{Note, Defines, Branches, branch_notes, instruction_notes, label_notes, cell_notes}
-use Rattle.litmus_table.specs.Machine.{ThreadSteps, noted, Pending, CellExpectation, Begins, Labelled, InInstruction, WantsLabel, Whole, TableState, pending_with, put_at, operation, operand, table_step, can_end}
+use Rattle.litmus_words.specs.Machine.{ThreadSteps, noted, Pending, CellExpectation, Begins, Labelled, InInstruction, WantsLabel, Whole, TableState, pending_with, put_at, operation, operand, table_step, can_end}
 use Rattle.litmus_table.specs.Laws.{then_on, LabelMark, Defined, Branched, instruction_marks, step_marks, label_marks as marks_of, AreMarks}
 use Rattle.litmus_table.proofs.Finishes.{Wants, form_wants}
 use Rattle.litmus_table.proofs.Values.{registers-with, value_after, value_of}

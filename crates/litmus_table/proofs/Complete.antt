@@ -12,7 +12,7 @@ use Rattle.litmus_tokens.specs.Texts.{test_tokens_of, StandsAt}
 use Rattle.text_values.specs.declared.test.Step.{Step}
 use Rattle.litmus_table.specs.Grammar.{InstructionTree, CellTree, RowTree, spelled_label, spelled_instruction, spelled_cell, spelled_cells, spelled_rows, spelled_steps, AreCells, AreRowTrees, cell_steps, cells_steps, nth_cell, column, columns_meaning}
 use Rattle.litmus_table.specs.Late.{Note, cell_notes, nth_notes, column_notes, thread_notes, columns_notes}
-use Rattle.litmus_table.specs.Machine.{ThreadSteps, fresh, CellExpectation, Begins, TableState, at, is_last, expected_step, table_step, can_end}
+use Rattle.litmus_words.specs.Machine.{ThreadSteps, fresh, CellExpectation, Begins, TableState, at, is_last, expected_step, table_step, can_end}
 use Rattle.litmus_table.specs.Laws.{then_on, run_table, steps_of, AreMarks, IsNoted, AreNoted, label_marks as marks_of}
 use Rattle.litmus_table.proofs.Cells.{stand, run_from, Adds, adds_none, adds_both, cell_run}
 use Rattle.litmus_table.proofs.Finishes.{separator}

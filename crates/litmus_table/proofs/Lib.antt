@@ -3,7 +3,6 @@ pub mod Complete
 pub mod Finishes
 pub mod First
 pub mod Labels
-pub mod Operands
 pub mod Places
 pub mod Rules
 pub mod Sound

@@ -9,12 +9,12 @@ use Rattle.text_values.specs.declared.instruction.Instruction.{Instruction}
 use Rattle.text_values.specs.declared.instruction.Instruction.TheVariants as instructions
 use Rattle.text_values.specs.declared.test.Step.{Step}
 use Rattle.text_values.specs.declared.test.Step.TheVariants as steps
-use Rattle.litmus_table.specs.declared.opcode.Opcode.{Opcode}
-use Rattle.litmus_table.specs.declared.opcode.Opcode.TheVariants as opcodes
-use Rattle.litmus_table.specs.declared.opcode.Want.{Want}
+use Rattle.litmus_words.specs.declared.opcode.Opcode.{Opcode}
+use Rattle.litmus_words.specs.declared.opcode.Opcode.TheVariants as opcodes
+use Rattle.litmus_words.specs.declared.opcode.Want.{Want}
 use Rattle.litmus_table.specs.declared.late.PlacedThread.{PlacedThread}
-use Rattle.litmus_table.specs.Words.{opcode_of, branch_meaning}
-use Rattle.litmus_table.specs.Machine.{ThreadSteps, fresh, Pending, CellExpectation, Begins, Labelled, InInstruction, WantsLabel, Whole, TableState, put_at, at, finished, is_last, table_ended, operation, begin_instruction, cell, first_of, goes_on, operand, pending_after, target_read, expected_step, instruction_of}
+use Rattle.litmus_words.specs.Words.{opcode_of, branch_meaning}
+use Rattle.litmus_words.specs.Machine.{ThreadSteps, fresh, Pending, CellExpectation, Begins, Labelled, InInstruction, WantsLabel, Whole, TableState, put_at, at, finished, is_last, table_ended, operation, begin_instruction, cell, first_of, goes_on, operand, pending_after, target_read, expected_step, instruction_of}
 use Rattle.litmus_table.specs.Reading.{thread_of, threads_of}
 use Rattle.litmus_table.specs.Bounds.{AllAtMost, AreThreadsUpTo}
 

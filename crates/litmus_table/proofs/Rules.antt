@@ -16,11 +16,11 @@ use Rattle.litmus_tokens.specs.declared.token.Mark.TheVariants as marks
 use Rattle.litmus_tokens.specs.Stage.{part_rule}
 use Rattle.litmus_tokens.specs.Words.{is_filter, is_register, is_int, ends_table}
 use Rattle.litmus_tokens.specs.Faults.{Ruling, Always, Where, RulingSays, cell_ruling}
-use Rattle.litmus_table.specs.declared.opcode.DataOpcode.{DataOpcode}
-use Rattle.litmus_table.specs.declared.opcode.Want.{Want}
-use Rattle.litmus_table.specs.declared.opcode.Want.TheVariants as wants
-use Rattle.litmus_table.specs.Words.{opcode_of, computing_of, accessing_of, fence_of, branch_of, token_fits}
-use Rattle.litmus_table.specs.Machine.{ThreadSteps, Pending, CellExpectation, Begins, Labelled, InInstruction, WantsLabel, Whole, TableState, first_of, pending_with, at, is_last, operation, operand, table_step, is_row_start, is_begin, can_end, wanted, is_base, is_zero, separator_rule, table_rule_at}
+use Rattle.litmus_words.specs.declared.opcode.DataOpcode.{DataOpcode}
+use Rattle.litmus_words.specs.declared.opcode.Want.{Want}
+use Rattle.litmus_words.specs.declared.opcode.Want.TheVariants as wants
+use Rattle.litmus_words.specs.Words.{opcode_of, computing_of, accessing_of, fence_of, branch_of, token_fits}
+use Rattle.litmus_words.specs.Machine.{ThreadSteps, Pending, CellExpectation, Begins, Labelled, InInstruction, WantsLabel, Whole, TableState, first_of, pending_with, at, is_last, operation, operand, table_step, is_row_start, is_begin, can_end, wanted, is_base, is_zero, separator_rule, table_rule_at}
 use Rattle.litmus_table.specs.Laws.{is_whole_table, is_taken, ends_at, stands, IsInCell, GivesRules}
 use Rattle.litmus_tokens.specs.Texts.{begins_tail, is_end}
 

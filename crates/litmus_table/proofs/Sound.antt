@@ -11,13 +11,13 @@ use Rattle.litmus_tokens.specs.Texts as texts
 use Rattle.litmus_tokens.specs.Texts.{test_tokens_of}
 use Rattle.text_values.specs.declared.instruction.BranchCondition.{BranchCondition}
 use Rattle.text_values.specs.declared.test.Step.{Step}
-use Rattle.litmus_table.specs.declared.opcode.DataOpcode.{DataOpcode}
-use Rattle.litmus_table.specs.declared.opcode.Opcode.{Opcode}
-use Rattle.litmus_table.specs.declared.opcode.Opcode.TheVariants as opcodes
-use Rattle.litmus_table.specs.declared.opcode.Want.{Want}
-use Rattle.litmus_table.specs.Words.{opcode_of, token_fits, all_fit}
+use Rattle.litmus_words.specs.declared.opcode.DataOpcode.{DataOpcode}
+use Rattle.litmus_words.specs.declared.opcode.Opcode.{Opcode}
+use Rattle.litmus_words.specs.declared.opcode.Opcode.TheVariants as opcodes
+use Rattle.litmus_words.specs.declared.opcode.Want.{Want}
+use Rattle.litmus_words.specs.Words.{opcode_of, token_fits, all_fit}
 use Rattle.litmus_table.specs.Grammar.{InstructionTree, CellTree, RowTree, spelled_instruction, spelled_cell, spelled_cells, spelled_rows, spelled_steps, IsInstruction, AreCells, AreRowTrees}
-use Rattle.litmus_table.specs.Machine.{ThreadSteps, fresh, first_of, pending_after, Pending, CellExpectation, Begins, Labelled, InInstruction, WantsLabel, Whole, TableState, pending_with, put_at, at, is_last, table_ended, operation, begin_instruction, cell, goes_on, operand, target_read, expected_step, table_step, is_row_start, can_end, is_begin}
+use Rattle.litmus_words.specs.Machine.{ThreadSteps, fresh, first_of, pending_after, Pending, CellExpectation, Begins, Labelled, InInstruction, WantsLabel, Whole, TableState, pending_with, put_at, at, is_last, table_ended, operation, begin_instruction, cell, goes_on, operand, target_read, expected_step, table_step, is_row_start, can_end, is_begin}
 use Rattle.litmus_table.specs.Laws.{IsTable, IsThread, then_on, run_table, columns, is_whole_table}
 
 -- ---- what is left of a cell, before its tail

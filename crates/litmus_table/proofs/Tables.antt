@@ -8,8 +8,8 @@ use Rattle.litmus_tokens.specs.Faults.{Begins}
 use Rattle.text_values.specs.declared.test.Step.{Step}
 use Rattle.litmus_table.specs.Grammar.{spelled_rows, spelled_thread, columns_meaning, cells_steps, column}
 use Rattle.litmus_table.specs.Late.{column_notes, columns_notes}
-use Rattle.litmus_table.specs.Machine.{ThreadSteps, fresh, TableState, widened, table_step}
-use Rattle.litmus_table.specs.Machine as machine
+use Rattle.litmus_words.specs.Machine.{ThreadSteps, fresh, TableState, widened, table_step}
+use Rattle.litmus_words.specs.Machine as machine
 use Rattle.litmus_table.specs.Laws.{IsTable, IsThread, then_on, run_table, columns, TakesAll, TakesRows, TakesCells, AreNoted}
 use Rattle.litmus_table.proofs.Cells.{stand}
 use Rattle.litmus_table.proofs.Complete.{runs, freshes, rows_steps, rows_steps-column, gathered, fresh_steps, table_run, thread_run, Bytes, run_is, byte_at, tokens-append, stands_at, byte_there}

@@ -2,7 +2,7 @@
 use Rattle.std.proofs.Common.{◌≡◌, ℕ, zero, suc, ◌<◌, ◌≤◌, List, [], ◌∷◌, length, get_or, set, refl, ap, arith}
 use Rattle.text_values.specs.declared.test.Step.{Step}
 use Rattle.litmus_table.specs.declared.late.PlacedThread.{PlacedThread}
-use Rattle.litmus_table.specs.Machine.{ThreadSteps, noted, put_at}
+use Rattle.litmus_words.specs.Machine.{ThreadSteps, noted, put_at}
 use Rattle.litmus_table.specs.Reading.{thread_of, threads_of}
 
 pub put_is : (ts : List PlacedThread) (k : ℕ) (s : Step) (p : ℕ) (t d : PlacedThread)

@@ -5,12 +5,12 @@ use Rattle.std.proofs.lemmas.Bool.{and_parts}
 use Rattle.litmus_tokens.specs.declared.token.Token.{Token}
 use Rattle.litmus_tokens.specs.declared.token.Token.TheVariants as tokens
 use Rattle.litmus_tokens.specs.Words.{decimal, signed}
-use Rattle.litmus_table.specs.declared.opcode.DataOpcode.{DataOpcode}
-use Rattle.litmus_table.specs.declared.opcode.DataOpcode.TheVariants as data_opcodes
-use Rattle.litmus_table.specs.declared.opcode.Want.{Want}
-use Rattle.litmus_table.specs.declared.opcode.Want.TheVariants as wants
-use Rattle.litmus_table.specs.Words.{data_form, token_fits, all_fit, registers, immediate}
-use Rattle.litmus_table.specs.Machine.{registers_with, or_value, value_with}
+use Rattle.litmus_words.specs.declared.opcode.DataOpcode.{DataOpcode}
+use Rattle.litmus_words.specs.declared.opcode.DataOpcode.TheVariants as data_opcodes
+use Rattle.litmus_words.specs.declared.opcode.Want.{Want}
+use Rattle.litmus_words.specs.declared.opcode.Want.TheVariants as wants
+use Rattle.litmus_words.specs.Words.{data_form, token_fits, all_fit, registers, immediate}
+use Rattle.litmus_words.specs.Machine.{registers_with, or_value, value_with}
 
 pub registers-with : (t : Token) (ts : List Token) (rs : List ℕ)
     → registers_with t rs ++ registers ts ≡ rs ++ registers (t ∷ ts)

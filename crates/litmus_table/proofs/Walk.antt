@@ -7,7 +7,7 @@ use Rattle.litmus_table.specs.declared.late.PlacedThread.{PlacedThread}
 use Rattle.litmus_table.specs.Checks.{first_from, first_fault, IsFoundAt}
 use Rattle.litmus_table.specs.Late.{Late, Note, or_else, late_notes, first_late}
 use Rattle.litmus_table.specs.Laws.{AreNoted}
-use Rattle.litmus_table.specs.Machine.{ThreadSteps}
+use Rattle.litmus_words.specs.Machine.{ThreadSteps}
 use Rattle.litmus_table.specs.Reading.{thread_of, threads_of}
 use Rattle.litmus_table.proofs.Labels.{late_found}
 

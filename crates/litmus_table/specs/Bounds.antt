@@ -1,7 +1,7 @@
 -- Where the parts of a table stand that a later check may blame.
 use Rattle.std.specs.Prelude.{ℕ, ◌<◌, ◌≤◌, List, [], ◌∷◌, length, slice_index, Option, Some, None}
 use Rattle.litmus_table.specs.declared.late.LateFault.{LateFault}
-use Rattle.litmus_table.specs.Machine.{ThreadSteps}
+use Rattle.litmus_words.specs.Machine.{ThreadSteps}
 
 abbrev pub AllAtMost : ℕ → List ℕ → Type 0
 AllAtMost n offsets = (k : ℕ) → k < length offsets → slice_index offsets k ≤ n

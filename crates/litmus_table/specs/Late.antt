@@ -7,9 +7,9 @@ use Rattle.litmus_tokens.specs.declared.rule.LitmusRule.TheVariants as rules
 use Rattle.litmus_tokens.specs.declared.token.Token.{Token}
 use Rattle.litmus_tokens.specs.declared.token.Token.TheVariants as tokens
 use Rattle.litmus_tokens.specs.declared.token.Mark.TheVariants.{Semicolon, Bar}
-use Rattle.litmus_table.specs.declared.opcode.Opcode.{Opcode}
-use Rattle.litmus_table.specs.declared.opcode.Opcode.TheVariants as opcodes
-use Rattle.litmus_table.specs.Words.{opcode_of, target_label}
+use Rattle.litmus_words.specs.declared.opcode.Opcode.{Opcode}
+use Rattle.litmus_words.specs.declared.opcode.Opcode.TheVariants as opcodes
+use Rattle.litmus_words.specs.Words.{opcode_of, target_label}
 use Rattle.litmus_table.specs.Grammar.{InstructionTree, CellTree, RowTree, spelled_label, spelled_cell, spelled_rows}
 
 -- a fault, and the tokens before the one that it stands at

@@ -12,7 +12,7 @@ use Rattle.text_values.specs.declared.test.Step.{Step}
 use Rattle.text_values.specs.declared.test.Step.TheVariants as steps
 use Rattle.litmus_table.specs.Grammar.{RowTree, ThreadTree, spelled_rows, spelled_thread, AreCells, AreRowTrees, columns_meaning, thread_meaning}
 use Rattle.litmus_table.specs.Late.{Note, Defines, Branches, thread_notes, columns_notes}
-use Rattle.litmus_table.specs.Machine.{ThreadSteps, TableState, table_start, widened, table_step, is_row_start, can_end, table_rule_at}
+use Rattle.litmus_words.specs.Machine.{ThreadSteps, TableState, table_start, widened, table_step, is_row_start, can_end, table_rule_at}
 
 -- ---- tables and threads on lists of tokens
 

@@ -1,15 +1,13 @@
 -- What the reader holds of a table, as the machine sees it.
-use Rattle.std.specs.Prelude.{◌≡◌, List, [], ◌∷◌, map, drop, Option, Some, None, Result, Ok, Err}
+use Rattle.std.specs.Prelude.{◌≡◌, List, [], ◌∷◌, map, Option, Some, Result, Ok, Err}
 use Rattle.litmus_tokens.specs.declared.step.StepError.{StepError}
-use Rattle.litmus_tokens.specs.declared.step.StepError.TheVariants as errors
 use Rattle.text_values.specs.declared.test.Step.{Step}
 use Rattle.litmus_table.specs.declared.late.PlacedThread.{PlacedThread}
-use Rattle.litmus_table.specs.declared.operand.Pending as code_pending
 use Rattle.litmus_table.specs.declared.table.Cell.{Cell}
 use Rattle.litmus_table.specs.declared.table.Cell.TheVariants as cells
 use Rattle.litmus_table.specs.declared.table.Table.{Table}
-use Rattle.litmus_table.specs.Words.{data_form}
-use Rattle.litmus_table.specs.Machine as machine
+use Rattle.litmus_words.specs.Machine as machine
+use Rattle.litmus_words.specs.Taking.{RefusesStep, pending_of}
 
 abbrev pub thread_of : PlacedThread → machine.ThreadSteps
 thread_of t = record { steps = t.steps.items; offsets = t.offsets.items }
@@ -21,15 +19,6 @@ threads_of ts = map thread_of ts
 abbrev pub first_steps : List machine.ThreadSteps → List Step
 first_steps [] = []
 first_steps (t ∷ ts) = t.steps
-
-abbrev pub pending_of : code_pending.Pending → machine.Pending
-pending_of p =
-    record {
-      opcode = p.opcode;
-      wants = drop p.read_count (data_form p.opcode);
-      registers = p.registers.items;
-      value = p.value;
-    }
 
 abbrev pub cell_expectation_of : Cell → machine.CellExpectation
 cell_expectation_of cells.Begins = machine.Begins
@@ -47,15 +36,6 @@ table_state_of t =
     }
 
 -- What a function returned, seen by view, is what the machine does, unless memory ran out.
-abbrev pub RefusesStep : {Y : Type 0} → StepError → Option Y → Type 0
-RefusesStep errors.OutOfMemory made = Unit {0}
-RefusesStep errors.Refused made = made ≡ None
-
-abbrev pub TakesCell : Result (Unit {0}) StepError → code_pending.Pending → Option machine.Pending
-    → Type 0
-TakesCell (Ok u) p made = made ≡ Some (pending_of p)
-TakesCell (Err e) p made = RefusesStep e made
-
 abbrev pub TableSteps : Result (Unit {0}) StepError → Table → Option machine.TableState → Type 0
 TableSteps (Ok u) t made = made ≡ Some (table_state_of t)
 TableSteps (Err e) t made = RefusesStep e made

@@ -6,7 +6,7 @@ ghost use Rattle.std.specs.Cmp.Lexicographic.{slice_cmp};
 ghost use Rattle.std.specs.BTreeMap.{get_by};
 ghost use Rattle.text_values.specs.declared.test.Step as declared_step;
 ghost use Rattle.litmus_table.specs.Checks.{AreFirst, first_from, label_rule, target_rule, instruction_rule, step_rule, first_fault};
-ghost use Rattle.litmus_table.specs.Machine.{fresh, noted};
+ghost use Rattle.litmus_words.specs.Machine.{fresh, noted};
 ghost use Rattle.litmus_table.specs.Reading.{thread_of};
 ghost use Rattle.litmus_table.specs.Bounds.{AllAtMost, IsFoundWithin};
 

@@ -4,7 +4,7 @@ ghost use Rattle.std.specs.Prelude.{◌≡◌, ◌↔◌, ℕ, List, Some, None,
 ghost use Rattle.litmus_tokens.specs.declared.token.Token.{Token};
 ghost use Rattle.litmus_tokens.specs.Texts.{TokenAt, test_tokens_of, begins_tail};
 ghost use Rattle.litmus_tokens.specs.Faults.{Begins};
-ghost use Rattle.litmus_table.specs.Machine.{TableState, table_step, is_row_start};
+ghost use Rattle.litmus_words.specs.Machine.{TableState, table_step, is_row_start};
 ghost use Rattle.litmus_table.specs.Laws.{IsTable, IsThread, run_table, columns, TakesAll, FinishesTable, TakesRows, TakesCells, is_whole_table, GivesRules};
 
 /// Token by token, the reader takes the rows of tables and nothing else, and keeps what they mean.

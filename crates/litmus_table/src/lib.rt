@@ -5,10 +5,8 @@
 
 mod late;
 pub mod laws;
-mod opcode;
-mod operand;
 mod table;
 
 pub use late::LateFault;
-pub use opcode::{DataOpcode, Opcode, Want};
+pub use litmus_words::{DataOpcode, Opcode, Want};
 pub use table::Table;

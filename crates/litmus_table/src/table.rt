@@ -1,7 +1,7 @@
 //! Reads the table of threads.
 
 ghost use Rattle.std.specs.Prelude.{◌≡◌, ◌≤◌, ℕ, List, map, length, IfOk, OnOk};
-ghost use Rattle.litmus_table.specs.Machine.{table_start, put_at, is_last, table_ended, operation, begin_instruction, cell, target_read, finished, table_step, widened, name_thread, is_begin, is_row_start, can_end, wanted, rule_of_word, separator_rule, table_rule_at};
+ghost use Rattle.litmus_words.specs.Machine.{table_start, put_at, is_last, table_ended, operation, begin_instruction, cell, target_read, finished, table_step, widened, name_thread, is_begin, is_row_start, can_end, wanted, rule_of_word, separator_rule, table_rule_at};
 ghost use Rattle.litmus_tokens.specs.Texts.{TokenAt};
 ghost use Rattle.litmus_table.specs.Checks.{IsFoundAt};
 ghost use Rattle.litmus_table.specs.Late.{Note, first_late};
@@ -10,9 +10,8 @@ ghost use Rattle.litmus_table.specs.Bounds.{AreThreadsUpTo, IsFoundWithin};
 ghost use Rattle.litmus_table.specs.Reading.{threads_of, cell_expectation_of, table_state_of, first_steps, TableSteps};
 
 use crate::late::{LateFault, PlacedThread};
-use crate::opcode::{Opcode, Want, opcode_of};
-use crate::operand::{Pending, is_int, is_register};
 use litmus_tokens::{LitmusRule, Mark, StepError, Token, is_column, is_filter};
+use litmus_words::{Opcode, Pending, Want, is_int, is_register, opcode_of};
 use std::alloc::{AllocError, Global};
 use text_values::{BranchCondition, Instruction, Step, Thread};
 

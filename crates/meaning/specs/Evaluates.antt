@@ -1,8 +1,8 @@
 -- What a test says under a model: `Evaluates`. Read before it, in this order: Sets, Names, Machine,
 -- Runs, Domain, Dependencies, Executions, Predefined, Cat, Faults, Refusals, Outcome.
 use Rattle.std.specs.Prelude.{ℕ, ◌≡◌, List, [], ◌∷◌, map, reverse}
-use Rattle.text_values.specs.declared.predefined.Predefined.{Predefined}
-use Rattle.text_values.specs.PredefinedNames.{spelling, is_set}
+use Rattle.predefined_names.specs.declared.predefined.Predefined.{Predefined}
+use Rattle.predefined_names.specs.PredefinedNames.{spelling, is_set}
 use Rattle.text_values.specs.TestValue.{Content}
 use Rattle.text_values.specs.ModelValue.{Clause}
 use Rattle.meaning.specs.Executions.{Event, Execution, IsExecution, IsEvent}

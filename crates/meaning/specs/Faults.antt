@@ -7,8 +7,8 @@ use Rattle.text_values.specs.declared.model.CheckWord.{CheckWord}
 use Rattle.text_values.specs.declared.model.CheckWord.TheVariants.{Empty}
 use Rattle.text_values.specs.declared.model.Infix.{Infix}
 use Rattle.text_values.specs.declared.model.Infix.TheVariants.{Sequence, Difference, Product}
-use Rattle.text_values.specs.declared.predefined.Predefined.{Predefined}
-use Rattle.text_values.specs.PredefinedNames as predefined
+use Rattle.predefined_names.specs.declared.predefined.Predefined.{Predefined}
+use Rattle.predefined_names.specs.PredefinedNames as predefined
 use Rattle.text_values.specs.ModelValue.{Term, Terms, Atom, AllEvents, EmptyRelation, EmptySet, Join, Mark, Not, On, Apply, NoTerm, OneMore, Checked, Clause, Binding, Function, Checking, Flagging}
 use Rattle.meaning.specs.Names.{Name}
 use Rattle.meaning.specs.Predefined.{predefined_names}

@@ -3,8 +3,8 @@
 use Rattle.std.specs.Prelude.{◌≡◌, ◌⊎◌, List, [], ◌∷◌}
 use Rattle.text_values.specs.declared.instruction.Fence as kinds
 use Rattle.text_values.specs.declared.instruction.Fence.TheVariants.{Sync, LightweightSync, Eieio, Isync}
-use Rattle.text_values.specs.declared.predefined.Predefined.{Predefined}
-use Rattle.text_values.specs.declared.predefined.Predefined.TheVariants as names
+use Rattle.predefined_names.specs.declared.predefined.Predefined.{Predefined}
+use Rattle.predefined_names.specs.declared.predefined.Predefined.TheVariants as names
 use Rattle.text_values.specs.TestValue.{Content}
 use Rattle.meaning.specs.Sets.{Set, Relation, Union, Intersection, Complement, Identity, Inverse, Sequence}
 use Rattle.meaning.specs.Names.{Name}

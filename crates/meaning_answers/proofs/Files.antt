@@ -9,7 +9,7 @@ use Rattle.outcome_texts.specs.Columns.{Row}
 use Rattle.command_answers.specs.declared.file.TextFile.{TextFile}
 use Rattle.command_answers.specs.declared.reading.NamedModel.{NamedModel}
 use Rattle.command_answers.specs.Reports.{AddsTest, IsTestAdded, IsTestFault, AreTests, NoTest, NextTest, IsCellUnder, IsReportRow, AreFilesRead}
-use Rattle.meaning_words.specs.Words.{IsTestOfWords}
+use Rattle.meaning_laws.specs.Words.{IsTestOfWords}
 use Rattle.meaning_texts.proofs.Reading.{all_read}
 use Rattle.meaning_answers.specs.Files.{IsCellOfFiles, IsRowOfFiles, AreFilesSaid, TablesAreSaid, DifferencesAreSaid}
 use Rattle.meaning_answers.proofs.Saying.{Laws, outcome_said}

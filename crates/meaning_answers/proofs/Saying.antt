@@ -6,11 +6,11 @@ use Rattle.text_values.specs.declared.test.Test.{Test}
 use Rattle.text_values.specs.ModelValue.{Clause}
 use Rattle.text_values.specs.ModelValues.{clauses_of}
 use Rattle.text_values.specs.TestValue.{Content, content_of}
-use Rattle.verdict.specs.declared.answer.Evaluation.{Evaluation}
-use Rattle.verdict.specs.declared.answer.Outcome.{Outcome}
-use Rattle.verdict.specs.declared.answer.OutcomeResult.{OutcomeResult}
-use Rattle.verdict.specs.declared.answer.OutcomeResult.TheVariants as results
-use Rattle.verdict.specs.declared.answer.Refusal.TheVariants as reasons
+use Rattle.outcome_states.specs.declared.answer.Evaluation.{Evaluation}
+use Rattle.outcome_states.specs.declared.answer.Outcome.{Outcome}
+use Rattle.outcome_states.specs.declared.answer.OutcomeResult.{OutcomeResult}
+use Rattle.outcome_states.specs.declared.answer.OutcomeResult.TheVariants as results
+use Rattle.outcome_states.specs.declared.answer.Refusal.TheVariants as reasons
 use Rattle.from_scratch.specs.FromScratch.{IsFaultless, IsFromScratch, IsEvaluationOf, IsResultOf}
 use Rattle.bench_texts.specs.BenchTexts.{PlainModel}
 use Rattle.session_answers.specs.Cells.{IsPlainOutcome}
@@ -18,7 +18,7 @@ use Rattle.command_line.specs.declared.fault.SessionFault.{SessionFault}
 use Rattle.command_line.specs.declared.fault.SessionFault.TheVariants as session_faults
 use Rattle.command_answers.specs.Answer.{IsEvalLog, IsEvalAnswer, IsEvaluated, RefusesModel, RefusesTest, IsEvalWritten, IsWrittenOf, IsStreamed}
 use Rattle.command_answers.specs.Made.{IsAnswerWritten}
-use Rattle.meaning_words.specs.Words.{IsTestOfWords}
+use Rattle.meaning_laws.specs.Words.{IsTestOfWords}
 use Rattle.meaning_texts.proofs.Reading.{all_read}
 use Rattle.meaning_states.specs.Texts.{IsPrinted, StatesArePrinted}
 use Rattle.meaning_outcomes.specs.Outcomes.{TestsOfWordsAreMeant}

@@ -20,7 +20,7 @@ use Rattle.session_answers.specs.Rows.{pair_in}
 use Rattle.session_answers.specs.Sessions.{IsRequestAnswer, IsCommandAnswer, IsOutput, Nothing, OneMore}
 use Rattle.session_script.specs.declared.command.Command.{Command}
 use Rattle.session_script.specs.declared.command.Command.TheVariants as commands
-use Rattle.meaning_words.specs.Words.{IsTestOfWords}
+use Rattle.meaning_laws.specs.Words.{IsTestOfWords}
 use Rattle.meaning_edits.specs.Edits.{AreTextsOfWords}
 use Rattle.meaning_edits.proofs.Edited.{held_at, keeps_words}
 use Rattle.meaning_answers.specs.Replies as said_so

@@ -1,6 +1,6 @@
 -- What is printed of a model's text and a test's text, by the definitions of `meaning`. Read before
 -- it: `Evaluates` of `meaning/specs`, and `Log` of `outcome_texts/specs` for the lines of a log.
--- Read next: Texts.
+-- Read next: Replies, Files.
 use Rattle.std.specs.Prelude.{◌≡◌, ℕ, List, Bool, true, false, Option, Result, Ok, Err, IfSome, All}
 use Rattle.std.specs.Io.KnownBytes.{Keeps}
 use Rattle.text_values.specs.TestValue.{Content}
@@ -13,9 +13,9 @@ use Rattle.cat_tokens.specs.declared.rule.CatRule.{CatRule}
 use Rattle.cat_tokens.specs.Tokens.{digits_number as model_rule_number}
 use Rattle.cat_grammar.specs.declared.form.Form.TheVariants.{Model}
 use Rattle.cat_grammar.specs.Reads.{ReadsClauses}
-use Rattle.verdict.specs.declared.answer.Outcome.{Outcome}
-use Rattle.verdict.specs.declared.answer.OutcomeResult.{OutcomeResult}
-use Rattle.verdict.specs.declared.answer.OutcomeResult.TheVariants.{Refused, Evaluated}
+use Rattle.outcome_states.specs.declared.answer.Outcome.{Outcome}
+use Rattle.outcome_states.specs.declared.answer.OutcomeResult.{OutcomeResult}
+use Rattle.outcome_states.specs.declared.answer.OutcomeResult.TheVariants.{Refused, Evaluated}
 use Rattle.outcome_texts.specs.Log.{log_of}
 use Rattle.command_line.specs.declared.fault.SessionFault.{SessionFault}
 use Rattle.command_line.specs.declared.fault.SessionFault.TheVariants as session_faults

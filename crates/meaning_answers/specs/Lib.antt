@@ -1,3 +1,10 @@
 pub mod Answers
-pub mod Replies
+pub mod DrawingAnswers
+pub mod Drawings
 pub mod Files
+pub mod Findings
+pub mod Graphs
+pub mod Readings
+pub mod ReasonAnswers
+pub mod Replies
+pub mod Told

@@ -1,7 +1,13 @@
 //! What the program prints, by the definitions of `meaning`: the log that `eval` writes is that of
 //! what the test says under the model, and so are the outcomes in a session's answers. Read in
 //! specs/: Answers, then Replies and Files.
+//!
+//! What `why` and `draw` write has Told, Findings and ReasonAnswers, then Graphs, Drawings and
+//! DrawingAnswers. The law of tests that are read has Readings.
 #![tactic(auto)]
+
+mod readings;
+mod whys;
 
 ghost use Rattle.std.specs.Prelude.{◌≡◌, ◌<◌, ◌-◌, ◌^◌, Err, OnOk};
 ghost use Rattle.std.specs.Io.KnownBytes.{IsAtEnd};
@@ -13,6 +19,8 @@ ghost use Rattle.meaning_answers.specs.Replies.{OutputsAreSaid};
 use command_answers::{AnswerListener, ByteSink, ByteSource, NoListener, SessionFault};
 use meaning_outcomes::tests_of_words_are_meant;
 use meaning_states::states_are_printed;
+pub use readings::readings_are_meant;
+pub use whys::{draw_report, drawings_are_said, why_report, whys_agree, whys_are_said};
 
 /// Does what `command_answers::eval_stream_heard` does: the log that it writes is that of what the
 /// test says under the model.

@@ -1,6 +1,6 @@
 -- What a cell shows after events, and around an edit.
 use Rattle.std.proofs.Common.{◌≡◌, ◌↔◌, ℕ, List, Bool, IsTrue, subst}
-use Rattle.verdict.specs.declared.answer.Outcome.{Outcome}
+use Rattle.outcome_states.specs.declared.answer.Outcome.{Outcome}
 use Rattle.memo_core.specs.Run as core
 use Rattle.memo_core.specs.Run.{Step}
 use Rattle.bench_texts.specs.declared.edit.Edit.{Edit}

@@ -5,7 +5,7 @@ use Rattle.std.proofs.lemmas.Option.{slice_get-map}
 use Rattle.text_values.specs.declared.test.Test.{Test}
 use Rattle.text_values.specs.ModelValue.{Clause}
 use Rattle.text_values.specs.TestValue.{Content, content_of}
-use Rattle.verdict.specs.declared.answer.Outcome.{Outcome}
+use Rattle.outcome_states.specs.declared.answer.Outcome.{Outcome}
 use Rattle.outcome_texts.specs.Cells as shown_as
 use Rattle.outcome_texts.specs.Cells.{Cell}
 use Rattle.bench_texts.specs.declared.model.NamedModel.{NamedModel}

@@ -2,7 +2,7 @@
 -- `meaning/specs`, and `BenchTexts` of `bench_texts/specs`. Read next: Shown.
 use Rattle.std.specs.Prelude.{◌≡◌, ◌⊎◌, ℕ, List, Some, None, map}
 use Rattle.text_values.specs.TestValue.{Content}
-use Rattle.verdict.specs.declared.answer.Outcome.{Outcome}
+use Rattle.outcome_states.specs.declared.answer.Outcome.{Outcome}
 use Rattle.outcome_texts.specs.Cells.{Cell, NoCell, Open, Settled}
 use Rattle.bench_texts.specs.BenchTexts.{BenchTexts, PlainModel}
 use Rattle.session_answers.specs.Cells.{test_named, model_named}

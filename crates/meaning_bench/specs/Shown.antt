@@ -2,7 +2,7 @@
 -- (`Applies`, what an edit makes of texts) and `Slices` of `bench_slices/specs` (on what a cell
 -- depends).
 use Rattle.std.specs.Prelude.{◌≡◌, ℕ, List, [], ◌∷◌, Bool, false, IsTrue, Ok}
-use Rattle.verdict.specs.declared.answer.Outcome.{Outcome}
+use Rattle.outcome_states.specs.declared.answer.Outcome.{Outcome}
 use Rattle.outcome_texts.specs.Cells as shown_as
 use Rattle.outcome_texts.specs.Cells.{Cell}
 use Rattle.bench_texts.specs.declared.edit.Edit as code

@@ -11,7 +11,7 @@ use Rattle.text_values.specs.declared.test.Step.{Step}
 use Rattle.text_values.specs.TestValue.{Content, Formula}
 use Rattle.bench_texts.specs.BenchTexts.{BenchTexts, put_at, changed_at, with_init, with_thread, with_condition, with_observed, test_index}
 use Rattle.bench_texts.specs.Edits.{Edit, PutTest, DropTest, SetInit, SetThread, SetCond, SetLocations, PutModel, DropModel, SetItem, InsertItem, RemoveItem, EditMakes, thread_count}
-use Rattle.meaning_words.specs.Words.{IsStepOfWords, IsFormulaOfWords, IsTestOfWords}
+use Rattle.meaning_laws.specs.Words.{IsStepOfWords, IsFormulaOfWords, IsTestOfWords}
 use Rattle.meaning_texts.proofs.Reading.{all_read}
 use Rattle.meaning_edits.specs.Edits.{AreTextsOfWords, EditsKeepWords}
 use Rattle.meaning_edits.proofs.Parts.{AreEntriesOfWords, init_of_words, thread_of_words, condition_of_words}

@@ -12,7 +12,7 @@ use Rattle.board.specs.declared.operation.BoardOp.TheVariants.{Edit, Settle}
 use Rattle.board.specs.Histories.{contents_with, IsMadeOn, AreMadeFrom}
 use Rattle.board.specs.Legal.{texts_after}
 use Rattle.board.proofs.Histories.{contents_are_those}
-use Rattle.meaning_words.specs.Words.{IsTestOfWords}
+use Rattle.meaning_laws.specs.Words.{IsTestOfWords}
 use Rattle.meaning_outcomes.specs.Outcomes.{FromScratchIsMeant, TestsOfWordsAreMeant}
 use Rattle.meaning_edits.specs.Boards.{BoardsAreMeant}
 use Rattle.meaning_edits.specs.Edits.{AreTextsOfWords, HistoriesAreOfWords, TestsAreMeantAfter, HistoriesAreMeant}

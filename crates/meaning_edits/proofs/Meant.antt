@@ -11,7 +11,7 @@ use Rattle.board.specs.Contents.{cell_named}
 use Rattle.board.specs.Operations.{board_after}
 use Rattle.board.specs.Legal.{TestsAndModels, texts_after}
 use Rattle.board.specs.Results.{IsRightCell}
-use Rattle.meaning_words.specs.Words.{IsTestOfWords}
+use Rattle.meaning_laws.specs.Words.{IsTestOfWords}
 use Rattle.meaning_outcomes.proofs.Meant.{all_meant}
 use Rattle.meaning_edits.specs.Boards.{AreTestsOfWords, IsMeantCell, BoardsAreMeant}
 

@@ -8,7 +8,7 @@ use Rattle.text_values.specs.TestValue.{Formula}
 use Rattle.litmus_table.specs.Grammar.{thread_meaning}
 use Rattle.litmus_grammar.specs.Grammar.{members}
 use Rattle.litmus_grammar.specs.Texts.{ReadsInit, ReadsThread, ReadsCondition}
-use Rattle.meaning_words.specs.Words.{IsWrittenWord, IsStepOfWords, IsFormulaOfWords}
+use Rattle.meaning_laws.specs.Words.{IsWrittenWord, IsStepOfWords, IsFormulaOfWords}
 use Rattle.meaning_texts.proofs.Reading.{entries_fit, cells_fit, formula_fits}
 
 abbrev pub AreEntriesOfWords : List InitEntry → Type 0

@@ -2,7 +2,7 @@
 use Rattle.std.specs.Prelude.{◌≡◌, ℕ, List, Some, All}
 use Rattle.text_values.specs.declared.test.Test.{Test}
 use Rattle.text_values.specs.TestValue.{content_of}
-use Rattle.verdict.specs.declared.answer.Outcome.{Outcome}
+use Rattle.outcome_states.specs.declared.answer.Outcome.{Outcome}
 use Rattle.outcome_texts.specs.Cells.{Cell, NoCell, Open, Settled}
 use Rattle.bench_texts.specs.declared.model.NamedModel.{NamedModel}
 use Rattle.board.specs.declared.operation.BoardOp.{BoardOp}
@@ -10,7 +10,7 @@ use Rattle.board.specs.Contents.{cell_named}
 use Rattle.board.specs.Operations.{board_after}
 use Rattle.board.specs.Legal.{TestsAndModels, texts_after}
 use Rattle.board.specs.Results.{test_by_name, model_by_name, HasBoth, LacksOne, ShowsRightCells}
-use Rattle.meaning_words.specs.Words.{IsTestOfWords}
+use Rattle.meaning_laws.specs.Words.{IsTestOfWords}
 use Rattle.meaning_outcomes.specs.Outcomes.{IsMeant}
 
 -- The tests write numbers of 32 bits, as each test does that a text means.

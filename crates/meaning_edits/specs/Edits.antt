@@ -6,7 +6,7 @@ use Rattle.board.specs.declared.operation.BoardOp.{BoardOp}
 use Rattle.board.specs.Histories.{AreEditsMade}
 use Rattle.board.specs.Legal.{texts_after}
 use Rattle.board.specs.Results.{ShowsRightCells}
-use Rattle.meaning_words.specs.Words.{IsTestOfWords}
+use Rattle.meaning_laws.specs.Words.{IsTestOfWords}
 use Rattle.meaning_outcomes.specs.Outcomes.{FromScratchIsMeant}
 use Rattle.meaning_edits.specs.Boards.{AreTestsOfWords, ShowsMeantCells}
 

@@ -13,10 +13,10 @@ use Rattle.thread_runs.specs.declared.instruction.RunStep.{RunStep}
 use Rattle.thread_runs.specs.declared.instruction.Event as run_events
 use Rattle.thread_runs.specs.declared.instruction.Event.TheVariants as run_event
 use Rattle.thread_runs.specs.Runs as by_number
-use Rattle.run_combinations.specs.declared.combination.Action.TheVariants as actions
-use Rattle.run_combinations.specs.declared.combination.Event as numbered_event
-use Rattle.run_combinations.specs.Events as numbered
-use Rattle.run_combinations.specs.Events.{action_in, with_action, thread_events, initial_stores}
+use Rattle.store_orders.specs.declared.combination.Action.TheVariants as actions
+use Rattle.store_orders.specs.declared.combination.Event as numbered_event
+use Rattle.store_orders.specs.Events as numbered
+use Rattle.store_orders.specs.Events.{action_in, with_action, thread_events, initial_stores}
 use Rattle.candidates.specs.Executions as candidates
 use Rattle.meaning.specs.Names.{Name, locations}
 use Rattle.meaning.specs.Machine.{Value, Address, address_of, is_load, is_store, is_fence}

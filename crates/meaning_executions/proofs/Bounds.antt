@@ -12,9 +12,9 @@ use Rattle.thread_runs.specs.Runs as by_number
 use Rattle.thread_runs.specs.Runs.{Thread, IsLess}
 use Rattle.thread_runs.specs.AllRuns.{thread_of}
 use Rattle.thread_runs.specs.FreeRuns as numbered
-use Rattle.ppc_semantics.specs.Domain as program
-use Rattle.ppc_semantics.specs.Domain.{InDomainAt, IsDomainAt, IsBoundedRound, threads_of}
-use Rattle.ppc_semantics.specs.Lowering.{IsProgram}
+use Rattle.ppc_lowering.specs.Domain as program
+use Rattle.ppc_lowering.specs.Domain.{InDomainAt, IsDomainAt, IsBoundedRound, threads_of}
+use Rattle.ppc_lowering.specs.Lowering.{IsProgram}
 use Rattle.candidates.proofs.OneOutcome.{no_more_of}
 use Rattle.candidates.proofs.Sole.{less_apart}
 use Rattle.meaning.specs.Sets.{HasOver}

@@ -11,8 +11,8 @@ use Rattle.thread_runs.specs.declared.value.Value.{Value}
 use Rattle.thread_runs.specs.declared.instruction.Program.{Program}
 use Rattle.thread_runs.specs.Runs as by_number
 use Rattle.thread_runs.specs.Runs.{Thread, IsThreadRun, AreThreadRuns, IsLess, IsLexicallyBefore}
-use Rattle.ppc_semantics.specs.Domain.{InDomainAt, IsDomainAt, HasCombinations, load_total, threads_of}
-use Rattle.ppc_semantics.specs.Lowering.{IsProgram}
+use Rattle.ppc_lowering.specs.Domain.{InDomainAt, IsDomainAt, HasCombinations, load_total, threads_of}
+use Rattle.ppc_lowering.specs.Lowering.{IsProgram}
 use Rattle.candidates.specs.Executions as numbered
 use Rattle.candidates.specs.Executions.{product}
 use Rattle.candidates.proofs.Elements.{joined, joined_there, mapped, mapped_there}

@@ -7,18 +7,18 @@ use Rattle.text_values.specs.declared.test.Value as written
 use Rattle.text_values.specs.declared.test.Connective.{Connective}
 use Rattle.text_values.specs.declared.test.Connective.TheVariants.{And, Or, Implies}
 use Rattle.text_values.specs.TestValue.{Content, Formula, Constant, Holds, Not, Join, content_of}
-use Rattle.candidates.specs.Space.{Shown}
-use Rattle.verdict.specs.declared.answer.FinalValue.{FinalValue}
-use Rattle.verdict.specs.declared.observable.Observable.{Observable}
-use Rattle.verdict.specs.Final.{final_value, value_shown}
-use Rattle.verdict.specs.Meaning.{is_held, is_value, joined_by, known_observable, known_value, satisfies}
+use Rattle.candidate_spaces.specs.Space.{Shown}
+use Rattle.outcome_states.specs.declared.answer.FinalValue.{FinalValue}
+use Rattle.outcome_states.specs.declared.observable.Observable.{Observable}
+use Rattle.outcome_states.specs.Final.{final_value, value_shown}
+use Rattle.outcome_states.specs.Meaning.{is_held, is_value, joined_by, known_observable, known_value, satisfies}
 use Rattle.meaning.specs.Names.{Name, is_name_before, in_order, locations, locations_of_entry, locations_of_formula, locations_of_observable, locations_of_value}
 use Rattle.meaning.specs.Machine.{value_of}
 use Rattle.meaning.specs.Executions.{Execution}
 use Rattle.meaning.specs.Outcome.{EndsWith, Satisfies}
 use Rattle.meaning.proofs.Entries.{in_order_too}
 use Rattle.meaning_executions.specs.Ends.{HoldsAlike}
-use Rattle.meaning_words.specs.Words.{IsTestOfWords, IsWrittenWord, IsFormulaOfWords}
+use Rattle.meaning_laws.specs.Words.{IsTestOfWords, IsWrittenWord, IsFormulaOfWords}
 use Rattle.meaning_executions.specs.Satisfied.{IsShownAs, IsSatisfiedAlike, ConditionIsMeant}
 use Rattle.meaning_executions.proofs.Values.{held_alike}
 use Rattle.meaning_executions.proofs.Observables.{are_one_to_one, place_known, value_known, holds, held_small}

@@ -6,8 +6,8 @@ use Rattle.thread_runs.specs.declared.instruction.Instruction as numbered_instru
 use Rattle.thread_runs.specs.declared.instruction.Instruction.TheVariants as does
 use Rattle.thread_runs.specs.Runs as by_number
 use Rattle.thread_runs.specs.Runs.{executed}
-use Rattle.dataflow.specs.Chains as chains
-use Rattle.run_combinations.specs.declared.combination.Event as numbered_event
+use Rattle.taints.specs.Chains as chains
+use Rattle.store_orders.specs.declared.combination.Event as numbered_event
 use Rattle.candidates.specs.Executions as numbered
 use Rattle.candidates.specs.Executions.{IsDependency, event_number}
 use Rattle.candidates.specs.Listed.{AreDependencyPairs}

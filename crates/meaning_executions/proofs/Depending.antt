@@ -7,9 +7,9 @@ use Rattle.text_values.specs.declared.instruction.Instruction as text
 use Rattle.text_values.specs.declared.instruction.Instruction.TheVariants as does
 use Rattle.thread_runs.specs.declared.instruction.Instruction as numbered_instruction
 use Rattle.thread_runs.specs.Machine as machine
-use Rattle.ppc_semantics.specs.Lowering.{lowered_instruction}
-use Rattle.dataflow.specs.Chains as numbered
-use Rattle.dataflow.specs.Chains.{Resource}
+use Rattle.ppc_lowering.specs.Lowering.{lowered_instruction}
+use Rattle.taints.specs.Chains as numbered
+use Rattle.taints.specs.Chains.{Resource}
 use Rattle.meaning.specs.Names.{Name}
 use Rattle.meaning.specs.Machine as named
 use Rattle.meaning.specs.Dependencies as depends

@@ -11,8 +11,8 @@ use Rattle.text_values.specs.TestValue.{content_of, thread_steps}
 use Rattle.thread_runs.specs.declared.instruction.Line.{Line}
 use Rattle.thread_runs.specs.declared.instruction.Program.{Program}
 use Rattle.thread_runs.specs.Runs as by_number
-use Rattle.ppc_semantics.specs.Domain.{InDomainAt, has_load, load_total}
-use Rattle.ppc_semantics.specs.Lowering.{AreThreadLines, IsProgram, LowersTo, lowered_line}
+use Rattle.ppc_lowering.specs.Domain.{InDomainAt, has_load, load_total}
+use Rattle.ppc_lowering.specs.Lowering.{AreThreadLines, IsProgram, LowersTo, lowered_line}
 use Rattle.meaning.specs.Names.{Name, locations}
 use Rattle.meaning.specs.Machine.{is_load}
 use Rattle.meaning.specs.Runs.{Run, IsRun}

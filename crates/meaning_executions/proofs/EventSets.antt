@@ -3,12 +3,12 @@ use Rattle.std.proofs.Common.{ℕ, ◌≡◌, ◌↔◌, ◌⊎◌, inl, inr, Op
 use Rattle.std.proofs.lemmas.Option.{same_Some}
 use Rattle.text_values.specs.declared.instruction.Fence as kinds
 use Rattle.text_values.specs.declared.instruction.Fence.TheVariants.{Sync, LightweightSync, Eieio, Isync}
-use Rattle.text_values.specs.declared.predefined.Predefined.{Predefined}
-use Rattle.text_values.specs.declared.predefined.Predefined.TheVariants as names
+use Rattle.predefined_names.specs.declared.predefined.Predefined.{Predefined}
+use Rattle.predefined_names.specs.declared.predefined.Predefined.TheVariants as names
 use Rattle.text_values.specs.TestValue.{Content}
-use Rattle.run_combinations.specs.declared.combination.Action as numbered_action
-use Rattle.run_combinations.specs.declared.combination.Action.TheVariants as actions
-use Rattle.run_combinations.specs.declared.combination.Event as numbered_event
+use Rattle.store_orders.specs.declared.combination.Action as numbered_action
+use Rattle.store_orders.specs.declared.combination.Action.TheVariants as actions
+use Rattle.store_orders.specs.declared.combination.Event as numbered_event
 use Rattle.base_names.specs.Events as of
 use Rattle.base_names.specs.Events.{location_of}
 use Rattle.base_names.specs.Names.{IsIn}

@@ -4,14 +4,14 @@ use Rattle.text_values.specs.declared.test.Test.{Test}
 use Rattle.text_values.specs.TestValue.{Content, content_of}
 use Rattle.thread_runs.specs.declared.value.Value.{Value}
 use Rattle.thread_runs.specs.declared.instruction.Program.{Program}
-use Rattle.ppc_semantics.specs.Domain.{IsDomain}
-use Rattle.ppc_semantics.specs.Lowering.{IsProgram}
-use Rattle.ppc_semantics.specs.declared.fault.EvalRefusal.{EvalRefusal}
-use Rattle.ppc_semantics.specs.declared.fault.EvalRefusal.TheVariants as refused
+use Rattle.ppc_lowering.specs.Domain.{IsDomain}
+use Rattle.ppc_lowering.specs.Lowering.{IsProgram}
+use Rattle.ppc_lowering.specs.declared.fault.EvalRefusal.{EvalRefusal}
+use Rattle.ppc_lowering.specs.declared.fault.EvalRefusal.TheVariants as refused
 use Rattle.candidates.specs.Executions as numbered
 use Rattle.candidates.specs.Executions.{HasFaultedRun}
 use Rattle.candidates.specs.Listed.{AreTestExecutions, ListsExecutions, IsSpaceRefusal}
-use Rattle.candidates.specs.declared.candidate.Space.{Space}
+use Rattle.candidate_spaces.specs.declared.candidate.Space.{Space}
 use Rattle.meaning.specs.Sets.{HasOver}
 use Rattle.meaning.specs.Executions.{IsExecution}
 use Rattle.meaning.specs.Refusals.{HasFault, HasFewCombinations, HasFewExecutions, IsAccepted, IsRefusal}

@@ -13,7 +13,7 @@ use Rattle.thread_runs.specs.declared.instruction.Event as numbered_event
 use Rattle.thread_runs.specs.Machine as numbered
 use Rattle.thread_runs.specs.Runs as numbered_runs
 use Rattle.thread_runs.specs.Runs.{Walk, RunOutcome, walk_after, walk_past, Continuation, FreeNext, after_line, after_instruction, after_load, after_free_line, after_free_instruction}
-use Rattle.ppc_semantics.specs.Lowering.{lowered_instruction, lowered_line, name_index}
+use Rattle.ppc_lowering.specs.Lowering.{lowered_instruction, lowered_line, name_index}
 use Rattle.meaning.specs.Names.{Name}
 use Rattle.meaning.specs.Machine.{Value, NoValue, State, state_after, is_load, is_branch, is_fault, is_taken_in, target}
 use Rattle.meaning.specs.Runs.{Instance, Run, Rest, with_instance, end_of_run, run_with, run_from, label_after, run_of}

@@ -13,19 +13,19 @@ use Rattle.thread_runs.specs.declared.value.Value as numbered_value
 use Rattle.thread_runs.specs.declared.value.Value.TheVariants as numbers
 use Rattle.thread_runs.specs.declared.instruction.Program.{Program}
 use Rattle.thread_runs.specs.Runs as by_number
-use Rattle.ppc_semantics.specs.Lowering.{IsProgram}
-use Rattle.run_combinations.specs.declared.combination.Action as numbered_action
-use Rattle.run_combinations.specs.declared.combination.Action.TheVariants as actions
-use Rattle.run_combinations.specs.declared.combination.Event as numbered_event
+use Rattle.ppc_lowering.specs.Lowering.{IsProgram}
+use Rattle.store_orders.specs.declared.combination.Action as numbered_action
+use Rattle.store_orders.specs.declared.combination.Action.TheVariants as actions
+use Rattle.store_orders.specs.declared.combination.Event as numbered_event
 use Rattle.candidates.specs.Executions as numbered
 use Rattle.candidates.specs.Executions.{IsStoreOrder, locations_from}
 use Rattle.candidates.specs.Listed.{ShowsExecution}
-use Rattle.candidates.specs.Space.{Shown}
-use Rattle.verdict.specs.declared.observable.Observable.{Observable}
-use Rattle.verdict.specs.declared.observable.Observable.TheVariants as shown
-use Rattle.verdict.specs.Final.{final_register, final_word, final_value, value_shown, value_stored_at, value_stored_by, last_or}
-use Rattle.verdict.specs.Meaning.{known_observable, location_of}
-use Rattle.verdict.specs.Names.{is_name}
+use Rattle.candidate_spaces.specs.Space.{Shown}
+use Rattle.outcome_states.specs.declared.observable.Observable.{Observable}
+use Rattle.outcome_states.specs.declared.observable.Observable.TheVariants as shown
+use Rattle.outcome_states.specs.Final.{final_register, final_word, final_value, value_shown, value_stored_at, value_stored_by, last_or}
+use Rattle.outcome_states.specs.Meaning.{known_observable, location_of}
+use Rattle.outcome_states.specs.Names.{is_name}
 use Rattle.meaning.specs.Names.{Name, locations}
 use Rattle.meaning.specs.Machine.{Value, NoValue}
 use Rattle.meaning.specs.Runs.{Run}

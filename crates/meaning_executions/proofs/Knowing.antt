@@ -12,10 +12,10 @@ use Rattle.thread_runs.specs.declared.instruction.RunStep.{RunStep}
 use Rattle.thread_runs.specs.declared.instruction.Event as run_events
 use Rattle.thread_runs.specs.Runs as by_number
 use Rattle.thread_runs.specs.Runs.{executed}
-use Rattle.ppc_semantics.specs.Lowering.{AreInitial, IsProgram, lowered_instruction}
-use Rattle.dataflow.specs.Chains as chains
-use Rattle.run_combinations.specs.declared.combination.Event as numbered_event
-use Rattle.run_combinations.specs.Events.{initial_stores}
+use Rattle.ppc_lowering.specs.Lowering.{AreInitial, IsProgram, lowered_instruction}
+use Rattle.taints.specs.Chains as chains
+use Rattle.store_orders.specs.declared.combination.Event as numbered_event
+use Rattle.store_orders.specs.Events.{initial_stores}
 use Rattle.candidates.specs.Executions as candidates
 use Rattle.candidates.specs.Executions.{IsStoreOrder, event_number, locations_from}
 use Rattle.candidates.proofs.Elements.{in_first}

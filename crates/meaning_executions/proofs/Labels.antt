@@ -5,8 +5,8 @@ use Rattle.std.proofs.lemmas.Slice.Eq.{bytes_eq-Decides}
 use Rattle.std.proofs.lemmas.List.Concat.{flat_map-cons}
 use Rattle.text_values.specs.declared.test.Step.{Step}
 use Rattle.text_values.specs.declared.test.Step.TheVariants.{Label, Instruction}
-use Rattle.ppc_semantics.specs.Lowering.{name_cmp, name_index, labels_in}
-use Rattle.ppc_semantics.proofs.Sorting.{order, same_name}
+use Rattle.ppc_lowering.specs.Lowering.{name_cmp, name_index, labels_in}
+use Rattle.ppc_lowering.proofs.Sorting.{order, same_name}
 use Rattle.meaning.specs.Names.{Name}
 use Rattle.meaning.proofs.Counting.{head_or_tail, here}
 use Rattle.std.proofs.lemmas.List.Elements.{Contains-append_left, Contains-append_right}

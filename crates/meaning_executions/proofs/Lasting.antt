@@ -7,7 +7,7 @@ use Rattle.std.proofs.lemmas.Option.{same_Some}
 use Rattle.candidates.proofs.Elements.{behind_first}
 use Rattle.meaning.proofs.Counting.{here, behind}
 use Rattle.meaning_executions.proofs.Stores.{flat}
-use Rattle.verdict.specs.Final.{last_or}
+use Rattle.outcome_states.specs.Final.{last_or}
 
 -- ---- lists with a last member
 

@@ -2,10 +2,10 @@
 use Rattle.std.proofs.Common.{ℕ, ◌≡◌, ◌<◌, ◌↔◌, List, [], length, get_or, Some, slice_get, sym, ap, subst, ◌∙◌}
 use Rattle.std.proofs.lemmas.Option.{same_Some, slice_get_within, slice_get-get_or}
 use Rattle.text_values.specs.declared.instruction.Fence as kinds
-use Rattle.text_values.specs.declared.predefined.Predefined.TheVariants as names
+use Rattle.predefined_names.specs.declared.predefined.Predefined.TheVariants as names
 use Rattle.text_values.specs.TestValue.{Content}
-use Rattle.bit_relations.specs.Pairs as pairs
-use Rattle.run_combinations.specs.declared.combination.Event as numbered_event
+use Rattle.bit_rows.specs.Pairs as pairs
+use Rattle.store_orders.specs.declared.combination.Event as numbered_event
 use Rattle.base_names.specs.Events as of
 use Rattle.base_names.specs.Events.{At, Both, Below}
 use Rattle.meaning.specs.Sets.{Set, Relation, Intersection, Identity}

@@ -8,8 +8,8 @@ use Rattle.thread_runs.specs.declared.value.Value.{Value}
 use Rattle.thread_runs.specs.declared.instruction.Program.{Program}
 use Rattle.thread_runs.specs.Runs.{IsThreadRun}
 use Rattle.thread_runs.specs.ValueSet.{IsProperValue}
-use Rattle.ppc_semantics.specs.Domain.{threads_of}
-use Rattle.run_combinations.specs.Lists.{IsFiltered, none, kept, left}
+use Rattle.ppc_lowering.specs.Domain.{threads_of}
+use Rattle.store_orders.specs.Lists.{IsFiltered, none, kept, left}
 use Rattle.candidates.specs.Executions as numbered
 use Rattle.candidates.specs.Executions.{over_runs, product}
 use Rattle.candidates.specs.Listed.{AreTestExecutions}

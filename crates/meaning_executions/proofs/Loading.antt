@@ -3,11 +3,11 @@ use Rattle.std.proofs.Common.{ℕ, zero, suc, ◌≡◌, ◌<◌, ◌+◌, ◌�
 use Rattle.std.specs.List.{AllZip}
 use Rattle.std.proofs.lemmas.Option.{same_Some, slice_get_within, slice_get-get_or, get_or_from_slice_get}
 use Rattle.text_values.specs.TestValue.{Content}
-use Rattle.run_combinations.specs.declared.combination.Action as numbered_action
-use Rattle.run_combinations.specs.declared.combination.Action.TheVariants as actions
-use Rattle.run_combinations.specs.declared.combination.Event as numbered_event
-use Rattle.run_combinations.specs.Events as numbered
-use Rattle.run_combinations.specs.Events.{numbers, is_load, is_load_action}
+use Rattle.store_orders.specs.declared.combination.Action as numbered_action
+use Rattle.store_orders.specs.declared.combination.Action.TheVariants as actions
+use Rattle.store_orders.specs.declared.combination.Event as numbered_event
+use Rattle.store_orders.specs.Events as numbered
+use Rattle.store_orders.specs.Events.{numbers, is_load, is_load_action}
 use Rattle.run_combinations.proofs.Numbers.{Numbered, numbered as numbered_in}
 use Rattle.candidates.specs.Executions.{loads}
 use Rattle.base_names.specs.Events as of

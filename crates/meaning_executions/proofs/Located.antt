@@ -6,7 +6,7 @@ use Rattle.meaning.specs.Names.{Name, locations_of_entry, locations_of_formula, 
 use Rattle.meaning.proofs.Counting.{rising_are_one}
 use Rattle.meaning.proofs.Orders.{name_asymmetric, order_rises}
 use Rattle.meaning.proofs.Entries.{IsBefore, in_order_too, in_list_too, pairs}
-use Rattle.ppc_semantics.specs.Lowering.{AreNamesOf, IsNameBefore, test_names}
+use Rattle.ppc_lowering.specs.Lowering.{AreNamesOf, IsNameBefore, test_names}
 
 less_is : (r : Ordering) → is_lt r ≡ true → r ≡ Less
 less_is Less h = refl

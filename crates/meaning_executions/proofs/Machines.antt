@@ -14,7 +14,7 @@ use Rattle.thread_runs.specs.declared.value.Comparison as numbered_comparison
 use Rattle.thread_runs.specs.declared.value.Comparison.TheVariants as how
 use Rattle.thread_runs.specs.declared.state.State as numbered_state
 use Rattle.thread_runs.specs.Machine as numbered
-use Rattle.ppc_semantics.specs.Lowering.{IsNameBefore, lowered_instruction, name_index}
+use Rattle.ppc_lowering.specs.Lowering.{IsNameBefore, lowered_instruction, name_index}
 use Rattle.meaning.specs.Names.{Name, is_name_before}
 use Rattle.meaning.specs.Machine as named
 use Rattle.meaning.specs.Machine.{Value, Number, Address, NoValue, Comparison, State}

@@ -10,10 +10,10 @@ use Rattle.thread_runs.specs.declared.instruction.Program.{Program}
 use Rattle.thread_runs.specs.Runs as by_number
 use Rattle.thread_runs.specs.Runs.{IsThreadRun}
 use Rattle.thread_runs.specs.AllRuns.{thread_of}
-use Rattle.ppc_semantics.specs.Domain.{InDomainAt, IsDomainAt, load_total, threads_of}
-use Rattle.ppc_semantics.specs.Lowering.{IsProgram}
-use Rattle.run_combinations.specs.declared.combination.Event as numbered_event
-use Rattle.run_combinations.specs.Events.{is_store_to}
+use Rattle.ppc_lowering.specs.Domain.{InDomainAt, IsDomainAt, load_total, threads_of}
+use Rattle.ppc_lowering.specs.Lowering.{IsProgram}
+use Rattle.store_orders.specs.declared.combination.Event as numbered_event
+use Rattle.store_orders.specs.Events.{is_store_to}
 use Rattle.run_combinations.proofs.Numbers.{Numbered, contained}
 use Rattle.candidates.specs.Executions as candidates
 use Rattle.candidates.specs.Executions.{IsStoreOrder, locations_from, loads, stores_at}

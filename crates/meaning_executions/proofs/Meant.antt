@@ -6,19 +6,19 @@ use Rattle.std.specs.declared.alloc.Global.{Global}
 use Rattle.std.proofs.lemmas.Option.{same_Some}
 use Rattle.text_values.specs.declared.instruction.Fence.TheVariants.{Sync, LightweightSync, Eieio, Isync}
 use Rattle.text_values.specs.declared.test.Test.{Test}
-use Rattle.text_values.specs.declared.predefined.Predefined.{Predefined}
-use Rattle.text_values.specs.declared.predefined.Predefined.TheVariants as names
+use Rattle.predefined_names.specs.declared.predefined.Predefined.{Predefined}
+use Rattle.predefined_names.specs.declared.predefined.Predefined.TheVariants as names
 use Rattle.text_values.specs.TestValue.{Content, content_of}
 use Rattle.thread_runs.specs.declared.value.Value.{Value}
 use Rattle.thread_runs.specs.declared.instruction.Program.{Program}
-use Rattle.ppc_semantics.specs.Lowering.{IsProgram}
-use Rattle.dataflow.specs.Chains as chains
-use Rattle.bit_relations.specs.Pairs as pairs
-use Rattle.run_combinations.specs.declared.combination.Event as numbered_event
+use Rattle.ppc_lowering.specs.Lowering.{IsProgram}
+use Rattle.taints.specs.Chains as chains
+use Rattle.bit_rows.specs.Pairs as pairs
+use Rattle.store_orders.specs.declared.combination.Event as numbered_event
 use Rattle.candidates.specs.Executions as numbered
 use Rattle.candidates.specs.Executions.{IsStoreOrder, locations_from}
 use Rattle.candidates.specs.Listed.{ShowsExecution, AreDependencyPairs}
-use Rattle.candidates.specs.Space.{Candidate, shown_of}
+use Rattle.candidate_spaces.specs.Space.{Candidate, shown_of}
 use Rattle.base_names.specs.Events.{Below, ListedPairs}
 use Rattle.base_names.specs.Names.{IsIn}
 use Rattle.base_names.specs.Candidate.{SetIn, SharedIn, RelationIn, ReadsFromIn, CoherenceIn, FromReadsIn}

@@ -10,10 +10,10 @@ use Rattle.thread_runs.specs.declared.instruction.RunStep.{RunStep}
 use Rattle.thread_runs.specs.declared.instruction.Event as run_events
 use Rattle.thread_runs.specs.Runs as by_number
 use Rattle.thread_runs.specs.Runs.{executed}
-use Rattle.ppc_semantics.specs.Lowering.{lowered_instruction}
-use Rattle.dataflow.specs.Chains as chains
-use Rattle.dataflow.specs.Chains.{event_index}
-use Rattle.run_combinations.specs.Events.{thread_events, initial_stores}
+use Rattle.ppc_lowering.specs.Lowering.{lowered_instruction}
+use Rattle.taints.specs.Chains as chains
+use Rattle.taints.specs.Chains.{event_index}
+use Rattle.store_orders.specs.Events.{thread_events, initial_stores}
 use Rattle.candidates.specs.Executions as candidates
 use Rattle.candidates.specs.Executions.{event_number}
 use Rattle.candidates.proofs.Elements.{in_first, behind_first}

@@ -13,14 +13,14 @@ use Rattle.text_values.specs.declared.test.Value.TheVariants as texts
 use Rattle.text_values.specs.TestValue.{Content, content_of}
 use Rattle.thread_runs.specs.declared.value.Value as numbered_value
 use Rattle.thread_runs.specs.declared.value.Value.TheVariants as numbers
-use Rattle.candidates.specs.Space.{Shown}
-use Rattle.verdict.specs.declared.answer.FinalValue.{FinalValue}
-use Rattle.verdict.specs.declared.answer.FinalValue.TheVariants as finals
-use Rattle.verdict.specs.declared.observable.Observable.{Observable}
-use Rattle.verdict.specs.declared.observable.Observable.TheVariants as shown
-use Rattle.verdict.specs.Meaning.{known_observable, known_value, location_of}
-use Rattle.verdict.specs.Names.{is_name}
-use Rattle.verdict.proofs.Observables.{none_found}
+use Rattle.candidate_spaces.specs.Space.{Shown}
+use Rattle.outcome_states.specs.declared.answer.FinalValue.{FinalValue}
+use Rattle.outcome_states.specs.declared.answer.FinalValue.TheVariants as finals
+use Rattle.outcome_states.specs.declared.observable.Observable.{Observable}
+use Rattle.outcome_states.specs.declared.observable.Observable.TheVariants as shown
+use Rattle.outcome_states.specs.Meaning.{known_observable, known_value, location_of}
+use Rattle.outcome_states.specs.Names.{is_name}
+use Rattle.outcome_states.proofs.Observables.{none_found}
 use Rattle.meaning.specs.Names.{Name, locations, locations_of_observable, locations_of_value}
 use Rattle.meaning.specs.Machine.{Value, Number}
 use Rattle.meaning.specs.Executions.{Execution}
@@ -31,8 +31,8 @@ use Rattle.meaning_executions.proofs.Located.{rises}
 use Rattle.meaning_executions.proofs.Machines.{apart, one_to_one}
 use Rattle.meaning_executions.specs.Ends.{HoldsAlike}
 use Rattle.meaning_executions.proofs.Holding.{all_hold}
-use Rattle.meaning_words.specs.Words.{IsTestOfWords}
-use Rattle.meaning_words.proofs.Ending.{all_words}
+use Rattle.meaning_laws.specs.Words.{IsTestOfWords}
+use Rattle.meaning_laws.proofs.Ending.{all_words}
 use Rattle.meaning_executions.specs.Satisfied.{IsShownAs}
 
 pub are_one_to_one : (t : Content) → AreOneToOne (locations t)

@@ -5,9 +5,9 @@ use Rattle.std.proofs.lemmas.Bool.{cases_lt}
 use Rattle.std.proofs.lemmas.Option.{slice_get_within, get_or_from_slice_get}
 use Rattle.thread_runs.specs.declared.value.Value.{Value}
 use Rattle.thread_runs.specs.Runs.{Thread, Run, AreThreadRuns, IsLess, IsLexicallyBefore}
-use Rattle.run_combinations.specs.declared.combination.Event.{Event}
-use Rattle.run_combinations.specs.Events.{is_store, is_store_to}
-use Rattle.run_combinations.specs.Lists.{IsFiltered, none, kept, left}
+use Rattle.store_orders.specs.declared.combination.Event.{Event}
+use Rattle.store_orders.specs.Events.{is_store, is_store_to}
+use Rattle.store_orders.specs.Lists.{IsFiltered, none, kept, left}
 use Rattle.candidates.specs.Executions.{Execution, AreExecutions, events, loads, stores, stores_at, locations_from, product, read_choices, order_choices, orders, over_runs}
 use Rattle.candidates.proofs.Elements.{mapped, joined}
 use Rattle.candidates.proofs.Sole.{less_apart}

@@ -6,10 +6,10 @@ use Rattle.std.proofs.lemmas.Option.{same_Some, slice_get_within, slice_get-get_
 use Rattle.std.proofs.lemmas.List.Elements.{All-nil, All-cons, All-contains}
 use Rattle.text_values.specs.TestValue.{Content}
 use Rattle.thread_runs.specs.declared.value.Value as numbered_value
-use Rattle.run_combinations.specs.declared.combination.Action as numbered_action
-use Rattle.run_combinations.specs.declared.combination.Action.TheVariants as actions
-use Rattle.run_combinations.specs.declared.combination.Event as numbered_event
-use Rattle.run_combinations.specs.Events.{numbers, is_store_to, has_store, AreDistinct}
+use Rattle.store_orders.specs.declared.combination.Action as numbered_action
+use Rattle.store_orders.specs.declared.combination.Action.TheVariants as actions
+use Rattle.store_orders.specs.declared.combination.Event as numbered_event
+use Rattle.store_orders.specs.Events.{numbers, is_store_to, has_store, AreDistinct}
 use Rattle.run_combinations.proofs.Numbers.{Numbered, numbered, contained, number_there}
 use Rattle.candidates.specs.Executions.{IsStoreOrder, locations_from, stores_at}
 use Rattle.candidates.proofs.OneOutcome.{without, one_fewer, still_there, no_more_of}

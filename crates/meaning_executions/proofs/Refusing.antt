@@ -3,9 +3,9 @@ use Rattle.std.proofs.Common.{ℕ, ◌<◌, ◌≤◌, sym, subst}
 use Rattle.text_values.specs.declared.test.Test.{Test}
 use Rattle.text_values.specs.TestValue.{content_of}
 use Rattle.thread_runs.specs.declared.instruction.Program.{Program}
-use Rattle.ppc_semantics.specs.Domain as program
-use Rattle.ppc_semantics.specs.Domain.{IsBoundedRound, IsFirstFailure, event_total, load_total}
-use Rattle.ppc_semantics.specs.Lowering.{IsProgram}
+use Rattle.ppc_lowering.specs.Domain as program
+use Rattle.ppc_lowering.specs.Domain.{IsBoundedRound, IsFirstFailure, event_total, load_total}
+use Rattle.ppc_lowering.specs.Lowering.{IsProgram}
 use Rattle.meaning.specs.Refusals.{Refusal, TooManyValues, TooManyRuns, IsFirstRefused, IsRefusedAt, HasDomain, event_count}
 use Rattle.meaning_executions.specs.Refusals.{AreRefusedAlike}
 use Rattle.meaning_executions.proofs.Totals.{loads_are, events_are}

@@ -3,7 +3,7 @@
 use Rattle.std.proofs.Common.{ℕ, zero, suc, ◌≡◌, ◌+◌, ◌↔◌, inl, inr, true, IsTrue, List, [], ◌∷◌, zip, Contains, Option, Some, None, option_map, unwrap_or, slice_get, refl, sym, ap, subst, ◌∙◌, arith, true≢false}
 use Rattle.std.specs.List.{AllZip}
 use Rattle.std.proofs.lemmas.Option.{same_Some, slice_get_within, slice_get-get_or, get_or_from_slice_get}
-use Rattle.bit_relations.specs.Pairs as pairs
+use Rattle.bit_rows.specs.Pairs as pairs
 use Rattle.text_values.specs.declared.instruction.Instruction.TheVariants.{Branch}
 use Rattle.text_values.specs.TestValue.{Content}
 use Rattle.thread_runs.specs.declared.value.Value as numbered_value
@@ -12,8 +12,8 @@ use Rattle.thread_runs.specs.declared.instruction.Instruction.TheVariants as doe
 use Rattle.thread_runs.specs.Machine as machine
 use Rattle.thread_runs.specs.Runs as by_number
 use Rattle.thread_runs.specs.Runs.{executed}
-use Rattle.dataflow.specs.Chains as chains
-use Rattle.run_combinations.specs.Events as numbered
+use Rattle.taints.specs.Chains as chains
+use Rattle.store_orders.specs.Events as numbered
 use Rattle.candidates.specs.Executions.{IsDependency, event_number}
 use Rattle.meaning.specs.Sets as sets
 use Rattle.meaning.specs.Names.{locations}

@@ -18,8 +18,8 @@ use Rattle.thread_runs.specs.declared.instruction.Event.TheVariants.{Load, Store
 use Rattle.thread_runs.specs.Runs as by_number
 use Rattle.thread_runs.specs.Runs.{Thread, RunOutcome}
 use Rattle.thread_runs.specs.AllRuns.{thread_of}
-use Rattle.ppc_semantics.specs.Domain.{threads_from, threads_of, InDomainAt}
-use Rattle.ppc_semantics.specs.Lowering.{AreInitial, IsProgram}
+use Rattle.ppc_lowering.specs.Domain.{threads_from, threads_of, InDomainAt}
+use Rattle.ppc_lowering.specs.Lowering.{AreInitial, IsProgram}
 use Rattle.meaning.specs.Names.{Name, locations}
 use Rattle.meaning.specs.Machine.{Value, NoValue, State, is_load, stored_values}
 use Rattle.meaning.specs.Runs.{Instance, Run, initial_value}

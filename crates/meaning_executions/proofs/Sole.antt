@@ -11,8 +11,8 @@ use Rattle.thread_runs.specs.declared.instruction.Event as run_events
 use Rattle.thread_runs.specs.Machine as machine
 use Rattle.thread_runs.specs.Runs as by_number
 use Rattle.thread_runs.specs.AllRuns.{thread_of}
-use Rattle.ppc_semantics.specs.Domain.{InDomainAt, load_total}
-use Rattle.ppc_semantics.specs.Lowering.{IsProgram}
+use Rattle.ppc_lowering.specs.Domain.{InDomainAt, load_total}
+use Rattle.ppc_lowering.specs.Lowering.{IsProgram}
 use Rattle.candidates.specs.Executions as candidates
 use Rattle.meaning.specs.Names.{Name, locations}
 use Rattle.meaning.specs.Machine.{Value, is_load}

@@ -21,7 +21,7 @@ use Rattle.thread_runs.specs.declared.instruction.Line.{Line}
 use Rattle.thread_runs.specs.declared.instruction.Program.{Program}
 use Rattle.thread_runs.specs.Runs as numbered
 use Rattle.thread_runs.specs.AllRuns.{thread_of, lines_at}
-use Rattle.ppc_semantics.specs.Lowering.{AreRegisters, IsProgram, LowersTo, Starts, lowered_value, name_index, value_names, place_names}
+use Rattle.ppc_lowering.specs.Lowering.{AreRegisters, IsProgram, LowersTo, Starts, lowered_value, name_index, value_names, place_names}
 use Rattle.meaning.specs.Names.{Name, is_same_observable, locations, locations_of_entry, locations_of_formula, locations_of_observable}
 use Rattle.meaning.specs.Machine.{Value, Number, Address, NoValue, value_of}
 use Rattle.meaning.specs.Runs.{value_given, initial_value, initial_registers, initial_state, lines_of_thread, run_of}

@@ -5,9 +5,9 @@ use Rattle.std.proofs.lemmas.Option.{same_Some, slice_get_within}
 use Rattle.std.proofs.lemmas.List.Elements.{All-contains}
 use Rattle.text_values.specs.TestValue.{Content}
 use Rattle.thread_runs.specs.declared.value.Value as numbered_value
-use Rattle.run_combinations.specs.declared.combination.Action.TheVariants as actions
-use Rattle.run_combinations.specs.declared.combination.Event as numbered_event
-use Rattle.run_combinations.specs.Events.{is_store_to}
+use Rattle.store_orders.specs.declared.combination.Action.TheVariants as actions
+use Rattle.store_orders.specs.declared.combination.Event as numbered_event
+use Rattle.store_orders.specs.Events.{is_store_to}
 use Rattle.run_combinations.proofs.Numbers.{Numbered, contained}
 use Rattle.candidates.specs.Executions.{IsStoreOrder, locations_from, stores_at}
 use Rattle.candidates.proofs.Elements.{behind_first, in_first}

@@ -11,8 +11,8 @@ use Rattle.thread_runs.specs.declared.instruction.Program.{Program}
 use Rattle.thread_runs.specs.Runs as by_number
 use Rattle.thread_runs.specs.Runs.{Thread, IsThreadRun}
 use Rattle.thread_runs.specs.AllRuns.{thread_of}
-use Rattle.ppc_semantics.specs.Domain.{threads_from, threads_of}
-use Rattle.ppc_semantics.specs.Lowering.{IsProgram}
+use Rattle.ppc_lowering.specs.Domain.{threads_from, threads_of}
+use Rattle.ppc_lowering.specs.Lowering.{IsProgram}
 use Rattle.candidates.proofs.Elements.{in_first, behind_first}
 use Rattle.meaning.specs.Runs.{Run, IsRun}
 use Rattle.meaning.specs.Domain.{InDomain}

@@ -12,8 +12,8 @@ use Rattle.text_values.specs.declared.instruction.Instruction.TheVariants as doe
 use Rattle.text_values.specs.TestValue.{content_of, thread_steps}
 use Rattle.thread_runs.specs.declared.instruction.Line.{Line}
 use Rattle.thread_runs.specs.declared.instruction.Program.{Program}
-use Rattle.ppc_semantics.specs.Domain.{has_event, has_load, lines_with, load_total, event_total, makes_event}
-use Rattle.ppc_semantics.specs.Lowering.{AreThreadLines, IsProgram, LowersTo, lowered_line, lowered_instruction}
+use Rattle.ppc_lowering.specs.Domain.{has_event, has_load, lines_with, load_total, event_total, makes_event}
+use Rattle.ppc_lowering.specs.Lowering.{AreThreadLines, IsProgram, LowersTo, lowered_line, lowered_instruction}
 use Rattle.meaning.specs.Names.{Name}
 use Rattle.meaning.specs.Machine.{is_load}
 use Rattle.meaning.specs.Domain.{instruction_count}

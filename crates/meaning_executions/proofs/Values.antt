@@ -10,16 +10,16 @@ use Rattle.text_values.specs.declared.test.Value as written
 use Rattle.text_values.specs.declared.test.Value.TheVariants as texts
 use Rattle.thread_runs.specs.declared.value.Value as numbered_value
 use Rattle.thread_runs.specs.declared.value.Value.TheVariants as numbers
-use Rattle.verdict.specs.declared.answer.FinalValue.{FinalValue}
-use Rattle.verdict.specs.declared.answer.FinalValue.TheVariants as finals
-use Rattle.verdict.specs.Final.{value_shown}
-use Rattle.verdict.specs.Meaning.{is_value, known_value, location_of}
-use Rattle.verdict.specs.Names.{is_name}
+use Rattle.outcome_states.specs.declared.answer.FinalValue.{FinalValue}
+use Rattle.outcome_states.specs.declared.answer.FinalValue.TheVariants as finals
+use Rattle.outcome_states.specs.Final.{value_shown}
+use Rattle.outcome_states.specs.Meaning.{is_value, known_value, location_of}
+use Rattle.outcome_states.specs.Names.{is_name}
 use Rattle.meaning.specs.Names.{Name}
 use Rattle.meaning.specs.Machine.{Value, Number, Address, NoValue, value_of, word}
 use Rattle.meaning_executions.specs.Values as values
 use Rattle.meaning_executions.specs.Values.{IsSameValue, AreOneToOne}
-use Rattle.meaning_words.specs.Words.{IsWrittenWord}
+use Rattle.meaning_laws.specs.Words.{IsWrittenWord}
 
 -- ---- what is the same as a value by number
 

@@ -3,8 +3,8 @@
 use Rattle.std.specs.Prelude.{ℕ, ◌≡◌, ◌↔◌, List, Some, slice_get}
 use Rattle.text_values.specs.declared.instruction.Instruction as text
 use Rattle.thread_runs.specs.declared.instruction.Instruction as numbered_instruction
-use Rattle.ppc_semantics.specs.Lowering.{lowered_instruction}
-use Rattle.dataflow.specs.Chains as numbered
+use Rattle.ppc_lowering.specs.Lowering.{lowered_instruction}
+use Rattle.taints.specs.Chains as numbered
 use Rattle.thread_runs.specs.Runs.{RunOutcome, executed}
 use Rattle.meaning.specs.Names.{Name}
 use Rattle.meaning.specs.Runs.{Run}

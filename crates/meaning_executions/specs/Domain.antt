@@ -5,8 +5,8 @@ use Rattle.thread_runs.specs.declared.instruction.Program.{Program}
 use Rattle.thread_runs.specs.Runs as by_number
 use Rattle.thread_runs.specs.Runs.{IsThreadRun}
 use Rattle.thread_runs.specs.AllRuns.{thread_of}
-use Rattle.ppc_semantics.specs.Domain.{InDomainAt, load_total}
-use Rattle.ppc_semantics.specs.Lowering.{AreNamesOf, labels_in}
+use Rattle.ppc_lowering.specs.Domain.{InDomainAt, load_total}
+use Rattle.ppc_lowering.specs.Lowering.{AreNamesOf, labels_in}
 use Rattle.meaning.specs.Names.{Name, locations}
 use Rattle.meaning.specs.Runs.{Run, IsRun, lines_of_thread}
 use Rattle.meaning.specs.Domain.{InDomain}

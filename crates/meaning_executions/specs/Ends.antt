@@ -6,13 +6,13 @@ use Rattle.text_values.specs.declared.test.Place.{Place}
 use Rattle.text_values.specs.TestValue.{Content, content_of}
 use Rattle.thread_runs.specs.declared.instruction.Program.{Program}
 use Rattle.thread_runs.specs.declared.value.Value as numbered_value
-use Rattle.ppc_semantics.specs.Lowering.{IsProgram}
+use Rattle.ppc_lowering.specs.Lowering.{IsProgram}
 use Rattle.candidates.specs.Executions as numbered
 use Rattle.candidates.specs.Listed.{ShowsExecution}
-use Rattle.candidates.specs.Space.{Shown}
-use Rattle.verdict.specs.declared.observable.Observable.{Observable}
-use Rattle.verdict.specs.Final.{final_value, value_shown}
-use Rattle.verdict.specs.Meaning.{known_observable}
+use Rattle.candidate_spaces.specs.Space.{Shown}
+use Rattle.outcome_states.specs.declared.observable.Observable.{Observable}
+use Rattle.outcome_states.specs.Final.{final_value, value_shown}
+use Rattle.outcome_states.specs.Meaning.{known_observable}
 use Rattle.meaning.specs.Names.{locations}
 use Rattle.meaning.specs.Machine.{Value}
 use Rattle.meaning.specs.Executions.{Execution, IsExecution}

@@ -6,12 +6,12 @@ use Rattle.text_values.specs.TestValue.{Content}
 use Rattle.thread_runs.specs.declared.value.Value as numbered_value
 use Rattle.thread_runs.specs.Runs as by_number
 use Rattle.thread_runs.specs.Runs.{executed}
-use Rattle.dataflow.specs.Chains as chains
+use Rattle.taints.specs.Chains as chains
 use Rattle.candidates.specs.Executions as candidates
 use Rattle.candidates.specs.Executions.{event_number}
-use Rattle.run_combinations.specs.declared.combination.Action as numbered_action
-use Rattle.run_combinations.specs.declared.combination.Action.TheVariants as numbered
-use Rattle.run_combinations.specs.declared.combination.Event as numbered_event
+use Rattle.store_orders.specs.declared.combination.Action as numbered_action
+use Rattle.store_orders.specs.declared.combination.Action.TheVariants as numbered
+use Rattle.store_orders.specs.declared.combination.Event as numbered_event
 use Rattle.meaning.specs.Names.{Name, locations}
 use Rattle.meaning.specs.Machine.{Value}
 use Rattle.meaning.specs.Runs.{Instance, Run}

@@ -5,8 +5,8 @@ use Rattle.text_values.specs.TestValue.{Content}
 use Rattle.thread_runs.specs.declared.instruction.Program.{Program}
 use Rattle.thread_runs.specs.declared.value.Value as numbered_value
 use Rattle.thread_runs.specs.Runs as by_number
-use Rattle.ppc_semantics.specs.Domain.{threads_of}
-use Rattle.ppc_semantics.specs.Lowering.{AreNamesOf, labels_in}
+use Rattle.ppc_lowering.specs.Domain.{threads_of}
+use Rattle.ppc_lowering.specs.Lowering.{AreNamesOf, labels_in}
 use Rattle.candidates.specs.Executions as numbered
 use Rattle.meaning.specs.Names.{Name, locations}
 use Rattle.meaning.specs.Runs.{Run, lines_of_thread}

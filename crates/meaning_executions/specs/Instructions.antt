@@ -8,7 +8,7 @@ use Rattle.thread_runs.specs.declared.state.State as numbered_state
 use Rattle.thread_runs.specs.declared.instruction.Event as numbered_event
 use Rattle.thread_runs.specs.declared.instruction.Event.TheVariants as run_event
 use Rattle.thread_runs.specs.Machine as numbered
-use Rattle.ppc_semantics.specs.Lowering.{lowered_instruction, name_index}
+use Rattle.ppc_lowering.specs.Lowering.{lowered_instruction, name_index}
 use Rattle.meaning.specs.Names.{Name}
 use Rattle.meaning.specs.Machine.{Value, State, state_after, address_of, stored_values, is_load, is_branch, is_fault, is_taken_in, target}
 use Rattle.meaning.specs.Runs.{Instance}

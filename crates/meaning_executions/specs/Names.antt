@@ -3,14 +3,14 @@
 use Rattle.std.specs.Prelude.{Vec, ℕ, ◌≡◌, ◌<◌, List, length}
 use Rattle.std.specs.declared.alloc.Global.{Global}
 use Rattle.text_values.specs.declared.test.Test.{Test}
-use Rattle.text_values.specs.declared.predefined.Predefined.{Predefined}
+use Rattle.predefined_names.specs.declared.predefined.Predefined.{Predefined}
 use Rattle.text_values.specs.TestValue.{Content, content_of}
 use Rattle.thread_runs.specs.declared.instruction.Program.{Program}
 use Rattle.thread_runs.specs.declared.value.Value.{Value}
-use Rattle.ppc_semantics.specs.Lowering.{IsProgram}
+use Rattle.ppc_lowering.specs.Lowering.{IsProgram}
 use Rattle.candidates.specs.Executions as numbered
 use Rattle.candidates.specs.Listed.{ShowsExecution}
-use Rattle.candidates.specs.Space.{Candidate, shown_of}
+use Rattle.candidate_spaces.specs.Space.{Candidate, shown_of}
 use Rattle.base_names.specs.Candidate.{SetIn, RelationIn}
 use Rattle.meaning.specs.Sets.{Set, Relation}
 use Rattle.meaning.specs.Executions.{Event, Execution, IsEvent, IsExecution}

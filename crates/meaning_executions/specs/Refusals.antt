@@ -2,10 +2,10 @@
 use Rattle.std.specs.Prelude.{ℕ, ◌≤◌}
 use Rattle.text_values.specs.TestValue.{Content}
 use Rattle.thread_runs.specs.declared.instruction.Program.{Program}
-use Rattle.ppc_semantics.specs.Domain as program
-use Rattle.ppc_semantics.specs.Domain.{IsBoundedRound, IsDomainRefusal, event_total, load_total}
-use Rattle.ppc_semantics.specs.declared.fault.EvalRefusal.{EvalRefusal}
-use Rattle.ppc_semantics.specs.declared.fault.EvalRefusal.TheVariants as by_program
+use Rattle.ppc_lowering.specs.Domain as program
+use Rattle.ppc_lowering.specs.Domain.{IsBoundedRound, IsDomainRefusal, event_total, load_total}
+use Rattle.ppc_lowering.specs.declared.fault.EvalRefusal.{EvalRefusal}
+use Rattle.ppc_lowering.specs.declared.fault.EvalRefusal.TheVariants as by_program
 use Rattle.meaning.specs.Refusals.{Refusal, TooManyEvents, TooManyValues, TooManyRuns, TooManyCandidates, AddressFault, TooManyCombinations, IsRefusedAt, IsRefusal, HasDomain}
 
 -- After so many rounds the test and its program pass the same bounds, or both keep them.

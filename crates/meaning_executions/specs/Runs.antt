@@ -8,7 +8,7 @@ use Rattle.thread_runs.specs.declared.instruction.Event as numbered_event
 use Rattle.thread_runs.specs.Runs as by_number
 use Rattle.thread_runs.specs.Runs.{RunOutcome}
 use Rattle.thread_runs.specs.AllRuns.{thread_of}
-use Rattle.ppc_semantics.specs.Lowering.{AreNamesOf, labels_in, lowered_instruction}
+use Rattle.ppc_lowering.specs.Lowering.{AreNamesOf, labels_in, lowered_instruction}
 use Rattle.meaning.specs.Names.{Name, locations}
 use Rattle.meaning.specs.Machine.{Value}
 use Rattle.meaning.specs.Runs.{Instance, Run, run_of, initial_state, lines_of_thread}

@@ -4,16 +4,16 @@ use Rattle.text_values.specs.declared.test.Test.{Test}
 use Rattle.text_values.specs.TestValue.{Content, Formula, content_of}
 use Rattle.thread_runs.specs.declared.instruction.Program.{Program}
 use Rattle.thread_runs.specs.declared.value.Value.{Value}
-use Rattle.ppc_semantics.specs.Lowering.{IsProgram}
+use Rattle.ppc_lowering.specs.Lowering.{IsProgram}
 use Rattle.candidates.specs.Executions as numbered
 use Rattle.candidates.specs.Listed.{ShowsExecution}
-use Rattle.candidates.specs.Space.{Shown}
+use Rattle.candidate_spaces.specs.Space.{Shown}
 use Rattle.verdict.specs.Evaluated.{is_satisfied}
 use Rattle.meaning.specs.Names.{locations}
 use Rattle.meaning.specs.Executions.{Execution, IsExecution}
 use Rattle.meaning.specs.Outcome.{Satisfies}
 use Rattle.meaning_executions.specs.Executions.{IsSameExecution, IsProgramExecution}
-use Rattle.meaning_words.specs.Words.{IsTestOfWords}
+use Rattle.meaning_laws.specs.Words.{IsTestOfWords}
 
 -- The candidate shows an execution of the test's program that is this one by name.
 pub record IsShownAs (t : Test) (y : Execution) (e : Shown) : Type 0 where

@@ -2,7 +2,7 @@
 use Rattle.std.specs.Prelude.{ℕ, suc, List, [], ◌∷◌, flat_map}
 use Rattle.text_values.specs.TestValue.{Content}
 use Rattle.thread_runs.specs.Runs as by_number
-use Rattle.ppc_semantics.specs.Lowering.{AreNamesOf, labels_in}
+use Rattle.ppc_lowering.specs.Lowering.{AreNamesOf, labels_in}
 use Rattle.meaning.specs.Names.{Name, locations}
 use Rattle.meaning.specs.Runs.{Run, lines_of_thread}
 use Rattle.meaning_executions.specs.Runs.{IsSameRun}

@@ -2,8 +2,8 @@
 //! ends of a test are the same by number (the program) as by name (`meaning`). So its condition
 //! holds by number where it does by name. Read in specs/: Values, then each file names the next.
 //! Names: after `Candidate` of `base_names/specs` and `Predefined` of `meaning/specs`. Ends: after
-//! `Final` of `verdict/specs` and `Outcome` of `meaning/specs`. Satisfied: after `Words` of
-//! `meaning_words/specs`.
+//! `Final` of `outcome_states/specs` and `Outcome` of `meaning/specs`. Satisfied: after `Words` of
+//! `meaning_laws/specs`.
 #![tactic(auto)]
 
 ghost use Rattle.std.specs.Prelude.{ℕ, ◌≡◌, ◌<◌, ◌↔◌, List, length};
@@ -15,9 +15,9 @@ ghost use Rattle.meaning.specs.Names.{Name, locations};
 ghost use Rattle.meaning.specs.Machine.{State, is_load};
 ghost use Rattle.meaning.specs.Domain.{InDomain, InRound, instruction_count};
 ghost use Rattle.meaning.specs.Executions.{Execution, AreRuns};
-ghost use Rattle.ppc_semantics.specs.Domain.{InDomainAt, load_total, event_total, IsDomainAt};
+ghost use Rattle.ppc_lowering.specs.Domain.{InDomainAt, load_total, event_total, IsDomainAt};
 ghost use Rattle.thread_runs.specs.declared.instruction.Program.{Program};
-ghost use Rattle.ppc_semantics.specs.Lowering.{AreNamesOf, IsProgram, test_names};
+ghost use Rattle.ppc_lowering.specs.Lowering.{AreNamesOf, IsProgram, test_names};
 ghost use Rattle.meaning_executions.specs.Values.{AreOneToOne, AreSameSets, IsSameState};
 ghost use Rattle.meaning_executions.specs.Instructions.{DoesSame};
 ghost use Rattle.meaning_executions.specs.Runs.{RunsAlike};
@@ -29,8 +29,8 @@ ghost use Rattle.meaning_executions.specs.ThreadRuns.{AreSameThreadRuns};
 ghost use Rattle.meaning_executions.specs.Events.{AreSameEvents, HaveTheirNumbers, named_events};
 ghost use Rattle.thread_runs.specs.declared.value.Value.{Value};
 ghost use Rattle.candidates.specs.Listed.{AreTestExecutions, IsSpaceRefusal, ListsExecutions};
-ghost use Rattle.candidates.specs.declared.candidate.Space.{Space};
-ghost use Rattle.ppc_semantics.specs.declared.fault.EvalRefusal.{EvalRefusal};
+ghost use Rattle.candidate_spaces.specs.declared.candidate.Space.{Space};
+ghost use Rattle.ppc_lowering.specs.declared.fault.EvalRefusal.{EvalRefusal};
 ghost use Rattle.meaning.specs.Refusals.{event_count, IsAccepted, IsRefusal};
 ghost use Rattle.meaning_executions.specs.Counts.{AreListed};
 ghost use Rattle.meaning_executions.specs.Refusals.{AreRefusedAlike, AreRoundsAlike, refusal_by_name};

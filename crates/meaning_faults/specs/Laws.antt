@@ -1,8 +1,8 @@
 -- What the laws of this crate say: the faults of a model are those that the program answers.
 use Rattle.std.specs.Prelude.{◌≡◌, ◌↔◌, List, [], ◌∷◌, map, reverse, Option, Some, None}
 use Rattle.text_values.specs.declared.model.Item.{Item}
-use Rattle.text_values.specs.declared.predefined.Predefined.{Predefined}
-use Rattle.text_values.specs.declared.predefined.TheConstants.{PREDEFINED}
+use Rattle.predefined_names.specs.declared.predefined.Predefined.{Predefined}
+use Rattle.predefined_names.specs.declared.predefined.TheConstants.{PREDEFINED}
 use Rattle.text_values.specs.ModelValues.{clauses_of}
 use Rattle.binding_kinds.specs.declared.fault.ModelFault as program
 use Rattle.binding_kinds.specs.declared.fault.ModelFault.TheVariants as program_faults

@@ -4,7 +4,7 @@
 
 ghost use Rattle.std.specs.Prelude.{◌≡◌, List};
 ghost use Rattle.text_values.specs.declared.model.Item.{Item};
-ghost use Rattle.text_values.specs.declared.predefined.TheConstants.{PREDEFINED};
+ghost use Rattle.predefined_names.specs.declared.predefined.TheConstants.{PREDEFINED};
 ghost use Rattle.meaning.specs.Predefined.{predefined_names};
 ghost use Rattle.meaning_faults.specs.Laws.{FirstFaultIsHead, NoFaultIsNone};
 

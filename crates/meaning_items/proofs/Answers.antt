@@ -7,9 +7,9 @@ use Rattle.text_values.specs.declared.model.Check as code_check
 use Rattle.text_values.specs.declared.model.CheckWord.{CheckWord}
 use Rattle.text_values.specs.declared.model.Item.{Item}
 use Rattle.text_values.specs.declared.model.Item.TheVariants as items
-use Rattle.text_values.specs.declared.predefined.Predefined.{Predefined}
-use Rattle.text_values.specs.declared.predefined.TheConstants.{PREDEFINED}
-use Rattle.text_values.specs.PredefinedNames.{spelling, is_set}
+use Rattle.predefined_names.specs.declared.predefined.Predefined.{Predefined}
+use Rattle.predefined_names.specs.declared.predefined.TheConstants.{PREDEFINED}
+use Rattle.predefined_names.specs.PredefinedNames.{spelling, is_set}
 use Rattle.text_values.specs.ModelValue.{Term, Clause}
 use Rattle.text_values.specs.ModelValues.{term_of, clause_of, clauses_of, check_of}
 use Rattle.binding_kinds.specs.declared.fault.ModelFault.TheVariants as faults
@@ -33,11 +33,11 @@ use Rattle.binding_graph.specs.Inputs.{inputs_of}
 use Rattle.binding_graph.specs.Meaning.{set_tree, rel_tree}
 use Rattle.binding_graph.specs.Resolved.{AreResolved, IsCheckRole, IsGroupRole, IsResolvedIn, IsLabelled, IsLabelledAs, AreLabelledAs}
 use Rattle.binding_graph.specs.Usages.{Usage, with_values, usages_after}
-use Rattle.candidates.specs.declared.candidate.Space.{Space}
-use Rattle.candidates.specs.Space.{Candidate, candidates_in}
-use Rattle.cat_eval.specs.Executions.{events_of, EventsAt, PairsAt}
-use Rattle.cat_eval.specs.Values.{IsCheckAnswer, AnswersOf}
-use Rattle.verdict.specs.Kept.{Flag, holds_at}
+use Rattle.candidate_spaces.specs.declared.candidate.Space.{Space}
+use Rattle.candidate_spaces.specs.Space.{Candidate, candidates_in}
+use Rattle.cat_machine.specs.Executions.{events_of, EventsAt, PairsAt}
+use Rattle.cat_machine.specs.Values.{IsCheckAnswer, AnswersOf}
+use Rattle.outcome_states.specs.Kept.{Flag, holds_at}
 use Rattle.from_scratch.specs.Answers.{AreItemColumns, HasAnswers, IsSaidAs, IsSaidBy, AreSaid, AreNamed as AreNamedColumns}
 use Rattle.meaning.specs.Names.{Name}
 use Rattle.meaning.specs.Cat as cat
@@ -46,7 +46,7 @@ use Rattle.meaning_items.specs.Behind.{outer_bound}
 use Rattle.meaning_items.proofs.Applying.{none_first}
 use Rattle.meaning_items.proofs.Items.{outer_sound, no_first}
 use Rattle.base_names.specs.Candidate.{SetIn, RelationIn}
-use Rattle.cat_eval.specs.declared.column.Column.{Column}
+use Rattle.cat_machine.specs.declared.column.Column.{Column}
 use Rattle.meaning_items.specs.Alike.{IsAs}
 use Rattle.meaning_items.specs.Slots.{candidate_value, IsSlotMeant, AreSlotsMeant}
 use Rattle.meaning_items.specs.Laws.{AreMeant, AnswersAreMeant}

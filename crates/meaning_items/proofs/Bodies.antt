@@ -21,17 +21,17 @@ use Rattle.binding_graph.specs.Meaning.{set_tree, rel_tree, steps_of, IsCode}
 use Rattle.binding_graph.specs.Resolved.{AreBodies}
 use Rattle.binding_graph.specs.Trees.{SetTree, RelTree, rel_code}
 use Rattle.binding_graph.specs.Usages.{Usage, with_values, with_all_values}
-use Rattle.candidates.specs.declared.candidate.Space.{Space}
-use Rattle.candidates.specs.Space.{Candidate}
-use Rattle.cat_eval.specs.declared.column.Column.{Column}
-use Rattle.cat_eval.specs.Columns.{HasColumnValue, HaveValues}
-use Rattle.cat_eval.specs.Executions.{events_of, EventsAt, PairsAt}
-use Rattle.cat_eval.specs.Least.{body}
-use Rattle.cat_eval.specs.Meaning.{MeansSet, MeansRelation}
-use Rattle.cat_eval.specs.Named.{ColumnEvents, ColumnPairs, OwnPairs, WithOwn}
-use Rattle.cat_eval.specs.Running.{BuildsTrees, sets_after, rels_after}
-use Rattle.cat_eval.specs.Values.{IsFor, IsMeaning}
-use Rattle.cat_eval.proofs.Codes.{code_leads}
+use Rattle.candidate_spaces.specs.declared.candidate.Space.{Space}
+use Rattle.candidate_spaces.specs.Space.{Candidate}
+use Rattle.cat_machine.specs.declared.column.Column.{Column}
+use Rattle.cat_machine.specs.Columns.{HasColumnValue, HaveValues}
+use Rattle.cat_machine.specs.Executions.{events_of, EventsAt, PairsAt}
+use Rattle.cat_machine.specs.Least.{body}
+use Rattle.cat_machine.specs.Meaning.{MeansSet, MeansRelation}
+use Rattle.cat_machine.specs.Named.{ColumnEvents, ColumnPairs, OwnPairs, WithOwn}
+use Rattle.cat_machine.specs.Running.{BuildsTrees, sets_after, rels_after}
+use Rattle.cat_machine.specs.Values.{IsFor, IsMeaning}
+use Rattle.cat_machine.proofs.Codes.{code_leads}
 use Rattle.from_scratch.specs.Answers.{AreItemColumns, AreNamed as AreNamedColumns}
 use Rattle.meaning.specs.Cat.{Names, meaning_of}
 use Rattle.meaning_items.specs.Formulas.{HasNames}

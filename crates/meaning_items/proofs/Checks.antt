@@ -10,10 +10,10 @@ use Rattle.binding_graph.specs.declared.resolved.CheckCode.{CheckCode}
 use Rattle.binding_graph.specs.declared.resolved.Source.{Source}
 use Rattle.binding_graph.specs.Meaning.{steps_of}
 use Rattle.binding_graph.specs.Trees.{SetTree, RelTree}
-use Rattle.cat_eval.specs.Checks.{Holds, IsEmptySet}
-use Rattle.cat_eval.specs.Meaning.{MeansSet, MeansRelation}
-use Rattle.cat_eval.specs.Named.{OwnPairs, WithOwn}
-use Rattle.cat_eval.specs.Values.{Unless, IsCheckAnswer}
+use Rattle.cat_machine.specs.Checks.{Holds, IsEmptySet}
+use Rattle.cat_machine.specs.Meaning.{MeansSet, MeansRelation}
+use Rattle.cat_machine.specs.Named.{OwnPairs, WithOwn}
+use Rattle.cat_machine.specs.Values.{Unless, IsCheckAnswer}
 use Rattle.meaning.specs.Cat.{Meaning, ASet, ARelation, Nothing, HasProperty, NegatedIf}
 use Rattle.meaning_items.specs.Alike.{IsAs}
 use Rattle.meaning_items.proofs.Operators.{paths_same}

@@ -11,11 +11,11 @@ use Rattle.binding_kinds.specs.Value.{Naming}
 use Rattle.binding_kinds.specs.Senses.{Sense}
 use Rattle.binding_graph.specs.declared.resolved.ResolvedItem.{ResolvedItem}
 use Rattle.binding_graph.specs.Usages.{Usage}
-use Rattle.candidates.specs.declared.candidate.Space.{Space}
-use Rattle.candidates.specs.Space.{Candidate}
-use Rattle.cat_eval.specs.declared.column.Column.{Column}
-use Rattle.cat_eval.specs.Executions.{events_of}
-use Rattle.cat_eval.specs.Named.{ColumnEvents, ColumnPairs}
+use Rattle.candidate_spaces.specs.declared.candidate.Space.{Space}
+use Rattle.candidate_spaces.specs.Space.{Candidate}
+use Rattle.cat_machine.specs.declared.column.Column.{Column}
+use Rattle.cat_machine.specs.Executions.{events_of}
+use Rattle.cat_machine.specs.Named.{ColumnEvents, ColumnPairs}
 use Rattle.from_scratch.specs.Answers.{AreItemColumns}
 use Rattle.meaning_items.specs.Alike.{IsAs}
 use Rattle.meaning.specs.Names.{Name}

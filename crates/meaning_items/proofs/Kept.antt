@@ -4,9 +4,9 @@ use Rattle.text_values.specs.declared.model.Item.{Item}
 use Rattle.text_values.specs.ModelValue.{Clause, Binding, Function, Checking, Flagging, Showing, Including}
 use Rattle.text_values.specs.ModelValues.{clauses_of}
 use Rattle.binding_graph.specs.declared.resolved.ResolvedItem.{ResolvedItem}
-use Rattle.candidates.specs.declared.candidate.Space.{Space}
-use Rattle.cat_eval.specs.Executions.{events_of}
-use Rattle.verdict.specs.Kept.{Flag, holds_at, is_kept}
+use Rattle.candidate_spaces.specs.declared.candidate.Space.{Space}
+use Rattle.cat_machine.specs.Executions.{events_of}
+use Rattle.outcome_states.specs.Kept.{Flag, holds_at, is_kept}
 use Rattle.meaning.specs.Sets.{Set}
 use Rattle.meaning.specs.Cat.{Names, names_after, AreMet}
 use Rattle.meaning_items.specs.Behind.{outer_bound}

@@ -5,11 +5,11 @@ use Rattle.std.specs.Int.{bit_at}
 use Rattle.std.proofs.lemmas.Bool.Decides.{nat_tests}
 use Rattle.std.proofs.lemmas.Slice.Eq.{bytes_eq-Decides}
 use Rattle.text_values.specs.ModelValue.{Term}
-use Rattle.bit_relations.specs.Relation.{Relation, Bit}
+use Rattle.bit_rows.specs.Relation.{Relation, Bit}
 use Rattle.binding_graph.specs.declared.resolved.Source.{Source}
 use Rattle.binding_graph.specs.Trees.{RelTree}
-use Rattle.cat_eval.specs.Least.{IsLeast}
-use Rattle.cat_eval.specs.Named.{PairsFound, OwnPairs}
+use Rattle.cat_machine.specs.Least.{IsLeast}
+use Rattle.cat_machine.specs.Named.{PairsFound, OwnPairs}
 use Rattle.meaning.specs.Sets as meant
 use Rattle.meaning.specs.Names.{Name}
 use Rattle.meaning.specs.Cat.{Names, meaning_of, HasPair, with_group, Choice, IsChosen, IsClosed, Least}

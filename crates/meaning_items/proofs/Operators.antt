@@ -4,7 +4,7 @@ use Rattle.text_values.specs.declared.model.Infix.{Infix}
 use Rattle.text_values.specs.declared.model.Infix.TheVariants as infixes
 use Rattle.text_values.specs.declared.model.Postfix.{Postfix}
 use Rattle.text_values.specs.declared.model.Postfix.TheVariants as postfixes
-use Rattle.bit_relations.specs.Pairs as pairs
+use Rattle.bit_rows.specs.Pairs as pairs
 use Rattle.binding_kinds.specs.declared.kinds.Kind.{Kind}
 use Rattle.binding_kinds.specs.declared.kinds.Kind.TheVariants.{OfSet, OfRelation, OfAny}
 use Rattle.binding_kinds.specs.Kinds.{takes, joined_kind, marked, narrowed, is_relation, is_set_kind}
@@ -12,7 +12,7 @@ use Rattle.binding_graph.specs.declared.resolved.Blend.TheVariants as blends
 use Rattle.binding_graph.specs.declared.resolved.Source.{Source}
 use Rattle.binding_graph.specs.Trees.{SetTree, RelTree}
 use Rattle.binding_graph.specs.Meaning.{joined_sets, joined_relations}
-use Rattle.cat_eval.specs.Meaning.{BlendedSets, Blended, Closed, Others, MeansSet, MeansRelation}
+use Rattle.cat_machine.specs.Meaning.{BlendedSets, Blended, Closed, Others, MeansSet, MeansRelation}
 use Rattle.meaning.specs.Sets as meant
 use Rattle.meaning.specs.Cat.{Meaning, ASet, ARelation, Nothing, of_infix, of_postfix, of_complement, of_identity}
 use Rattle.meaning_items.specs.Alike.{IsAs}

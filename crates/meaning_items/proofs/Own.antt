@@ -27,9 +27,9 @@ use Rattle.binding_kinds.proofs.Fitted.{fit, fit_known, known_own}
 use Rattle.binding_graph.specs.declared.resolved.Source.{Source}
 use Rattle.binding_graph.specs.declared.resolved.Source.TheVariants as sources
 use Rattle.binding_graph.specs.Meaning.{source_of, source_of_binder, set_tree, rel_tree}
-use Rattle.cat_eval.specs.Least.{body}
-use Rattle.cat_eval.specs.Meaning.{MeansSet, MeansRelation}
-use Rattle.cat_eval.specs.Named.{WithOwn}
+use Rattle.cat_machine.specs.Least.{body}
+use Rattle.cat_machine.specs.Meaning.{MeansSet, MeansRelation}
+use Rattle.cat_machine.specs.Named.{WithOwn}
 use Rattle.meaning.specs.Sets.{Relation}
 use Rattle.meaning.specs.Names.{Name}
 use Rattle.meaning.specs.Cat.{Meaning, ASet, ARelation, Nothing, Bound, ToMeaning, Names, meaning_of, HasPair, with_group}

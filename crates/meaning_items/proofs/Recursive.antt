@@ -6,7 +6,7 @@ use denote.Ref.{Bor}
 use Rattle.text_values.specs.declared.model.Binding as code_binding
 use Rattle.text_values.specs.ModelValue.{Term}
 use Rattle.text_values.specs.ModelValues.{binding_of}
-use Rattle.bit_relations.specs.Relation.{Relation, Events, no_slot}
+use Rattle.bit_rows.specs.Relation.{Relation, Events, no_slot}
 use Rattle.binding_kinds.specs.declared.kinds.Kind.{Kind}
 use Rattle.binding_kinds.specs.declared.kinds.Kind.TheVariants as kinds
 use Rattle.binding_kinds.specs.declared.scope.Used.{Used}
@@ -24,16 +24,16 @@ use Rattle.binding_graph.specs.Meaning.{set_tree, rel_tree, steps_of}
 use Rattle.binding_graph.specs.Resolved.{AreBodies}
 use Rattle.binding_graph.specs.Trees.{RelTree, rel_code}
 use Rattle.binding_graph.specs.Usages.{Usage, with_all_values}
-use Rattle.candidates.specs.declared.candidate.Space.{Space}
-use Rattle.candidates.specs.Space.{Candidate}
-use Rattle.cat_eval.specs.declared.column.Column.{Column}
-use Rattle.cat_eval.specs.declared.column.Column.TheVariants as columns
-use Rattle.cat_eval.specs.Columns.{HasColumnValue}
-use Rattle.cat_eval.specs.Executions.{events_of, EventsAt, PairsAt}
-use Rattle.cat_eval.specs.Least.{IsLeast, body}
-use Rattle.cat_eval.specs.Named.{PairsFound, ColumnEvents, ColumnPairs}
-use Rattle.cat_eval.specs.Rising.{AreCodes}
-use Rattle.cat_eval.specs.Values.{IsFor}
+use Rattle.candidate_spaces.specs.declared.candidate.Space.{Space}
+use Rattle.candidate_spaces.specs.Space.{Candidate}
+use Rattle.cat_machine.specs.declared.column.Column.{Column}
+use Rattle.cat_machine.specs.declared.column.Column.TheVariants as columns
+use Rattle.cat_machine.specs.Columns.{HasColumnValue}
+use Rattle.cat_machine.specs.Executions.{events_of, EventsAt, PairsAt}
+use Rattle.cat_machine.specs.Least.{IsLeast, body}
+use Rattle.cat_machine.specs.Named.{PairsFound, ColumnEvents, ColumnPairs}
+use Rattle.cat_machine.specs.Rising.{AreCodes}
+use Rattle.cat_machine.specs.Values.{IsFor}
 use Rattle.from_scratch.specs.Answers.{AreItemColumns, AreNamed as AreNamedColumns}
 use Rattle.meaning.specs.Cat.{ARelation, Names, Least}
 use Rattle.meaning_items.specs.Formulas.{HasNames}

@@ -5,7 +5,7 @@ use Rattle.std.specs.List.{AllZip}
 use Rattle.std.proofs.lemmas.Bool.{leb-true}
 use denote.Ref.{Bor}
 use Rattle.text_values.specs.ModelValue.{Term}
-use Rattle.bit_relations.specs.Relation.{Relation, Events, IsEvents, IsRelation}
+use Rattle.bit_rows.specs.Relation.{Relation, Events, IsEvents, IsRelation}
 use Rattle.binding_kinds.specs.declared.kinds.Kind.{Kind}
 use Rattle.binding_kinds.specs.declared.kinds.Kind.TheVariants as kinds
 use Rattle.binding_kinds.specs.declared.scope.Binder.{Binder}
@@ -24,16 +24,16 @@ use Rattle.binding_graph.specs.declared.resolved.Source.TheVariants as sources
 use Rattle.binding_graph.specs.Inputs.{inputs_of}
 use Rattle.binding_graph.specs.Meaning.{source_of, source_of_binder, set_tree, rel_tree, steps_of}
 use Rattle.binding_graph.specs.Trees.{SetTree, RelTree}
-use Rattle.candidates.specs.declared.candidate.Space.{Space}
-use Rattle.candidates.specs.Space.{Candidate}
-use Rattle.cat_eval.specs.declared.column.Column.{Column}
-use Rattle.cat_eval.specs.declared.column.Column.TheVariants as columns
-use Rattle.cat_eval.specs.Columns.{HasColumnValue}
-use Rattle.cat_eval.specs.Executions.{events_of, EventsAt, PairsAt}
-use Rattle.cat_eval.specs.Meaning.{MeansSet, MeansRelation}
+use Rattle.candidate_spaces.specs.declared.candidate.Space.{Space}
+use Rattle.candidate_spaces.specs.Space.{Candidate}
+use Rattle.cat_machine.specs.declared.column.Column.{Column}
+use Rattle.cat_machine.specs.declared.column.Column.TheVariants as columns
+use Rattle.cat_machine.specs.Columns.{HasColumnValue}
+use Rattle.cat_machine.specs.Executions.{events_of, EventsAt, PairsAt}
+use Rattle.cat_machine.specs.Meaning.{MeansSet, MeansRelation}
 use Rattle.base_names.specs.Known.{EventsFound}
-use Rattle.cat_eval.specs.Named.{PairsFound, ColumnEvents, ColumnPairs, InputEvents, InputPairs, OwnPairs, WithOwn}
-use Rattle.cat_eval.specs.Values.{IsFor, IsMeaning}
+use Rattle.cat_machine.specs.Named.{PairsFound, ColumnEvents, ColumnPairs, InputEvents, InputPairs, OwnPairs, WithOwn}
+use Rattle.cat_machine.specs.Values.{IsFor, IsMeaning}
 use Rattle.from_scratch.specs.Answers.{AreItemColumns, IsNamed as IsNamedColumn, AreNamed as AreNamedColumns}
 use Rattle.meaning.specs.Cat.{Meaning, ASet, ARelation, Nothing, Names, meaning_of}
 use Rattle.meaning_items.specs.Formulas.{HasNames}

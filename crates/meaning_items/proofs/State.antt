@@ -14,9 +14,9 @@ use Rattle.binding_kinds.specs.Functions.{formula_in, sense_of_function}
 use Rattle.binding_kinds.specs.Senses.{Sense, kind_in}
 use Rattle.binding_graph.specs.declared.resolved.ResolvedItem.{ResolvedItem}
 use Rattle.binding_graph.specs.Usages.{Usage, with_values, usage_of_function}
-use Rattle.candidates.specs.declared.candidate.Space.{Space}
-use Rattle.candidates.specs.Space.{Candidate}
-use Rattle.cat_eval.specs.Executions.{events_of}
+use Rattle.candidate_spaces.specs.declared.candidate.Space.{Space}
+use Rattle.candidate_spaces.specs.Space.{Candidate}
+use Rattle.cat_machine.specs.Executions.{events_of}
 use Rattle.from_scratch.proofs.Ordered.{all_reverse}
 use Rattle.meaning.specs.Names.{Name}
 use Rattle.meaning.specs.Sets.{Relation}

@@ -25,12 +25,12 @@ use Rattle.binding_graph.specs.declared.resolved.Role.TheVariants as roles
 use Rattle.binding_graph.specs.Inputs.{inputs_of}
 use Rattle.binding_graph.specs.Resolved.{IsGroupRole, IsResolvedIn}
 use Rattle.binding_graph.specs.Usages.{Usage, with_values, with_all_values, usages_after}
-use Rattle.candidates.specs.declared.candidate.Space.{Space}
-use Rattle.candidates.specs.Space.{Candidate, candidates_in}
-use Rattle.cat_eval.specs.declared.column.Column.{Column}
-use Rattle.cat_eval.specs.Columns.{ColumnsOf, AreGroupColumns}
-use Rattle.cat_eval.specs.Executions.{events_of}
-use Rattle.cat_eval.specs.Named.{ColumnEvents, ColumnPairs}
+use Rattle.candidate_spaces.specs.declared.candidate.Space.{Space}
+use Rattle.candidate_spaces.specs.Space.{Candidate, candidates_in}
+use Rattle.cat_machine.specs.declared.column.Column.{Column}
+use Rattle.cat_machine.specs.Columns.{ColumnsOf, AreGroupColumns}
+use Rattle.cat_machine.specs.Executions.{events_of}
+use Rattle.cat_machine.specs.Named.{ColumnEvents, ColumnPairs}
 use Rattle.from_scratch.specs.Answers.{AreItemColumns, HasColumns, LeastOf, AreLeast, AreNamed as AreNamedColumns}
 use Rattle.meaning.specs.Names.{Name}
 use Rattle.meaning.specs.Cat as cat

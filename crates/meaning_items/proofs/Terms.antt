@@ -11,7 +11,7 @@ use Rattle.binding_kinds.specs.Senses.{Sense, kind_in, term_fault}
 use Rattle.binding_kinds.proofs.Fitted.{fit, fit_typed}
 use Rattle.binding_graph.specs.declared.resolved.Source.{Source}
 use Rattle.binding_graph.specs.Meaning.{set_tree, rel_tree}
-use Rattle.cat_eval.specs.Meaning.{MeansSet, MeansRelation}
+use Rattle.cat_machine.specs.Meaning.{MeansSet, MeansRelation}
 use Rattle.meaning.specs.Cat.{Meaning, Names, meaning_of}
 use Rattle.meaning_items.specs.Bound.{value_at}
 use Rattle.meaning_items.specs.Alike.{IsAs, HasSources}

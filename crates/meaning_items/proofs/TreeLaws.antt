@@ -5,7 +5,7 @@ use Rattle.std.proofs.lemmas.Slice.Eq.{bytes_eq-Decides}
 use Rattle.text_values.specs.declared.model.Binding as code_binding
 use Rattle.text_values.specs.ModelValue.{Apply, Clause, Function}
 use Rattle.text_values.specs.ModelValues.{binding_of}
-use Rattle.bit_relations.specs.Relation.{Relation}
+use Rattle.bit_rows.specs.Relation.{Relation}
 use Rattle.binding_kinds.specs.declared.fault.ModelFault.{ModelFault}
 use Rattle.binding_kinds.specs.declared.kinds.Kind.{Kind}
 use Rattle.binding_kinds.specs.declared.kinds.Kind.TheVariants.{OfSet, OfRelation, OfAny}
@@ -19,9 +19,9 @@ use Rattle.binding_kinds.proofs.FirstItem.{judged_item}
 use Rattle.binding_graph.specs.declared.resolved.Source.{Source}
 use Rattle.binding_graph.specs.Meaning.{set_tree, rel_tree}
 use Rattle.binding_graph.specs.Trees.{RelTree}
-use Rattle.cat_eval.specs.Least.{IsLeast, body}
-use Rattle.cat_eval.specs.Meaning.{MeansSet, MeansRelation}
-use Rattle.cat_eval.specs.Named.{OwnPairs, WithOwn}
+use Rattle.cat_machine.specs.Least.{IsLeast, body}
+use Rattle.cat_machine.specs.Meaning.{MeansSet, MeansRelation}
+use Rattle.cat_machine.specs.Named.{OwnPairs, WithOwn}
 use Rattle.meaning.specs.Cat as cat
 use Rattle.meaning.specs.Cat.{Meaning, Nothing, Bound, ToFunction, Names, choice_of, of_application, HasPair, meaning_of, meanings_of, with_arguments, with_group, Least}
 use Rattle.meaning_items.specs.Bound.{value_at}

@@ -5,7 +5,7 @@ use Rattle.binding_kinds.specs.Formula.{Formula, Value, Parameter, Everything, N
 use Rattle.binding_kinds.specs.Fits.{kind_of, IsTyped}
 use Rattle.binding_graph.specs.declared.resolved.Source.{Source}
 use Rattle.binding_graph.specs.Meaning.{source_of, set_tree, rel_tree}
-use Rattle.cat_eval.specs.Meaning.{MeansSet, MeansRelation}
+use Rattle.cat_machine.specs.Meaning.{MeansSet, MeansRelation}
 use Rattle.meaning.specs.Cat.{Meaning}
 use Rattle.meaning_items.specs.Formulas.{formula_meaning}
 use Rattle.meaning_items.specs.Alike.{IsAs, HasSources}

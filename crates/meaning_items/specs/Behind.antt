@@ -2,8 +2,8 @@
 -- FunctionLaws.
 use Rattle.std.specs.Prelude.{ℕ, ◌+◌, List, [], ◌∷◌, map, reverse, Bool, IsTrue}
 use Rattle.text_values.specs.declared.model.Item.{Item}
-use Rattle.text_values.specs.declared.predefined.Predefined.{Predefined}
-use Rattle.text_values.specs.PredefinedNames.{spelling, is_set}
+use Rattle.predefined_names.specs.declared.predefined.Predefined.{Predefined}
+use Rattle.predefined_names.specs.PredefinedNames.{spelling, is_set}
 use Rattle.text_values.specs.ModelValue.{Clause}
 use Rattle.text_values.specs.ModelValues.{clauses_of}
 use Rattle.binding_kinds.specs.Value.{Naming, BareItem, bare_item}

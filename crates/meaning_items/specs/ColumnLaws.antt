@@ -5,9 +5,9 @@ use Rattle.binding_kinds.specs.Outermost.{outermost_names}
 use Rattle.binding_kinds.specs.Value.{bare_item}
 use Rattle.binding_graph.specs.declared.resolved.ResolvedItem.{ResolvedItem}
 use Rattle.binding_graph.specs.Resolved.{AreResolved}
-use Rattle.candidates.specs.declared.candidate.Space.{Space}
-use Rattle.candidates.specs.Space.{Candidate, candidates_in}
-use Rattle.cat_eval.specs.Executions.{events_of}
+use Rattle.candidate_spaces.specs.declared.candidate.Space.{Space}
+use Rattle.candidate_spaces.specs.Space.{Candidate, candidates_in}
+use Rattle.cat_machine.specs.Executions.{events_of}
 use Rattle.meaning_items.specs.Behind.{namings_of, bound_of_items}
 use Rattle.meaning_items.specs.FunctionLaws.{AreFaultless}
 use Rattle.meaning_items.specs.Slots.{candidate_value, AreSlotsMeant}

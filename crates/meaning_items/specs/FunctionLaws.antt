@@ -2,7 +2,7 @@
 -- n, and tests say what the predefined names stand for. Read next: Alike.
 use Rattle.std.specs.Prelude.{ℕ, ◌<◌, ◌↔◌, List, [], length, map, Bool, false}
 use Rattle.text_values.specs.declared.model.Item.{Item}
-use Rattle.text_values.specs.declared.predefined.Predefined.{Predefined}
+use Rattle.predefined_names.specs.declared.predefined.Predefined.{Predefined}
 use Rattle.text_values.specs.ModelValue.{Term}
 use Rattle.binding_kinds.specs.declared.fault.ModelFault.{ModelFault}
 use Rattle.binding_kinds.specs.Value.{Naming, bare_item}

@@ -3,9 +3,9 @@ use Rattle.std.specs.Prelude.{ℕ, zero, suc, ◌≡◌, ◌<◌, ◌↔◌, Lis
 use Rattle.text_values.specs.ModelValue.{Term, AllEvents}
 use Rattle.binding_graph.specs.declared.resolved.Source.{Source}
 use Rattle.binding_graph.specs.Trees.{RelTree}
-use Rattle.cat_eval.specs.Least.{body}
-use Rattle.cat_eval.specs.Meaning.{MeansRelation}
-use Rattle.cat_eval.specs.Named.{WithOwn}
+use Rattle.cat_machine.specs.Least.{body}
+use Rattle.cat_machine.specs.Meaning.{MeansRelation}
+use Rattle.cat_machine.specs.Named.{WithOwn}
 use Rattle.meaning.specs.Sets.{Relation}
 use Rattle.meaning.specs.Names.{Name}
 use Rattle.meaning.specs.Cat.{Names, meaning_of, HasPair, with_group}

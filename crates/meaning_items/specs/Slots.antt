@@ -1,20 +1,20 @@
 -- What the names that an item sees stand for in a candidate: the columns have, for the candidate of
 -- that number, what the definitions bind. Read next: ColumnLaws.
 use Rattle.std.specs.Prelude.{ℕ, ◌≡◌, ◌<◌, List, [], ◌∷◌, length, nat_eq, if◌then◌else◌, Option, Some, None, slice_get}
-use Rattle.text_values.specs.declared.predefined.Predefined.{Predefined}
-use Rattle.text_values.specs.PredefinedNames.{is_set}
+use Rattle.predefined_names.specs.declared.predefined.Predefined.{Predefined}
+use Rattle.predefined_names.specs.PredefinedNames.{is_set}
 use Rattle.binding_kinds.specs.declared.kinds.Kind.{Kind}
 use Rattle.binding_kinds.specs.declared.scope.Binder.{Binder}
 use Rattle.binding_kinds.specs.declared.scope.Binder.TheVariants as binders
 use Rattle.binding_kinds.specs.declared.scope.Input.{Input}
 use Rattle.binding_kinds.specs.Value.{Naming}
 use Rattle.binding_graph.specs.declared.resolved.ResolvedItem.{ResolvedItem}
-use Rattle.candidates.specs.declared.candidate.Space.{Space}
-use Rattle.candidates.specs.Space.{Candidate}
+use Rattle.candidate_spaces.specs.declared.candidate.Space.{Space}
+use Rattle.candidate_spaces.specs.Space.{Candidate}
 use Rattle.base_names.specs.Candidate.{SetIn, RelationIn}
-use Rattle.cat_eval.specs.declared.column.Column.{Column}
-use Rattle.cat_eval.specs.Executions.{events_of}
-use Rattle.cat_eval.specs.Named.{ColumnEvents, ColumnPairs}
+use Rattle.cat_machine.specs.declared.column.Column.{Column}
+use Rattle.cat_machine.specs.Executions.{events_of}
+use Rattle.cat_machine.specs.Named.{ColumnEvents, ColumnPairs}
 use Rattle.from_scratch.specs.Answers.{AreItemColumns}
 use Rattle.meaning.specs.Cat.{Meaning, ASet, ARelation, Names, choice_of}
 use Rattle.meaning_items.specs.Bound.{value_at}

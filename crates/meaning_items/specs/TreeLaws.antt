@@ -3,10 +3,10 @@
 use Rattle.std.specs.Prelude.{ℕ, ◌≡◌, ◌<◌, ◌↔◌, List, [], ◌∷◌, length, map, Bool, true, IsTrue}
 use Rattle.text_values.specs.declared.model.Binding as code_binding
 use Rattle.text_values.specs.declared.model.Item.{Item}
-use Rattle.text_values.specs.declared.predefined.Predefined.{Predefined}
+use Rattle.predefined_names.specs.declared.predefined.Predefined.{Predefined}
 use Rattle.text_values.specs.ModelValue.{Term, Terms, Apply, Function}
 use Rattle.text_values.specs.ModelValues.{binding_of, clause_of}
-use Rattle.bit_relations.specs.Relation.{Relation}
+use Rattle.bit_rows.specs.Relation.{Relation}
 use Rattle.binding_kinds.specs.declared.fault.ModelFault.{ModelFault}
 use Rattle.binding_kinds.specs.declared.scope.Used.{Used}
 use Rattle.binding_kinds.specs.Value.{Naming, Group, bare_item, bound_value_of}
@@ -18,9 +18,9 @@ use Rattle.binding_kinds.specs.Senses.{Sense, kind_in}
 use Rattle.binding_graph.specs.declared.resolved.Source.{Source}
 use Rattle.binding_graph.specs.Meaning.{set_tree, rel_tree}
 use Rattle.binding_graph.specs.Trees.{RelTree}
-use Rattle.cat_eval.specs.Least.{IsLeast, body}
-use Rattle.cat_eval.specs.Meaning.{MeansSet, MeansRelation}
-use Rattle.cat_eval.specs.Named.{OwnPairs}
+use Rattle.cat_machine.specs.Least.{IsLeast, body}
+use Rattle.cat_machine.specs.Meaning.{MeansSet, MeansRelation}
+use Rattle.cat_machine.specs.Named.{OwnPairs}
 use Rattle.meaning.specs.Cat as cat
 use Rattle.meaning.specs.Cat.{Meaning, ASet, ARelation, Names, choice_of, meaning_of, meanings_of, with_arguments, Least}
 use Rattle.meaning.specs.Names.{Name}

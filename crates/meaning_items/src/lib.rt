@@ -2,7 +2,7 @@
 //! and answers of checks and flags over the candidates of a space are what the definitions say.
 //! Read in specs/: Formulas, then each file names the next. Formulas: after `Cat` of
 //! `meaning/specs` and `Functions` of `binding_kinds/specs`. Alike: after `Meaning` and `Least` of
-//! `cat_eval/specs`. Slots: after `Answers` of `from_scratch/specs`.
+//! `cat_machine/specs`. Slots: after `Answers` of `from_scratch/specs`.
 #![tactic(auto)]
 
 ghost use Rattle.std.specs.Prelude.{ℕ, ◌≡◌, List, ◌∷◌, Some};
@@ -12,7 +12,7 @@ ghost use Rattle.binding_kinds.specs.Value.{Naming};
 ghost use Rattle.meaning_items.specs.Slots.{naming_in};
 ghost use Rattle.text_values.specs.declared.model.Item.{Item};
 ghost use Rattle.binding_graph.specs.declared.resolved.ResolvedItem.{ResolvedItem};
-ghost use Rattle.candidates.specs.declared.candidate.Space.{Space};
+ghost use Rattle.candidate_spaces.specs.declared.candidate.Space.{Space};
 ghost use Rattle.meaning_items.specs.ColumnLaws.{ColumnsAreMeant};
 ghost use Rattle.meaning_items.specs.Laws.{AnswersAreMeant, KeptAreMet};
 

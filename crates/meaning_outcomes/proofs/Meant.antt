@@ -6,10 +6,10 @@ use Rattle.text_values.specs.ModelValue.{Clause}
 use Rattle.text_values.specs.ModelValues.{clauses_of}
 use Rattle.text_values.specs.TestValue.{content_of}
 use Rattle.binding_kinds.specs.declared.fault.ModelFault as program_fault
-use Rattle.verdict.specs.declared.answer.Evaluation.{Evaluation}
-use Rattle.verdict.specs.declared.answer.OutcomeResult.{OutcomeResult}
-use Rattle.verdict.specs.declared.answer.OutcomeResult.TheVariants as results
-use Rattle.verdict.specs.declared.answer.Refusal.TheVariants as reasons
+use Rattle.outcome_states.specs.declared.answer.Evaluation.{Evaluation}
+use Rattle.outcome_states.specs.declared.answer.OutcomeResult.{OutcomeResult}
+use Rattle.outcome_states.specs.declared.answer.OutcomeResult.TheVariants as results
+use Rattle.outcome_states.specs.declared.answer.Refusal.TheVariants as reasons
 use Rattle.from_scratch.specs.FromScratch.{IsFaultOf, IsFaultless, IsEvaluationOf, IsResultOf}
 use Rattle.meaning.specs.Names.{locations}
 use Rattle.meaning.specs.Faults.{ModelFault, Unbound, Kind, NotMonotone, Duplicate, SetInRec, Arity, TooLarge, faults}
@@ -19,7 +19,7 @@ use Rattle.meaning.proofs.Meanings.{meanings_are_one}
 use Rattle.meaning_faults.specs.Laws.{fault_of, head_of}
 use Rattle.meaning_faults.proofs.Models.{first_is_head, no_fault_is_none}
 use Rattle.meaning_executions.proofs.Finishing.{is_refused, is_accepted}
-use Rattle.meaning_words.specs.Words.{IsTestOfWords}
+use Rattle.meaning_laws.specs.Words.{IsTestOfWords}
 use Rattle.meaning_states.specs.ByName.{evaluation_by_name}
 use Rattle.meaning_states.specs.States.{IsEvaluationSaid}
 use Rattle.meaning_states.proofs.Saying.{all_said}

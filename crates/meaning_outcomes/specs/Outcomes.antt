@@ -6,16 +6,16 @@ use Rattle.text_values.specs.ModelValues.{clauses_of}
 use Rattle.text_values.specs.TestValue.{content_of}
 use Rattle.binding_kinds.specs.declared.fault.ModelFault as program_fault
 use Rattle.binding_kinds.specs.declared.fault.ModelFault.TheVariants as program_faults
-use Rattle.verdict.specs.declared.answer.Outcome as program_outcome
-use Rattle.verdict.specs.declared.answer.OutcomeResult.{OutcomeResult}
-use Rattle.verdict.specs.declared.answer.OutcomeResult.TheVariants as results
-use Rattle.verdict.specs.declared.answer.Refusal.TheVariants as reasons
+use Rattle.outcome_states.specs.declared.answer.Outcome as program_outcome
+use Rattle.outcome_states.specs.declared.answer.OutcomeResult.{OutcomeResult}
+use Rattle.outcome_states.specs.declared.answer.OutcomeResult.TheVariants as results
+use Rattle.outcome_states.specs.declared.answer.Refusal.TheVariants as reasons
 use Rattle.from_scratch.specs.FromScratch.{IsFromScratch}
 use Rattle.meaning.specs.Names.{Name, locations}
 use Rattle.meaning.specs.Faults.{ModelFault, Unbound, Kind, NotMonotone, Duplicate, SetInRec, Arity, TooLarge}
 use Rattle.meaning.specs.Evaluates.{Evaluates, Outcome, Faulty, Refused, Evaluated}
 use Rattle.meaning_executions.specs.Refusals.{refusal_by_name}
-use Rattle.meaning_words.specs.Words.{IsTestOfWords}
+use Rattle.meaning_laws.specs.Words.{IsTestOfWords}
 use Rattle.meaning_states.specs.ByName.{evaluation_by_name}
 
 -- a fault of a model

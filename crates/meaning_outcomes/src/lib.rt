@@ -7,7 +7,7 @@ ghost use Rattle.std.specs.Prelude.{IfOk};
 ghost use Rattle.meaning_outcomes.specs.Outcomes.{FromScratchIsMeant, TestsOfWordsAreMeant, OutcomesAreOne, IsMeant};
 
 use cut_spaces::eval_cell;
-use meaning_words::test_is_of_words;
+use meaning_laws::test_is_of_words;
 use std::alloc::{AllocError, Global};
 use text_values::{ModelText, Test};
 use verdict::Outcome;

@@ -1,13 +1,13 @@
 -- The names that the items of a model see are the same in a candidate and in its execution.
 use Rattle.std.proofs.Common.{ℕ, ◌<◌, ◌↔◌, Bool, true, false, IsTrue, List, [], ◌∷◌, map, reverse, length}
-use Rattle.text_values.specs.declared.predefined.Predefined.{Predefined}
-use Rattle.text_values.specs.PredefinedNames.{spelling, is_set}
+use Rattle.predefined_names.specs.declared.predefined.Predefined.{Predefined}
+use Rattle.predefined_names.specs.PredefinedNames.{spelling, is_set}
 use Rattle.text_values.specs.ModelValue.{Clause, Binding, Function, Checking, Flagging, Showing, Including}
 use Rattle.text_values.specs.TestValue.{Content}
 use Rattle.base_names.specs.Candidate.{SetIn, RelationIn}
-use Rattle.candidates.specs.Space.{Candidate}
-use Rattle.cat_eval.specs.Executions.{events_of}
-use Rattle.verdict.specs.Kept.{Flag, holds_at}
+use Rattle.candidate_spaces.specs.Space.{Candidate}
+use Rattle.cat_machine.specs.Executions.{events_of}
+use Rattle.outcome_states.specs.Kept.{Flag, holds_at}
 use Rattle.meaning.specs.Executions.{Event, Execution, IsEvent}
 use Rattle.meaning.specs.Predefined.{EventsOf, PairsOf, predefined_names}
 use Rattle.meaning.specs.Cat.{ASet, ARelation, ToMeaning, Names, choice_of, names_after, IsMet}
@@ -18,10 +18,10 @@ use Rattle.meaning_items.specs.Laws.{AreMeant}
 use Rattle.meaning_executions.specs.Events.{named_events}
 use Rattle.meaning_executions.proofs.Numbering.{named_once}
 use Rattle.meaning_executions.specs.Names.{AreNamesMeant}
-use Rattle.meaning_carried.proofs.Operators.{Same, sets, relations}
-use Rattle.meaning_carried.proofs.Expressions.{meanings, SameNames, no_name, one_more}
-use Rattle.meaning_carried.proofs.Extending.{Numbering, numbering, set_along, relation_along}
-use Rattle.meaning_carried.proofs.Items.{after_same, met_same, all_met_same, flags_same}
+use Rattle.meaning_laws.proofs.Operators.{Same, sets, relations}
+use Rattle.meaning_laws.proofs.Expressions.{meanings, SameNames, no_name, one_more}
+use Rattle.meaning_laws.proofs.Extending.{Numbering, numbering, set_along, relation_along}
+use Rattle.meaning_laws.proofs.Items.{after_same, met_same, all_met_same, flags_same}
 use Rattle.meaning_states.specs.Kept.{IsMetAlike, CandidatesAreMetByName}
 
 -- ---- a candidate and its execution

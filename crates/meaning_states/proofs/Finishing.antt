@@ -11,13 +11,13 @@ use Rattle.text_values.specs.declared.test.Place.TheVariants as places
 use Rattle.text_values.specs.TestValue.{Content, content_of}
 use Rattle.thread_runs.specs.declared.value.Value as numbered_value
 use Rattle.thread_runs.specs.declared.value.Value.TheVariants as numbers
-use Rattle.candidates.specs.Space.{Shown}
-use Rattle.verdict.specs.declared.answer.FinalValue.{FinalValue}
-use Rattle.verdict.specs.declared.observable.Observable.{Observable}
-use Rattle.verdict.specs.declared.observable.Observable.TheVariants as shown
-use Rattle.verdict.specs.Final.{final_value, final_state, value_shown}
-use Rattle.verdict.specs.Meaning.{known_observable, location_of}
-use Rattle.verdict.specs.Names.{is_name}
+use Rattle.candidate_spaces.specs.Space.{Shown}
+use Rattle.outcome_states.specs.declared.answer.FinalValue.{FinalValue}
+use Rattle.outcome_states.specs.declared.observable.Observable.{Observable}
+use Rattle.outcome_states.specs.declared.observable.Observable.TheVariants as shown
+use Rattle.outcome_states.specs.Final.{final_value, final_state, value_shown}
+use Rattle.outcome_states.specs.Meaning.{known_observable, location_of}
+use Rattle.outcome_states.specs.Names.{is_name}
 use Rattle.meaning.specs.Names.{Name, locations}
 use Rattle.meaning.specs.Machine.{Value, Number}
 use Rattle.meaning.specs.Executions.{Execution}
@@ -25,8 +25,8 @@ use Rattle.meaning.specs.Outcome.{EndsWith, final_register}
 use Rattle.meaning_executions.specs.Values as values
 use Rattle.meaning_executions.specs.Values.{IsSameValue}
 use Rattle.meaning_executions.specs.Ends.{HoldsAlike}
-use Rattle.meaning_words.specs.Words.{IsTestOfWords}
-use Rattle.meaning_words.proofs.Ending as words_end
+use Rattle.meaning_laws.specs.Words.{IsTestOfWords}
+use Rattle.meaning_laws.proofs.Ending as words_end
 use Rattle.meaning_executions.specs.Satisfied.{IsShownAs}
 use Rattle.meaning_executions.proofs.Values.{address_is}
 use Rattle.meaning_executions.proofs.Observables.{are_one_to_one, holds, held_small}

@@ -13,11 +13,11 @@ use Rattle.binding_kinds.specs.Outermost.{outermost_names}
 use Rattle.binding_kinds.specs.Value.{bare_item}
 use Rattle.binding_graph.specs.declared.resolved.ResolvedItem.{ResolvedItem}
 use Rattle.run_combinations.proofs.Numbers.{Behind, behind_at}
-use Rattle.candidates.specs.declared.candidate.Space.{Space}
+use Rattle.candidate_spaces.specs.declared.candidate.Space.{Space}
 use Rattle.candidates.specs.Executions as numbered
 use Rattle.candidates.specs.Listed.{ListsExecutions, ShowsExecution}
-use Rattle.candidates.specs.Space.{Candidate, Shown, candidates_in, shown_of, shown_in}
-use Rattle.verdict.specs.Kept.{Flag, is_kept}
+use Rattle.candidate_spaces.specs.Space.{Candidate, Shown, candidates_in, shown_of, shown_in}
+use Rattle.outcome_states.specs.Kept.{Flag, is_kept}
 use Rattle.meaning.specs.Executions.{Execution, IsEvent, IsExecution}
 use Rattle.meaning.specs.Cat.{AreMet}
 use Rattle.meaning.specs.Evaluates.{outermost, IsKept}

@@ -4,7 +4,7 @@ use Rattle.std.specs.List.{enumerate_from}
 use Rattle.std.proofs.lemmas.Option.{same_Some, slice_get-get_or, slice_get_within}
 use Rattle.std.proofs.lemmas.List.Elements.{Contains-get_or}
 use Rattle.verdict.specs.Evaluated.{number_that}
-use Rattle.verdict.specs.Kept.{is_kept, kept}
+use Rattle.outcome_states.specs.Kept.{is_kept, kept}
 use Rattle.meaning.specs.Sets.{Set, IsOnce, IsListOf, HasCount}
 use Rattle.meaning.proofs.Counting.{here, behind, head_or_tail, first_pair, later_pairs}
 use Rattle.meaning_executions.proofs.Lists.{index_of, member}

@@ -6,10 +6,10 @@ use Rattle.std.specs.Int.{w32, cast_signed}
 use Rattle.std.proofs.lemmas.Int.{of_z-to_z}
 use Rattle.text_values.specs.Joined.{joined}
 use Rattle.litmus_printing.specs.Printing.{place_text}
-use Rattle.verdict.specs.declared.answer.FinalValue.{FinalValue}
-use Rattle.verdict.specs.declared.observable.Observable.{Observable}
-use Rattle.verdict.specs.Text as program
-use Rattle.verdict.specs.Text.{place_of}
+use Rattle.outcome_states.specs.declared.answer.FinalValue.{FinalValue}
+use Rattle.outcome_states.specs.declared.observable.Observable.{Observable}
+use Rattle.outcome_states.specs.Text as program
+use Rattle.outcome_states.specs.Text.{place_of}
 use Rattle.meaning.specs.Names.{Name}
 use Rattle.meaning_states.specs.ByName.{value_by_name}
 use Rattle.meaning_states.specs.Texts.{value_text, held_text, named_state_text}

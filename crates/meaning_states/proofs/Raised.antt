@@ -8,11 +8,11 @@ use Rattle.text_values.specs.declared.model.Item.{Item}
 use Rattle.text_values.specs.ModelValue.{Clause, Binding, Function, Checking, Flagging, Showing, Including}
 use Rattle.text_values.specs.ModelValues.{clauses_of}
 use Rattle.text_values.specs.TestValue.{Content, content_of}
-use Rattle.candidates.specs.declared.candidate.Space.{Space}
+use Rattle.candidate_spaces.specs.declared.candidate.Space.{Space}
 use Rattle.candidates.specs.Listed.{ListsExecutions, ShowsExecution}
-use Rattle.candidates.specs.Space.{Shown, shown_in}
-use Rattle.verdict.specs.Kept as program
-use Rattle.verdict.specs.Kept.{Flag, holds_at, is_kept, kept, is_raised, names_of_flags, raised_names}
+use Rattle.candidate_spaces.specs.Space.{Shown, shown_in}
+use Rattle.outcome_states.specs.Kept as program
+use Rattle.outcome_states.specs.Kept.{Flag, holds_at, is_kept, kept, is_raised, names_of_flags, raised_names}
 use Rattle.meaning.specs.Names.{Name}
 use Rattle.meaning.specs.Executions.{Event, Execution, IsEvent, IsExecution}
 use Rattle.meaning.specs.Cat.{Names, names_after, IsMet, IsFlagMet}

@@ -1,7 +1,7 @@
 -- A flag is raised where it holds on a candidate that is kept.
 use Rattle.std.proofs.Common.{ℕ, zero, suc, ◌≡◌, ◌<◌, ◌+◌, ◌↔◌, ◌||◌, Bool, true, false, cond, IsTrue, List, [], ◌∷◌, length, filter, refl, sym, ap, subst, ◌∙◌, arith, true≢false}
 use Rattle.std.specs.List.{list_any, enumerate_from}
-use Rattle.verdict.specs.Kept.{holds_at, is_kept}
+use Rattle.outcome_states.specs.Kept.{holds_at, is_kept}
 
 -- a candidate that is kept, on which a check with these answers holds
 pub record IsOnSome (checks : List (List Bool)) (answers : List Bool) (from count : ℕ)

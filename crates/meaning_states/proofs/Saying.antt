@@ -20,26 +20,26 @@ use Rattle.binding_kinds.specs.Outermost.{outermost_names}
 use Rattle.binding_kinds.specs.Value.{bare_item}
 use Rattle.binding_graph.specs.declared.resolved.ResolvedItem.{ResolvedItem}
 use Rattle.binding_graph.specs.Resolved.{AreResolved, AreLabelledAs}
-use Rattle.candidates.specs.declared.candidate.Space.{Space}
+use Rattle.candidate_spaces.specs.declared.candidate.Space.{Space}
 use Rattle.candidates.specs.Listed.{ListsExecutions, ShowsExecution}
-use Rattle.candidates.specs.Space.{Candidate, Shown, candidates_in, shown_in, shown_of}
-use Rattle.verdict.specs.declared.answer.CountedState as program_state
-use Rattle.verdict.specs.declared.answer.Evaluation as program_evaluation
-use Rattle.verdict.specs.declared.answer.Observation as program_observation
-use Rattle.verdict.specs.declared.answer.Observation.TheVariants as observations
-use Rattle.verdict.specs.declared.answer.FinalValue.{FinalValue}
-use Rattle.verdict.specs.declared.observable.Observable.{Observable}
+use Rattle.candidate_spaces.specs.Space.{Candidate, Shown, candidates_in, shown_in, shown_of}
+use Rattle.outcome_states.specs.declared.answer.CountedState as program_state
+use Rattle.outcome_states.specs.declared.answer.Evaluation as program_evaluation
+use Rattle.outcome_states.specs.declared.answer.Observation as program_observation
+use Rattle.outcome_states.specs.declared.answer.Observation.TheVariants as observations
+use Rattle.outcome_states.specs.declared.answer.FinalValue.{FinalValue}
+use Rattle.outcome_states.specs.declared.observable.Observable.{Observable}
 use Rattle.verdict.specs.Evaluated as program
 use Rattle.verdict.specs.Evaluated.{IsStateOf, is_satisfied, number_that, values_of}
-use Rattle.verdict.specs.Final.{final_value, final_state}
+use Rattle.outcome_states.specs.Final.{final_value, final_state}
 use Rattle.verdict.specs.Judgement as judged
-use Rattle.verdict.specs.Kept.{Flag, is_kept, kept, raised_names}
-use Rattle.verdict.specs.Meaning as program_meaning
-use Rattle.verdict.specs.Meaning.{satisfies}
-use Rattle.verdict.specs.Order.{state_cmp, is_state}
-use Rattle.verdict.specs.Shown.{AreShown}
-use Rattle.verdict.specs.Text.{place_of}
-use Rattle.verdict.proofs.Orders.{is_state_same, state_total}
+use Rattle.outcome_states.specs.Kept.{Flag, is_kept, kept, raised_names}
+use Rattle.outcome_states.specs.Meaning as program_meaning
+use Rattle.outcome_states.specs.Meaning.{satisfies}
+use Rattle.outcome_states.specs.Order.{state_cmp, is_state}
+use Rattle.outcome_states.specs.Shown.{AreShown}
+use Rattle.outcome_states.specs.Text.{place_of}
+use Rattle.outcome_states.proofs.Orders.{is_state_same, state_total}
 use Rattle.from_scratch.specs.Answers.{AreSaid}
 use Rattle.from_scratch.specs.Cell.{IsEvaluationFrom}
 use Rattle.meaning.specs.Sets.{IsOnce, HasCount}
@@ -56,7 +56,7 @@ use Rattle.meaning_items.proofs.Kept.{kept_are_met}
 use Rattle.meaning_states.proofs.Carrying.{met_alike}
 use Rattle.meaning_states.proofs.Listing.{IsPair, all_named, pair_at, names_of_pair}
 use Rattle.meaning_states.proofs.Raised.{all_raised}
-use Rattle.meaning_words.specs.Words.{IsTestOfWords}
+use Rattle.meaning_laws.specs.Words.{IsTestOfWords}
 use Rattle.meaning_executions.specs.Satisfied.{IsShownAs}
 use Rattle.meaning_executions.proofs.Conditions.{all_meant}
 use Rattle.meaning_states.specs.ByName.{value_by_name, state_by_name, observation_by_name, evaluation_by_name}

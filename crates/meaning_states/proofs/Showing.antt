@@ -10,16 +10,16 @@ use Rattle.std.proofs.lemmas.Slice.Eq.{bytes_eq-Decides}
 use Rattle.text_values.specs.declared.test.Place.{Place}
 use Rattle.text_values.specs.declared.test.Place.TheVariants as places
 use Rattle.text_values.specs.TestValue.{Content, Formula, Constant, Holds, Not, Join}
-use Rattle.ppc_semantics.specs.Lowering.{IsNameBefore}
-use Rattle.verdict.specs.declared.observable.Observable.{Observable}
-use Rattle.verdict.specs.declared.observable.Observable.TheVariants as shown
-use Rattle.verdict.specs.Meaning.{known_observable, location_of}
-use Rattle.verdict.specs.Meaning as program
-use Rattle.verdict.specs.Names.{is_name}
-use Rattle.verdict.specs.Order.{observable_cmp, is_observable}
-use Rattle.verdict.specs.Shown.{AreShown, is_among, known_observables}
-use Rattle.verdict.specs.Text.{place_of, name_at}
-use Rattle.verdict.proofs.Orders.{is_observable_same, is_observable_itself}
+use Rattle.ppc_lowering.specs.Lowering.{IsNameBefore}
+use Rattle.outcome_states.specs.declared.observable.Observable.{Observable}
+use Rattle.outcome_states.specs.declared.observable.Observable.TheVariants as shown
+use Rattle.outcome_states.specs.Meaning.{known_observable, location_of}
+use Rattle.outcome_states.specs.Meaning as program
+use Rattle.outcome_states.specs.Names.{is_name}
+use Rattle.outcome_states.specs.Order.{observable_cmp, is_observable}
+use Rattle.outcome_states.specs.Shown.{AreShown, is_among, known_observables}
+use Rattle.outcome_states.specs.Text.{place_of, name_at}
+use Rattle.outcome_states.proofs.Orders.{is_observable_same, is_observable_itself}
 use Rattle.meaning.specs.Names.{Name, locations, locations_of_entry, locations_of_formula, locations_of_observable, locations_of_value}
 use Rattle.meaning.specs.Outcome.{observables_of, observables}
 use Rattle.meaning.proofs.Counting.{here, behind, head_or_tail, rising_are_one}

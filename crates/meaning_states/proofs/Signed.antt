@@ -6,11 +6,11 @@ use Rattle.std.specs.Ordering.{ordering_then}
 use Rattle.std.proofs.lemmas.Bool.{cases_lt}
 use Rattle.std.proofs.lemmas.Int.{of_z-to_z}
 use mir.ValLaws.{to_z_pos, to_z-neg}
-use Rattle.verdict.specs.declared.answer.FinalValue.{FinalValue}
-use Rattle.verdict.specs.declared.answer.FinalValue.TheVariants as finals
-use Rattle.verdict.specs.Order.{value_cmp, state_cmp}
-use Rattle.verdict.proofs.Orders.{is_state_same}
-use Rattle.ppc_semantics.specs.Lowering.{IsNameBefore}
+use Rattle.outcome_states.specs.declared.answer.FinalValue.{FinalValue}
+use Rattle.outcome_states.specs.declared.answer.FinalValue.TheVariants as finals
+use Rattle.outcome_states.specs.Order.{value_cmp, state_cmp}
+use Rattle.outcome_states.proofs.Orders.{is_state_same}
+use Rattle.ppc_lowering.specs.Lowering.{IsNameBefore}
 use Rattle.meaning.specs.Names.{Name}
 use Rattle.meaning.specs.Machine.{Value, is_less}
 use Rattle.meaning.specs.Outcome.{is_value_before, IsStateBefore}

@@ -1,11 +1,11 @@
 -- An evaluation with names in place of the numbers of locations. Read next: States.
 use Rattle.std.specs.Prelude.{List, [], map, slice_index_or}
-use Rattle.verdict.specs.declared.answer.FinalValue.{FinalValue}
-use Rattle.verdict.specs.declared.answer.FinalValue.TheVariants as finals
-use Rattle.verdict.specs.declared.answer.CountedState as program_state
-use Rattle.verdict.specs.declared.answer.Observation as program_observation
-use Rattle.verdict.specs.declared.answer.Observation.TheVariants as observations
-use Rattle.verdict.specs.declared.answer.Evaluation as program_evaluation
+use Rattle.outcome_states.specs.declared.answer.FinalValue.{FinalValue}
+use Rattle.outcome_states.specs.declared.answer.FinalValue.TheVariants as finals
+use Rattle.outcome_states.specs.declared.answer.CountedState as program_state
+use Rattle.outcome_states.specs.declared.answer.Observation as program_observation
+use Rattle.outcome_states.specs.declared.answer.Observation.TheVariants as observations
+use Rattle.outcome_states.specs.declared.answer.Evaluation as program_evaluation
 use Rattle.meaning.specs.Names.{Name}
 use Rattle.meaning.specs.Machine.{Value, Address, NoValue, word}
 use Rattle.meaning.specs.Outcome.{CountedState, Evaluation, Observation, Never, Sometimes, Always}

@@ -9,10 +9,10 @@ use Rattle.binding_kinds.specs.Outermost.{outermost_names}
 use Rattle.binding_kinds.specs.Value.{bare_item}
 use Rattle.binding_graph.specs.declared.resolved.ResolvedItem.{ResolvedItem}
 use Rattle.binding_graph.specs.Resolved.{AreResolved, AreLabelledAs}
-use Rattle.candidates.specs.declared.candidate.Space.{Space}
+use Rattle.candidate_spaces.specs.declared.candidate.Space.{Space}
 use Rattle.candidates.specs.Listed.{ListsExecutions}
-use Rattle.candidates.specs.Space.{shown_in}
-use Rattle.verdict.specs.Kept.{Flag, kept, raised_names}
+use Rattle.candidate_spaces.specs.Space.{shown_in}
+use Rattle.outcome_states.specs.Kept.{Flag, kept, raised_names}
 use Rattle.from_scratch.specs.Answers.{AreSaid}
 use Rattle.meaning.specs.Executions.{Execution}
 use Rattle.meaning.specs.Evaluates.{IsKept, MeetsFlag}

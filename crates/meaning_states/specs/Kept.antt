@@ -2,8 +2,8 @@
 use Rattle.std.specs.Prelude.{ℕ, ◌<◌, ◌↔◌, List}
 use Rattle.text_values.specs.ModelValue.{Clause}
 use Rattle.text_values.specs.TestValue.{Content}
-use Rattle.candidates.specs.Space.{Candidate}
-use Rattle.cat_eval.specs.Executions.{events_of}
+use Rattle.candidate_spaces.specs.Space.{Candidate}
+use Rattle.cat_machine.specs.Executions.{events_of}
 use Rattle.meaning.specs.Executions.{Execution, IsEvent}
 use Rattle.meaning.specs.Cat.{AreMet, IsFlagMet}
 use Rattle.meaning.specs.Evaluates.{outermost, MeetsFlag}

@@ -9,15 +9,15 @@ use Rattle.binding_kinds.specs.Outermost.{outermost_names}
 use Rattle.binding_kinds.specs.Value.{bare_item}
 use Rattle.binding_graph.specs.declared.resolved.ResolvedItem.{ResolvedItem}
 use Rattle.binding_graph.specs.Resolved.{AreResolved, AreLabelledAs}
-use Rattle.candidates.specs.declared.candidate.Space.{Space}
+use Rattle.candidate_spaces.specs.declared.candidate.Space.{Space}
 use Rattle.candidates.specs.Listed.{ListsExecutions}
-use Rattle.verdict.specs.declared.answer.Evaluation as program_evaluation
+use Rattle.outcome_states.specs.declared.answer.Evaluation as program_evaluation
 use Rattle.from_scratch.specs.Cell.{IsEvaluationBy}
 use Rattle.meaning.specs.Names.{locations}
 use Rattle.meaning.specs.Evaluates.{IsKept, MeetsFlag}
 use Rattle.meaning.specs.Outcome.{Evaluation, Says}
 use Rattle.meaning_items.specs.FunctionLaws.{AreFaultless}
-use Rattle.meaning_words.specs.Words.{IsTestOfWords}
+use Rattle.meaning_laws.specs.Words.{IsTestOfWords}
 use Rattle.meaning_states.specs.ByName.{evaluation_by_name}
 
 -- The executions of the test that the items keep say this.

@@ -12,18 +12,18 @@ use Rattle.litmus_tokens.specs.declared.token.Token.TheVariants as tokens
 use Rattle.litmus_tokens.specs.declared.place.WrittenPlace.{WrittenPlace}
 use Rattle.litmus_tokens.specs.Words.{decimal, signed, is_int, is_empty}
 use Rattle.litmus_tokens.specs.Conditions.{ValueTree, Number, Address, value_meaning, written_place, IsValueTree, FormulaTree, Word, Atom, Prefix, Pair, Group, HasAtoms, tree_formula, Limits, condition_limits}
-use Rattle.litmus_table.specs.declared.opcode.DataOpcode.{DataOpcode}
-use Rattle.litmus_table.specs.declared.opcode.DataOpcode.TheVariants as data_opcodes
-use Rattle.litmus_table.specs.declared.opcode.Opcode.{Opcode}
-use Rattle.litmus_table.specs.declared.opcode.Opcode.TheVariants as opcodes
-use Rattle.litmus_table.specs.declared.opcode.Want.{Want}
-use Rattle.litmus_table.specs.declared.opcode.Want.TheVariants as wants
-use Rattle.litmus_table.specs.Words.{opcode_of, takes_operands, token_fits, all_fit, data_form, registers, immediate, data_meaning, branch_meaning, instruction_meaning, target_label}
+use Rattle.litmus_words.specs.declared.opcode.DataOpcode.{DataOpcode}
+use Rattle.litmus_words.specs.declared.opcode.DataOpcode.TheVariants as data_opcodes
+use Rattle.litmus_words.specs.declared.opcode.Opcode.{Opcode}
+use Rattle.litmus_words.specs.declared.opcode.Opcode.TheVariants as opcodes
+use Rattle.litmus_words.specs.declared.opcode.Want.{Want}
+use Rattle.litmus_words.specs.declared.opcode.Want.TheVariants as wants
+use Rattle.litmus_words.specs.Words.{opcode_of, takes_operands, token_fits, all_fit, data_form, registers, immediate, data_meaning, branch_meaning, instruction_meaning, target_label}
 use Rattle.litmus_table.specs.Grammar.{InstructionTree, CellTree, RowTree, IsOperation, IsInstruction, AreCells, AreRowTrees, label_steps, operation_steps, instruction_steps, cell_steps, cells_steps, nth_cell, column, columns_meaning}
 use Rattle.litmus_grammar.specs.Grammar.{EntryTree, entry_meaning, AreEntryTrees, IsTestTree, TestTree, members, test_meaning}
 use Rattle.litmus_grammar.specs.Texts.{ReadsTest}
 use Rattle.text_values.specs.declared.instruction.BranchCondition.{BranchCondition}
-use Rattle.meaning_words.specs.Words.{IsWrittenWord, HasWordImmediate, IsStepOfWords, IsFormulaOfWords, IsTestOfWords}
+use Rattle.meaning_laws.specs.Words.{IsWrittenWord, HasWordImmediate, IsStepOfWords, IsFormulaOfWords, IsTestOfWords}
 use Rattle.meaning_texts.specs.Read.{TextsAreOfWords}
 
 -- ---- numbers

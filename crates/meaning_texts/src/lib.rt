@@ -1,5 +1,5 @@
 //! A law of tests that are read: the numbers that they write have 32 bits. Read in specs/: Read,
-//! after `Texts` of `litmus_grammar/specs` and `Words` of `meaning_words/specs`.
+//! after `Texts` of `litmus_grammar/specs` and `Words` of `meaning_laws/specs`.
 #![tactic(auto)]
 
 ghost use Rattle.meaning_texts.specs.Read.{TextsAreOfWords};

@@ -11,8 +11,8 @@ use Rattle.meaning.specs.Executions.{Execution, IsExecution}
 use Rattle.meaning.specs.Outcome.{EndsWith, EndsIn, observables, observables_of, final_register, Satisfies}
 use Rattle.meaning.proofs.Counting.{here, behind}
 use Rattle.meaning.proofs.Finals.{ends_in_one}
-use Rattle.meaning_words.specs.Words.{IsWord, IsTestOfWords}
-use Rattle.meaning_words.proofs.Ending.{all_words, all_hold}
+use Rattle.meaning_laws.specs.Words.{IsWord, IsTestOfWords}
+use Rattle.meaning_laws.proofs.Ending.{all_words, all_hold}
 use Rattle.meanings_exist.proofs.Decisions.{Decided, decided_as, not_decided, both_decided, either_decided, implied_decided, test_decided, same_value, same_list, same_head}
 use Rattle.meanings_exist.specs.Sorted.{IsGood}
 use Rattle.meanings_exist.proofs.Observing.{named_is_observed, observed_is_location}

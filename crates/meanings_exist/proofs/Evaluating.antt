@@ -10,7 +10,7 @@ use Rattle.meaning.specs.Executions.{Execution, IsExecution, IsEvent}
 use Rattle.meaning.specs.Cat.{AreMet}
 use Rattle.meaning.specs.Outcome.{CountedState, AreStates, Satisfies, AreFlags, observation_of, is_met, Evaluation, Says}
 use Rattle.meaning.specs.Evaluates.{outermost, IsKept, MeetsFlag}
-use Rattle.meaning_words.specs.Words.{IsTestOfWords}
+use Rattle.meaning_laws.specs.Words.{IsTestOfWords}
 use Rattle.meanings_exist.proofs.Decisions.{Decided, not_decided}
 use Rattle.meanings_exist.proofs.Sublists.{listed_part, counted_part, decide_each}
 use Rattle.meanings_exist.proofs.Finite.{some_decided}

@@ -7,7 +7,7 @@ use Rattle.meaning.specs.Sets.{IsIrreflexive, IsEmpty}
 use Rattle.meaning.specs.Cat.{Meaning, ASet, ARelation, Names, ToFunction, meaning_of, with_arguments, Least, names_after, HasProperty, NegatedIf, IsMet, IsItemMet, AreMet, IsFlagMet}
 use Rattle.meaning.specs.Faults.{Scope, known_after, faults_of_item, faults_from, outermost_scope}
 use Rattle.meaning.specs.Evaluates.{outermost}
-use Rattle.meaning_rising.proofs.Growing.{AreKnown, no_parts, group_grows, known_behind, outermost_known}
+use Rattle.meaning_laws.proofs.Growing.{AreKnown, no_parts, group_grows, known_behind, outermost_known}
 use Rattle.meanings_exist.proofs.Decisions.{Decided, decided_as, none_decided, not_decided, both_decided}
 use Rattle.meanings_exist.proofs.Finite.{finite_list, each_decided}
 use Rattle.meanings_exist.proofs.Paths.{acyclic_decided}

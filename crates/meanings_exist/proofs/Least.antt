@@ -8,9 +8,9 @@ use Rattle.meaning.specs.Names.{Name}
 use Rattle.meaning.specs.Cat.{Meaning, Names, meaning_of, HasPair, with_group, Choice, IsChosen, IsClosed, Least}
 use Rattle.meaning.proofs.Counting.{here, behind, head_or_tail}
 use Rattle.plain_runs.proofs.Listing.{none_there, there_mapped}
-use Rattle.meaning_rising.specs.Inside.{IsInside}
-use Rattle.meaning_rising.specs.Laws.{IsChoiceInside}
-use Rattle.meaning_rising.proofs.Inside.{pair_inside}
+use Rattle.meaning_laws.specs.Inside.{IsInside}
+use Rattle.meaning_laws.specs.RisingLaws.{IsChoiceInside}
+use Rattle.meaning_laws.proofs.Inside.{pair_inside}
 use Rattle.meanings_exist.proofs.Decisions.{Decided, decided_as, both_decided, implied_decided, test_decided, same_name, same_pair, answer, answer_is, answer_from}
 use Rattle.meanings_exist.proofs.Finite.{Finite, finite_list, finite_over, finite_map, each_decided, member_or_not}
 use Rattle.meanings_exist.proofs.Tame.{IsTameRelation, Frame}

@@ -10,7 +10,7 @@ use Rattle.std.proofs.lemmas.Map.Lookups.{exact_bytes}
 use Rattle.meaning.specs.Names.{Name, is_name_before}
 use Rattle.meaning.specs.Machine.{Value, Number, Address, NoValue, is_less}
 use Rattle.meaning.specs.Outcome.{is_value_before, IsStateBefore}
-use Rattle.meaning_words.specs.Words.{IsWord}
+use Rattle.meaning_laws.specs.Words.{IsWord}
 use Rattle.meanings_exist.specs.Sorted.{Compared, IsGood}
 
 -- ---- names

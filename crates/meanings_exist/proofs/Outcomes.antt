@@ -7,7 +7,7 @@ use Rattle.meaning.specs.Executions.{Execution, IsExecution}
 use Rattle.meaning.specs.Faults.{ModelFault, faults}
 use Rattle.meaning.specs.Refusals.{Refusal, IsRefusal, IsAccepted}
 use Rattle.meaning.specs.Evaluates.{Outcome, Faulty, Refused, Evaluated, Evaluates}
-use Rattle.meaning_words.specs.Words.{IsTestOfWords}
+use Rattle.meaning_laws.specs.Words.{IsTestOfWords}
 use Rattle.meanings_exist.proofs.Executions.{executions_listed}
 use Rattle.meanings_exist.proofs.Limits.{refused_or_accepted}
 use Rattle.meanings_exist.proofs.Items.{checks_decided, flags_decided}

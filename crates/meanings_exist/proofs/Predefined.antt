@@ -5,10 +5,10 @@ use Rattle.text_values.specs.declared.instruction.Fence as kinds
 use Rattle.text_values.specs.declared.instruction.Fence.TheVariants.{Sync, LightweightSync, Eieio, Isync}
 use Rattle.text_values.specs.declared.instruction.Instruction as text
 use Rattle.text_values.specs.declared.instruction.Instruction.TheVariants as texts
-use Rattle.text_values.specs.declared.predefined.Predefined.{Predefined}
-use Rattle.text_values.specs.declared.predefined.Predefined.TheVariants as names
-use Rattle.text_values.specs.PredefinedNames as predefined
-use Rattle.text_values.specs.PredefinedNames.{spelling}
+use Rattle.predefined_names.specs.declared.predefined.Predefined.{Predefined}
+use Rattle.predefined_names.specs.declared.predefined.Predefined.TheVariants as names
+use Rattle.predefined_names.specs.PredefinedNames as predefined
+use Rattle.predefined_names.specs.PredefinedNames.{spelling}
 use Rattle.text_values.specs.TestValue.{Content}
 use Rattle.meaning.specs.Sets.{Relation, Intersection, Inverse, Union}
 use Rattle.meaning.specs.Names.{Name}
@@ -24,7 +24,7 @@ use Rattle.plain_runs.proofs.Running.{same_some, no_some}
 use Rattle.meanings_exist.proofs.Decisions.{Decided, decided_as, none_decided, both_decided, either_decided, same_event, same_number, below_decided}
 use Rattle.meanings_exist.proofs.Finite.{Finite, finite_list, finite_either, finite_below, some_decided, inhabited}
 use Rattle.meanings_exist.proofs.Needs.{addr_or_not, data_or_not, ctrl_or_not, ctrl_isync_or_not}
-use Rattle.meaning_rising.proofs.Growing.{names_onto, names_are}
+use Rattle.meaning_laws.proofs.Growing.{names_onto, names_are}
 use Rattle.meanings_exist.proofs.Events.{action_or_not, event_or_not, loaded_locations, stored_locations, load_or_not, store_or_not, places, event_place, does_place, get_below, in_range, IsPlace}
 use Rattle.meanings_exist.proofs.Executions.{read_below, reads_from_or_not, depends_or_not}
 use Rattle.meanings_exist.proofs.Tame.{IsTameSet, IsTameRelation, Frame, no_members, no_pairs, union, intersection, inverse, sequence, identity, complement}

@@ -9,7 +9,7 @@ use Rattle.meaning.specs.Executions.{Execution, IsExecution}
 use Rattle.meaning.specs.Outcome.{CountedState, IsCounted, AreStates, IsStateBefore, EndsIn, Satisfies, observables}
 use Rattle.meaning.proofs.Counting.{here, behind, head_or_tail}
 use Rattle.meaning.proofs.Finals.{ends_in_one}
-use Rattle.meaning_words.specs.Words.{IsTestOfWords}
+use Rattle.meaning_laws.specs.Words.{IsTestOfWords}
 use Rattle.plain_runs.proofs.Listing.{none_there, mapped_from}
 use Rattle.meanings_exist.proofs.Decisions.{Decided, answer, answer_is, answer_from}
 use Rattle.meanings_exist.proofs.Sublists.{counted_part, decide_each, above_none}

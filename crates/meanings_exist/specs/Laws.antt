@@ -1,10 +1,10 @@
 -- Each test says something under each model. Read it after Evaluates of meaning/specs and Words of
--- meaning_words/specs.
+-- meaning_laws/specs.
 use Rattle.std.specs.Prelude.{List}
 use Rattle.text_values.specs.TestValue.{Content}
 use Rattle.text_values.specs.ModelValue.{Clause}
 use Rattle.meaning.specs.Evaluates.{Outcome, Evaluates}
-use Rattle.meaning_words.specs.Words.{IsTestOfWords}
+use Rattle.meaning_laws.specs.Words.{IsTestOfWords}
 
 -- Under each model there is something that the test says.
 abbrev pub SaysSomething : Content → Type 0

@@ -2,7 +2,7 @@
 use Rattle.std.specs.Prelude.{ℕ, ◌≡◌, ◌⊎◌, ◌↔◌, List, [], ◌∷◌, length, Contains}
 use Rattle.std.specs.List.{AllByRecursion}
 use Rattle.meaning.specs.Machine.{Value}
-use Rattle.meaning_words.specs.Words.{IsWord}
+use Rattle.meaning_laws.specs.Words.{IsWord}
 
 -- One comes before the other, or both are one.
 abbrev pub Compared : {X : Type 0} → (X → X → Type 0) → X → X → Type 0

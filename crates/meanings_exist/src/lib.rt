@@ -10,7 +10,7 @@ ghost use Rattle.meanings_exist.specs.ModelLaws.{ChecksAreDecided, FlagsAreDecid
 ghost use Rattle.text_values.specs.TestValue.{content_of};
 ghost use Rattle.meanings_exist.specs.Laws.{SaysSomething, AMeaningExists};
 
-use meaning_words::test_is_of_words;
+use meaning_laws::test_is_of_words;
 use text_values::Test;
 
 /// Whether the pairs of a list of events make a cycle is decided.

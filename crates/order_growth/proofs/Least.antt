@@ -3,13 +3,13 @@ use Rattle.std.proofs.Common.{ℕ, ◌≡◌, ◌<◌, List, length, Bool, true,
 use Rattle.std.specs.Prelude.{◌&&◌, nat_eq, slice_get, slice_index}
 use Rattle.std.specs.Int.{bit_at}
 use Rattle.std.proofs.lemmas.Bool.Decides.{nat_tests}
-use Rattle.bit_relations.specs.Relation.{Relation, Bit}
+use Rattle.bit_rows.specs.Relation.{Relation, Bit}
 use Rattle.binding_graph.specs.declared.resolved.Source.{Source}
 use Rattle.binding_graph.specs.Trees.{RelTree}
-use Rattle.cat_eval.specs.Least.{IsLeast, body}
-use Rattle.cat_eval.specs.Meaning.{MeansRelation}
-use Rattle.cat_eval.specs.Named.{PairsFound, OwnPairs, WithOwn}
-use Rattle.cat_eval.proofs.Same.{Same}
+use Rattle.cat_machine.specs.Least.{IsLeast, body}
+use Rattle.cat_machine.specs.Meaning.{MeansRelation}
+use Rattle.cat_machine.specs.Named.{PairsFound, OwnPairs, WithOwn}
+use Rattle.cat_machine.proofs.Same.{Same}
 use Rattle.order_growth.proofs.Trees.{Subset}
 
 -- the pairs of a value, as a test

@@ -1,7 +1,10 @@
 pub mod Coding
+pub mod Keeping
+pub mod KeptNames
 pub mod Least
 pub mod Naming
 pub mod Refused
+pub mod Refusing
 pub mod Rows
 pub mod Stepping
 pub mod Trees

@@ -1,19 +1,19 @@
 -- What the names of an item stand for changes as their growths say.
 use Rattle.std.proofs.Common.{ℕ, ◌≡◌, inl, inr, List, [], Bor, refl, sym, ap, subst}
-use Rattle.text_values.specs.declared.predefined.Predefined.{Predefined}
-use Rattle.text_values.specs.declared.predefined.Predefined.TheVariants as names
-use Rattle.run_combinations.specs.declared.combination.Combination.{Combination}
-use Rattle.run_combinations.specs.declared.combination.Event.{Event}
-use Rattle.candidates.specs.Space.{Candidate}
+use Rattle.predefined_names.specs.declared.predefined.Predefined.{Predefined}
+use Rattle.predefined_names.specs.declared.predefined.Predefined.TheVariants as names
+use Rattle.store_orders.specs.declared.combination.Combination.{Combination}
+use Rattle.store_orders.specs.declared.combination.Event.{Event}
+use Rattle.candidate_spaces.specs.Space.{Candidate}
 use Rattle.base_names.specs.Events.{ReadsFromBy, Coherence}
 use Rattle.base_names.specs.Candidate.{SetIn, ReadsFromIn, CoherenceIn, FromReadsIn, RelationIn}
 use Rattle.binding_graph.specs.declared.resolved.Source.{Source}
 use Rattle.binding_graph.specs.declared.resolved.Source.TheVariants as sources
-use Rattle.cat_eval.specs.declared.column.Column.{Column}
-use Rattle.cat_eval.specs.Executions.{EventsAt, PairsAt}
-use Rattle.cat_eval.specs.Named.{WithOwn}
-use Rattle.cat_eval.proofs.Same.{Same, SameSet}
-use Rattle.cat_eval_laws.proofs.Naming.{HaveSameNames, events_kept, pairs_kept}
+use Rattle.cat_machine.specs.declared.column.Column.{Column}
+use Rattle.cat_machine.specs.Executions.{EventsAt, PairsAt}
+use Rattle.cat_machine.specs.Named.{WithOwn}
+use Rattle.cat_machine.proofs.Same.{Same, SameSet}
+use Rattle.order_growth.proofs.KeptNames.{HaveSameNames, events_kept, pairs_kept}
 use Rattle.order_growth.specs.declared.growth.Growth.{Growth}
 use Rattle.order_growth.specs.Growth.{predefined_growth, source_growth}
 use Rattle.order_growth.specs.Within.{IsWithin, IsGrowthBetween, AreInputsGrown}

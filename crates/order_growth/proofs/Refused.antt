@@ -1,7 +1,7 @@
 -- What a check refuses in a candidate, it refuses in one that this lies within.
 use Rattle.std.proofs.Common.{ℕ, ◌≡◌, ◌↔◌, inl, inr, [], Bool, true, false, IsTrue, Some, refl, sym, ap, ◌∙◌, subst, arith}
 use Rattle.std.proofs.lemmas.Option.{slice_get_within, slice_get_cases}
-use Rattle.bit_relations.proofs.Closing.{Plus-map}
+use Rattle.bit_rows.proofs.Closing.{Plus-map}
 use Rattle.text_values.specs.declared.model.CheckWord.{CheckWord}
 use Rattle.text_values.specs.declared.model.CheckWord.TheVariants as words
 use Rattle.binding_kinds.specs.declared.kinds.Kind.{Kind}
@@ -9,11 +9,11 @@ use Rattle.binding_kinds.specs.declared.kinds.Kind.TheVariants as kinds
 use Rattle.binding_graph.specs.declared.resolved.CheckCode.{CheckCode}
 use Rattle.binding_graph.specs.declared.resolved.Source.{Source}
 use Rattle.binding_graph.specs.Trees.{RelTree, rel_code}
-use Rattle.cat_eval.specs.Checks.{Holds}
-use Rattle.cat_eval.specs.Executions.{events_of, EventsAt, PairsAt}
-use Rattle.cat_eval.specs.Meaning.{MeansRelation}
-use Rattle.cat_eval.specs.Named.{OwnPairs, WithOwn}
-use Rattle.cat_eval.specs.Values.{IsCheckAnswer, Unless}
+use Rattle.cat_machine.specs.Checks.{Holds}
+use Rattle.cat_machine.specs.Executions.{events_of, EventsAt, PairsAt}
+use Rattle.cat_machine.specs.Meaning.{MeansRelation}
+use Rattle.cat_machine.specs.Named.{OwnPairs, WithOwn}
+use Rattle.cat_machine.specs.Values.{IsCheckAnswer, Unless}
 use Rattle.order_growth.specs.declared.growth.Growth.{Growth}
 use Rattle.order_growth.specs.declared.growth.Growth.TheVariants.{Stays, Grows, Unknown}
 use Rattle.order_growth.specs.Growth.{growth_of, source_growth}

@@ -3,8 +3,8 @@ use Rattle.std.proofs.Common.{ℕ, ◌≡◌, ◌+◌, ◌++◌, zero, suc, List
 use Rattle.std.specs.Prelude.{slice_get}
 use Rattle.std.proofs.lemmas.Option.{slice_get_within}
 use Rattle.base_names.specs.Events.{SameLocation, loads_in}
-use Rattle.run_combinations.specs.declared.combination.Combination.{Combination}
-use Rattle.run_combinations.specs.declared.combination.Event.{Event}
+use Rattle.store_orders.specs.declared.combination.Combination.{Combination}
+use Rattle.store_orders.specs.declared.combination.Event.{Event}
 use Rattle.order_growth.specs.Laws.{RowsLieWithin}
 
 in_front : (row behind : List ℕ) (i x : ℕ) → slice_get row i ≡ Some x

@@ -1,13 +1,13 @@
 -- Expressions change as their growths say, where their names do.
 use Rattle.std.proofs.Common.{ℕ, inl, inr}
-use Rattle.bit_relations.specs.Pairs.{Union, Inter, Minus, Complement, Composite}
+use Rattle.bit_rows.specs.Pairs.{Union, Inter, Minus, Complement, Composite}
 use Rattle.binding_graph.specs.declared.resolved.Blend.{Blend}
 use Rattle.binding_graph.specs.declared.resolved.Blend.TheVariants as blends
 use Rattle.binding_graph.specs.declared.resolved.Source.{Source}
 use Rattle.binding_graph.specs.Trees.{SetTree, SetName, AllEvents, NoEvent, BlendSets, ComplementSet, RelTree, RelName, NoPair, BlendRelations, SequenceRelations, ProductOfSets, IdentityOn, Close, ComplementRelation}
-use Rattle.cat_eval.specs.Meaning.{MeansSet, MeansRelation, Blended, Closed}
-use Rattle.cat_eval.proofs.Monotone.{closed_wider}
-use Rattle.cat_eval.proofs.Same.{Same, SameSet, same_sets, same_others, same_turn, same_cross, same_on}
+use Rattle.cat_machine.specs.Meaning.{MeansSet, MeansRelation, Blended, Closed}
+use Rattle.cat_machine.proofs.Monotone.{closed_wider}
+use Rattle.cat_machine.proofs.Same.{Same, SameSet, same_sets, same_others, same_turn, same_cross, same_on}
 use Rattle.order_growth.specs.declared.growth.Growth.{Growth}
 use Rattle.order_growth.specs.declared.growth.Growth.TheVariants.{Stays, Grows, Unknown}
 use Rattle.order_growth.specs.Growth.{growth_of_both, growth_of_complement, growth_of_blend, growth_of}

@@ -4,26 +4,26 @@ use Rattle.std.specs.Prelude.{slice_get}
 use Rattle.std.specs.List.{AllByRecursion}
 use Rattle.std.proofs.lemmas.List.{get_or-replicate}
 use Rattle.std.proofs.lemmas.Option.{slice_get-get_or}
-use Rattle.bit_relations.specs.Relation.{Relation, Events, IsRelation, IsEvents, no_slot}
+use Rattle.bit_rows.specs.Relation.{Relation, Events, IsRelation, IsEvents, no_slot}
 use Rattle.base_names.specs.Known.{EventsFound}
 use Rattle.binding_kinds.specs.declared.kinds.Kind.{Kind}
 use Rattle.binding_kinds.specs.declared.kinds.Kind.TheVariants as kinds
 use Rattle.binding_graph.specs.declared.resolved.Body.{Body}
 use Rattle.binding_graph.specs.declared.resolved.Step.{Step}
 use Rattle.binding_graph.specs.Trees.{RelTree, rel_code}
-use Rattle.run_combinations.specs.declared.combination.Event.{Event}
-use Rattle.candidates.specs.Space.{Candidate}
-use Rattle.cat_eval.specs.declared.column.Column.{Column}
-use Rattle.cat_eval.specs.declared.column.Column.TheVariants as columns
-use Rattle.cat_eval.specs.Columns.{HasColumnValue, HaveValues}
-use Rattle.cat_eval.specs.Executions.{events_of, EventsAt, PairsAt}
-use Rattle.cat_eval.specs.Least.{IsLeast, body}
-use Rattle.cat_eval.specs.Meaning.{MeansSet, MeansRelation}
-use Rattle.cat_eval.specs.Named.{ColumnEvents, ColumnPairs, PairsFound, OwnPairs, WithOwn}
-use Rattle.cat_eval.specs.Rising.{AreCodes}
-use Rattle.cat_eval.specs.Values.{IsFor, IsMeaning}
-use Rattle.cat_eval.proofs.Growing.{codes_long}
-use Rattle.cat_eval.proofs.Same.{Same, SameSet}
+use Rattle.store_orders.specs.declared.combination.Event.{Event}
+use Rattle.candidate_spaces.specs.Space.{Candidate}
+use Rattle.cat_machine.specs.declared.column.Column.{Column}
+use Rattle.cat_machine.specs.declared.column.Column.TheVariants as columns
+use Rattle.cat_machine.specs.Columns.{HasColumnValue, HaveValues}
+use Rattle.cat_machine.specs.Executions.{events_of, EventsAt, PairsAt}
+use Rattle.cat_machine.specs.Least.{IsLeast, body}
+use Rattle.cat_machine.specs.Meaning.{MeansSet, MeansRelation}
+use Rattle.cat_machine.specs.Named.{ColumnEvents, ColumnPairs, PairsFound, OwnPairs, WithOwn}
+use Rattle.cat_machine.specs.Rising.{AreCodes}
+use Rattle.cat_machine.specs.Values.{IsFor, IsMeaning}
+use Rattle.cat_machine.proofs.Growing.{codes_long}
+use Rattle.cat_machine.proofs.Same.{Same, SameSet}
 use Rattle.order_growth.specs.declared.growth.Growth.{Growth}
 use Rattle.order_growth.specs.declared.growth.Growth.TheVariants.{Stays, Grows, Unknown}
 use Rattle.order_growth.specs.Growth.{growth_of, growth_of_both, growth_of_all, source_growth, IsGrowthOf, AreGrowthsOf, AreGroupGrowths}

@@ -2,7 +2,7 @@
 -- pairs of reads-from and of coherence. Read next: Within, Laws.
 use Rattle.std.specs.Prelude.{◌≡◌, Bool, true, false, List, [], ◌∷◌, length, replicate, slice_index_or}
 use Rattle.std.specs.List.{AllZip}
-use Rattle.text_values.specs.declared.predefined.Predefined.{Predefined}
+use Rattle.predefined_names.specs.declared.predefined.Predefined.{Predefined}
 use Rattle.binding_graph.specs.declared.resolved.Blend.{Blend}
 use Rattle.binding_graph.specs.declared.resolved.Blend.TheVariants as blends
 use Rattle.binding_graph.specs.declared.resolved.Body.{Body}

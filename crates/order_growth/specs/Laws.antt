@@ -1,19 +1,19 @@
--- What the laws of this crate say. Read `Growth` and `Within` first.
+-- What the calls of `laws` say. Read `Growth` and `Within` first.
 use Rattle.std.specs.Prelude.{ℕ, ◌≡◌, ◌<◌, ◌↔◌, Bool, false, List, [], ◌++◌, length, Some, slice_get, slice_index_or}
 use denote.Ref.{Bor}
-use Rattle.text_values.specs.declared.predefined.Predefined.{Predefined}
-use Rattle.dataflow.specs.DependencyLists.{dependency_lists}
-use Rattle.run_combinations.specs.declared.combination.Combination.{Combination}
+use Rattle.predefined_names.specs.declared.predefined.Predefined.{Predefined}
+use Rattle.taints.specs.DependencyLists.{dependency_lists}
+use Rattle.store_orders.specs.declared.combination.Combination.{Combination}
 use Rattle.base_names.specs.Candidate.{SetIn, RelationIn}
 use Rattle.binding_kinds.specs.declared.kinds.Kind.TheVariants.{OfSet}
 use Rattle.binding_graph.specs.declared.resolved.Body.{Body}
 use Rattle.binding_graph.specs.declared.resolved.CheckCode.{CheckCode}
 use Rattle.binding_graph.specs.Trees.{RelTree, rel_code}
-use Rattle.candidates.specs.Space.{Candidate}
-use Rattle.cat_eval.specs.declared.column.Column.{Column}
-use Rattle.cat_eval.specs.Columns.{AreGroupColumns}
-use Rattle.cat_eval.specs.Executions.{events_of}
-use Rattle.cat_eval.specs.Values.{AreAnswers}
+use Rattle.candidate_spaces.specs.Space.{Candidate}
+use Rattle.cat_machine.specs.declared.column.Column.{Column}
+use Rattle.cat_machine.specs.Columns.{AreGroupColumns}
+use Rattle.cat_machine.specs.Executions.{events_of}
+use Rattle.cat_machine.specs.Values.{AreAnswers}
 use Rattle.order_growth.specs.declared.growth.Growth.{Growth}
 use Rattle.order_growth.specs.declared.growth.Growth.TheVariants.{Unknown}
 use Rattle.order_growth.specs.Growth.{predefined_growth, growth_of, source_growth, AreGroupGrowths}

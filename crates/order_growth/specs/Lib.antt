@@ -1,5 +1,9 @@
 pub mod Coded
+pub mod CutLaws
 pub mod Growth
+pub mod Growths
+pub mod Items
+pub mod KeptLaws
 pub mod Laws
 pub mod Stacks
 pub mod Within

@@ -1,7 +1,7 @@
 //! How names and expressions change, told by their form.
 
 ghost use Rattle.std.specs.Prelude.{◌≡◌, ◌∷◌, [], List, IfOk, OnOk, reverse};
-ghost use Rattle.text_values.specs.declared.predefined.Predefined.{Predefined};
+ghost use Rattle.predefined_names.specs.declared.predefined.Predefined.{Predefined};
 ghost use Rattle.order_growth.specs.Growth.{growth_of_both, growth_of_complement, growth_of_blend, growth_of_all, predefined_growth, source_growth, IsGrowthOf, AreGrowthsOf, AreGroupGrowths};
 ghost use Rattle.order_growth.specs.Stacks.{top_of, below_top, growths_after};
 

@@ -1,6 +1,6 @@
 //! Laws of growths, and of items that are expressions. Read `specs/Laws` and `specs/Coded` first.
 
-ghost use Rattle.candidates.specs.Space.{Candidate};
+ghost use Rattle.candidate_spaces.specs.Space.{Candidate};
 ghost use Rattle.order_growth.specs.Coded.{AreItemsExpressions};
 ghost use Rattle.order_growth.specs.Laws.{PredefinedNamesGrow, RowsLieWithin, ColumnsGrow, RefusalsStay};
 

@@ -4,17 +4,17 @@ use Rattle.std.specs.List.{flat_map, after_first}
 use Rattle.text_values.specs.Joined.{joined}
 use Rattle.text_values.specs.declared.test.Quantifier.{Quantifier}
 use Rattle.text_values.specs.declared.test.Quantifier.TheVariants.{Exists, NotExists, Forall}
-use Rattle.verdict.specs.declared.answer.CountedState.{CountedState}
-use Rattle.verdict.specs.declared.answer.Evaluation.{Evaluation}
-use Rattle.verdict.specs.declared.answer.Observation.{Observation}
-use Rattle.verdict.specs.declared.answer.Outcome.{Outcome}
-use Rattle.verdict.specs.declared.answer.OutcomeResult.{OutcomeResult}
-use Rattle.verdict.specs.declared.answer.OutcomeResult.TheVariants as results
-use Rattle.verdict.specs.declared.answer.Refusal.{Refusal}
+use Rattle.outcome_states.specs.declared.answer.CountedState.{CountedState}
+use Rattle.outcome_states.specs.declared.answer.Evaluation.{Evaluation}
+use Rattle.outcome_states.specs.declared.answer.Observation.{Observation}
+use Rattle.outcome_states.specs.declared.answer.Outcome.{Outcome}
+use Rattle.outcome_states.specs.declared.answer.OutcomeResult.{OutcomeResult}
+use Rattle.outcome_states.specs.declared.answer.OutcomeResult.TheVariants as results
+use Rattle.outcome_states.specs.declared.answer.Refusal.{Refusal}
 use Rattle.outcome_texts.specs.Cells.{cell_field}
 use Rattle.outcome_texts.specs.Differences.{Pair, SharedState, shared_states, has_other_count, is_told_apart}
 use Rattle.outcome_texts.specs.Log.{observation_word, refusal_text}
-use Rattle.json_text.specs.Strings.{string_text}
+use Rattle.escaped_texts.specs.Strings.{string_text}
 use Rattle.outcome_lines.specs.Records.{Subject, TextRefusal, ModelOutcome, TestResult, Refused, Tested, model_at, pair_in}
 
 unfoldable pub bool_text : Bool → List ℕ

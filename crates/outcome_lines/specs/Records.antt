@@ -1,7 +1,7 @@
 -- What the lines are of: read this first, then Tab and Json. A table and a difference are lists of
 -- results, and their lines are those of each result, one behind the other.
 use Rattle.std.specs.Prelude.{ℕ, List, [], map, slice_index_or}
-use Rattle.verdict.specs.declared.answer.Outcome.{Outcome}
+use Rattle.outcome_states.specs.declared.answer.Outcome.{Outcome}
 use Rattle.outcome_texts.specs.Cells.{Cell, NoCell, Settled}
 use Rattle.outcome_texts.specs.Differences.{Pair}
 pub use Rattle.outcome_lines.specs.Subjects.{Subject, TextRefusal}

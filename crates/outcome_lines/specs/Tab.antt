@@ -1,13 +1,13 @@
 -- The lines of `--tab`: fields with a tab between two of them. A dash is a field that is not there.
 use Rattle.std.specs.Prelude.{ℕ, List, [], ◌∷◌, ◌++◌, Bool, true, false, decimal, codes}
 use Rattle.std.specs.List.{flat_map}
-use Rattle.verdict.specs.declared.answer.Evaluation.{Evaluation}
-use Rattle.verdict.specs.declared.answer.OutcomeResult.{OutcomeResult}
-use Rattle.verdict.specs.declared.answer.OutcomeResult.TheVariants as results
+use Rattle.outcome_states.specs.declared.answer.Evaluation.{Evaluation}
+use Rattle.outcome_states.specs.declared.answer.OutcomeResult.{OutcomeResult}
+use Rattle.outcome_states.specs.declared.answer.OutcomeResult.TheVariants as results
 use Rattle.outcome_texts.specs.Cells.{cell_field}
 use Rattle.outcome_texts.specs.Differences.{Pair, SharedState, shared_states, has_other_count, is_told_apart}
 use Rattle.outcome_texts.specs.Log.{line_end, observation_word, refusal_text}
-use Rattle.tab_text.specs.Fields.{field_text}
+use Rattle.escaped_texts.specs.Fields.{field_text}
 use Rattle.outcome_lines.specs.Records.{Subject, TextRefusal, ModelOutcome, TestResult, Refused, Tested, pair_in}
 
 abbrev pub tab : List ℕ

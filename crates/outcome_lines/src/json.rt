@@ -2,7 +2,7 @@
 
 ghost use Rattle.std.specs.Prelude.{◌≡◌, ◌++◌, ◌==◌, OnOk, map};
 ghost use Rattle.std.specs.List.{flat_map, after_first, position};
-ghost use Rattle.json_text.specs.Strings.{string_text};
+ghost use Rattle.escaped_texts.specs.Strings.{string_text};
 ghost use Rattle.outcome_lines.specs.Records.{model_outcome_of, test_of};
 ghost use Rattle.outcome_lines.specs.Json.{array_text, outcome_line, json_test_lines, kind_text, proposition_text, state_object, condition_members, evaluation_members, refused_outcome_line, eval_lines};
 
@@ -10,7 +10,7 @@ use crate::json_parts::{
     bool_text, put_observation_members, put_refusal_member, put_refused_line, put_subject_front,
 };
 use crate::record::{ModelOutcome, Subject, TestResult};
-use json_text::{put_number, put_string};
+use escaped_texts::{put_number, put_string};
 use outcome_texts::put_refusal;
 use std::alloc::{AllocError, Global};
 use text_values::{Name, Quantifier, put_between, put_bytes};

@@ -9,7 +9,7 @@ ghost use Rattle.outcome_lines.specs.Json.{array_text, counts_member, counts_obj
 use crate::json_parts::{bool_text, put_refused_line, put_test_front};
 use crate::pair::{model_at, pair_in};
 use crate::record::TestResult;
-use json_text::{put_number, put_string};
+use escaped_texts::{put_number, put_string};
 use outcome_texts::{
     SharedState, Shown, TestPair, cells_differ, has_other_count, put_cell, shared_states,
 };

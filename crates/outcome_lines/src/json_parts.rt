@@ -4,7 +4,7 @@ ghost use Rattle.std.specs.Prelude.{◌≡◌, ◌++◌, OnOk};
 ghost use Rattle.outcome_lines.specs.Json.{bool_text, path_front, test_front, subject_front, number_members, word_member, observation_members, refusal_member, refused_line};
 
 use crate::record::{Subject, TextRefusal};
-use json_text::{put_number, put_string};
+use escaped_texts::{put_number, put_string};
 use outcome_texts::observation_word;
 use std::alloc::AllocError;
 use text_values::put_bytes;

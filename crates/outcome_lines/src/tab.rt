@@ -7,9 +7,9 @@ ghost use Rattle.outcome_lines.specs.Records.{model_outcome_of, test_of};
 ghost use Rattle.outcome_lines.specs.Tab.{two_fields, subject_fields, observation_fields, result_fields, refused_line, result_line, outcome_line, tab_test_lines};
 
 use crate::record::{ModelOutcome, Subject, TestResult, TextRefusal};
+use escaped_texts::put_field;
 use outcome_texts::{observation_word, put_refusal};
 use std::alloc::AllocError;
-use tab_text::put_field;
 use text_values::{put_bytes, put_decimal};
 use verdict::{Evaluation, OutcomeResult, Refusal};
 

@@ -9,11 +9,11 @@ ghost use Rattle.outcome_lines.specs.Tab.{same_line, differ_line, counts_fields,
 use crate::pair::pair_in;
 use crate::record::TestResult;
 use crate::tab::{put_refused_line, put_two_fields};
+use escaped_texts::put_field;
 use outcome_texts::{
     SharedState, TestPair, cells_differ, has_other_count, put_cell, shared_states,
 };
 use std::alloc::{AllocError, Global};
-use tab_text::put_field;
 use text_values::{put_bytes, put_decimal};
 
 #[tactic(auto, unfolding(crate::specs::Tab::same_line))]

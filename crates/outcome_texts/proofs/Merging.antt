@@ -4,11 +4,11 @@ use Rattle.std.proofs.lemmas.List.{take_all}
 use Rattle.std.specs.Cmp.Lexicographic.{slice_cmp}
 use Rattle.std.specs.declared.cmp.Ordering.{Ordering}
 use Rattle.std.specs.declared.cmp.Ordering.TheVariants.{Less, Equal, Greater}
-use Rattle.verdict.proofs.Orders.{value_orders}
-use Rattle.verdict.specs.Order.{state_cmp}
-use Rattle.verdict.specs.contracts.answer.FinalValueOrd.TheImpl as value_ord
-use Rattle.verdict.specs.declared.answer.CountedState.{CountedState}
-use Rattle.verdict.specs.declared.answer.FinalValue.{FinalValue}
+use Rattle.outcome_states.proofs.Orders.{value_orders}
+use Rattle.outcome_states.specs.Order.{state_cmp}
+use Rattle.outcome_states.specs.contracts.answer.FinalValueOrd.TheImpl as value_ord
+use Rattle.outcome_states.specs.declared.answer.CountedState.{CountedState}
+use Rattle.outcome_states.specs.declared.answer.FinalValue.{FinalValue}
 use Rattle.outcome_texts.specs.Differences.{SharedState, of_first, of_second, of_both, by_order, merged}
 
 -- what is behind the first of a list

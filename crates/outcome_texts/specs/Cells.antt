@@ -2,10 +2,10 @@
 -- Differences.
 use Rattle.std.specs.Prelude.{ℕ, List, [], ◌++◌, Bool, true, false, decimal, codes}
 use Rattle.std.specs.List.{flat_map}
-use Rattle.verdict.specs.declared.answer.CountedState.{CountedState}
-use Rattle.verdict.specs.declared.answer.Outcome.{Outcome}
-use Rattle.verdict.specs.declared.answer.OutcomeResult.{OutcomeResult}
-use Rattle.verdict.specs.declared.answer.OutcomeResult.TheVariants.{Refused, Evaluated}
+use Rattle.outcome_states.specs.declared.answer.CountedState.{CountedState}
+use Rattle.outcome_states.specs.declared.answer.Outcome.{Outcome}
+use Rattle.outcome_states.specs.declared.answer.OutcomeResult.{OutcomeResult}
+use Rattle.outcome_states.specs.declared.answer.OutcomeResult.TheVariants.{Refused, Evaluated}
 use Rattle.outcome_texts.specs.declared.cell.Shown.{Shown}
 use Rattle.outcome_texts.specs.declared.cell.Shown.TheVariants as shown
 use Rattle.outcome_texts.specs.Log.{line_end, observation_text, refusal_text, refusal_line, log_of}

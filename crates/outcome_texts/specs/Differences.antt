@@ -5,14 +5,14 @@ use Rattle.std.specs.List.{flat_map, list_any}
 use Rattle.std.specs.declared.cmp.Ordering.{Ordering}
 use Rattle.std.specs.declared.cmp.Ordering.TheVariants.{Less, Equal, Greater}
 use Rattle.binding_kinds.specs.Numbers.{number as fault_number}
-use Rattle.ppc_semantics.specs.Numbers.{number as refusal_number}
-use Rattle.verdict.specs.declared.answer.CountedState.{CountedState}
-use Rattle.verdict.specs.declared.answer.Evaluation.{Evaluation}
-use Rattle.verdict.specs.declared.answer.OutcomeResult.{OutcomeResult}
-use Rattle.verdict.specs.declared.answer.OutcomeResult.TheVariants.{Refused, Evaluated}
-use Rattle.verdict.specs.declared.answer.Refusal.{Refusal}
-use Rattle.verdict.specs.declared.answer.Refusal.TheVariants.{Model, Space}
-use Rattle.verdict.specs.Order.{state_cmp}
+use Rattle.ppc_lowering.specs.Numbers.{number as refusal_number}
+use Rattle.outcome_states.specs.declared.answer.CountedState.{CountedState}
+use Rattle.outcome_states.specs.declared.answer.Evaluation.{Evaluation}
+use Rattle.outcome_states.specs.declared.answer.OutcomeResult.{OutcomeResult}
+use Rattle.outcome_states.specs.declared.answer.OutcomeResult.TheVariants.{Refused, Evaluated}
+use Rattle.outcome_states.specs.declared.answer.Refusal.{Refusal}
+use Rattle.outcome_states.specs.declared.answer.Refusal.TheVariants.{Model, Space}
+use Rattle.outcome_states.specs.Order.{state_cmp}
 use Rattle.outcome_texts.specs.declared.difference.TestPair.{TestPair}
 use Rattle.outcome_texts.specs.Cells.{Cell, NoCell, Open, Settled, cell_of, cell_field}
 use Rattle.outcome_texts.specs.Log.{line_end, flag_line}

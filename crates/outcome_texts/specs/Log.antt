@@ -4,16 +4,16 @@ use Rattle.std.specs.List.{flat_map}
 use Rattle.text_values.specs.declared.test.Quantifier.{Quantifier}
 use Rattle.text_values.specs.declared.test.Quantifier.TheVariants.{Exists, NotExists, Forall}
 use Rattle.binding_kinds.specs.Numbers.{number as fault_number}
-use Rattle.ppc_semantics.specs.Numbers.{number as refusal_number}
-use Rattle.verdict.specs.declared.answer.CountedState.{CountedState}
-use Rattle.verdict.specs.declared.answer.Evaluation.{Evaluation}
-use Rattle.verdict.specs.declared.answer.Observation.{Observation}
-use Rattle.verdict.specs.declared.answer.Observation.TheVariants.{Never, Sometimes, Always}
-use Rattle.verdict.specs.declared.answer.Outcome.{Outcome}
-use Rattle.verdict.specs.declared.answer.OutcomeResult.{OutcomeResult}
-use Rattle.verdict.specs.declared.answer.OutcomeResult.TheVariants.{Refused, Evaluated}
-use Rattle.verdict.specs.declared.answer.Refusal.{Refusal}
-use Rattle.verdict.specs.declared.answer.Refusal.TheVariants.{Model, Space}
+use Rattle.ppc_lowering.specs.Numbers.{number as refusal_number}
+use Rattle.outcome_states.specs.declared.answer.CountedState.{CountedState}
+use Rattle.outcome_states.specs.declared.answer.Evaluation.{Evaluation}
+use Rattle.outcome_states.specs.declared.answer.Observation.{Observation}
+use Rattle.outcome_states.specs.declared.answer.Observation.TheVariants.{Never, Sometimes, Always}
+use Rattle.outcome_states.specs.declared.answer.Outcome.{Outcome}
+use Rattle.outcome_states.specs.declared.answer.OutcomeResult.{OutcomeResult}
+use Rattle.outcome_states.specs.declared.answer.OutcomeResult.TheVariants.{Refused, Evaluated}
+use Rattle.outcome_states.specs.declared.answer.Refusal.{Refusal}
+use Rattle.outcome_states.specs.declared.answer.Refusal.TheVariants.{Model, Space}
 
 -- a line feed
 abbrev pub line_end : List ℕ

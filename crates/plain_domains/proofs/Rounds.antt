@@ -22,13 +22,13 @@ use Rattle.plain_runs.specs.Runs.{ValuesOf}
 use Rattle.plain_runs.proofs.Listing.{none_there, listed_as}
 use Rattle.plain_runs.proofs.Counting.{has_over, has_not_over}
 use Rattle.plain_domains.specs.Domains.{Adds, IsReal, IsStartOf, IsStoredBy, IsStoredIn, InNext, HasManyFreeRunsOver, IsRefusedOver, IsRoundFound, AreRounds, IsDomainFound, refusal_as}
-use Rattle.plain_locations.specs.Locations.{names_as}
+use Rattle.plain_runs.specs.Locations.{names_as}
 use Rattle.plain_runs.specs.Frees.{free_run_as}
 use Rattle.plain_runs.specs.declared.free.FreeRun as frees
 use Rattle.plain_domains.specs.declared.domain.Refusal as code
 use Rattle.plain_domains.specs.declared.domain.Refusal.TheVariants as codes
 use Rattle.plain_domains.proofs.Storing.{adds_none, adds_as, adds_then}
-use Rattle.plain_locations.proofs.Mapping.{not_true}
+use Rattle.plain_runs.proofs.Mapping.{not_true}
 
 -- ---- what an instance stores
 

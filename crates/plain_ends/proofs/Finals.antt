@@ -16,7 +16,7 @@ use Rattle.meaning.proofs.Counting.{lasts_are_one}
 use Rattle.meanings_exist.proofs.Ending.{observable_ends}
 use Rattle.plain_machine.specs.declared.value.Value.{Value}
 use Rattle.plain_machine.specs.Values.{value_as}
-use Rattle.plain_locations.specs.Locations.{names_as}
+use Rattle.plain_runs.specs.Locations.{names_as}
 use Rattle.plain_events.specs.declared.event.Event as code
 use Rattle.plain_events.specs.declared.event.Action as code_actions
 use Rattle.plain_events.specs.Events.{event_as, IsFound, IsActionOfEvent}

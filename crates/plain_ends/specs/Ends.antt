@@ -11,7 +11,7 @@ use Rattle.meaning.specs.Executions.{Event, Execution}
 use Rattle.meaning.specs.Outcome.{is_observable_before, EndsWith, EndsIn, Satisfies}
 use Rattle.plain_machine.specs.declared.value.Value.{Value}
 use Rattle.plain_machine.specs.Values.{value_as}
-use Rattle.plain_locations.specs.Locations.{with_each}
+use Rattle.plain_runs.specs.Locations.{with_each}
 use Rattle.plain_events.specs.declared.event.Event as code
 use Rattle.plain_events.specs.Events.{event_as}
 use Rattle.plain_ends.specs.declared.ending.End.{End}

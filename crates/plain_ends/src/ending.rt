@@ -9,7 +9,7 @@ ghost use Rattle.meaning.specs.Executions.{IsExecution};
 ghost use Rattle.meaning.specs.Outcome as outcome;
 ghost use Rattle.meaning.specs.Outcome.{EndsIn, IsFinalValue};
 ghost use Rattle.plain_machine.specs.Values.{value_as};
-ghost use Rattle.plain_locations.specs.Locations.{names_as};
+ghost use Rattle.plain_runs.specs.Locations.{names_as};
 ghost use Rattle.plain_events.specs.Events.{IsFound};
 ghost use Rattle.plain_executions.specs.Executions.{event_lists_as, execution_as};
 ghost use Rattle.plain_ends.specs.Ends.{places_as, values_as, IsIndexOf, IsLastAt, IsEventFound, IsValueFound, IsEnding};

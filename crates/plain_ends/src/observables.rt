@@ -5,10 +5,10 @@ ghost use Rattle.text_values.specs.TestValue.{content_of, formula_of};
 ghost use Rattle.meaning.specs.Names.{is_same_observable, with_one};
 ghost use Rattle.meaning.specs.Outcome as outcome;
 ghost use Rattle.meaning.specs.Outcome.{is_observable_before, observables_of};
-ghost use Rattle.plain_locations.specs.Locations.{IsPlace};
+ghost use Rattle.plain_runs.specs.Locations.{IsPlace};
 ghost use Rattle.plain_ends.specs.Ends.{places_as, with_places};
 
-use plain_locations::locations::is_before;
+use plain_runs::locations::is_before;
 use std::alloc::{AllocError, Global};
 use text_values::{Place, Proposition, Test};
 

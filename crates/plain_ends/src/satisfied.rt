@@ -7,7 +7,7 @@ ghost use Rattle.meaning.specs.Machine.{value_of};
 ghost use Rattle.meaning.specs.Executions.{IsExecution};
 ghost use Rattle.meaning.specs.Outcome as outcome;
 ghost use Rattle.meaning.specs.Outcome.{EndsWith, Satisfies};
-ghost use Rattle.plain_locations.specs.Locations.{names_as};
+ghost use Rattle.plain_runs.specs.Locations.{names_as};
 ghost use Rattle.plain_executions.specs.Executions.{execution_as};
 ghost use Rattle.plain_ends.specs.Ends.{places_as, IsJoined, EndsSo};
 

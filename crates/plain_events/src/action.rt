@@ -7,7 +7,7 @@ ghost use Rattle.meaning.specs.Machine as machine;
 ghost use Rattle.meaning.specs.Executions as executions;
 ghost use Rattle.plain_machine.specs.Values.{value_as};
 ghost use Rattle.plain_runs.specs.Runs.{instance_as, run_as};
-ghost use Rattle.plain_locations.specs.Locations.{names_as};
+ghost use Rattle.plain_runs.specs.Locations.{names_as};
 ghost use Rattle.plain_events.specs.Events.{event_as, IsActionOfInstance, IsActionAt, IsActionOfEvent};
 
 use crate::event::{Action, Event};

@@ -10,7 +10,7 @@ ghost use Rattle.meaning.specs.Executions.{IsStoreOf, MayRead, loads_from, loads
 ghost use Rattle.plain_machine.specs.Values.{value_as};
 ghost use Rattle.plain_runs.specs.Keeping.{PutsIf};
 ghost use Rattle.plain_runs.specs.Runs.{instance_as, run_as};
-ghost use Rattle.plain_locations.specs.Locations.{names_as};
+ghost use Rattle.plain_runs.specs.Locations.{names_as};
 ghost use Rattle.plain_events.specs.Events.{event_as, action_as, of_runs, IsNode, DoesBelow, IsStoreAction, IsStoreFound, IsReadAction, IsReadFound};
 
 use crate::action::action;

@@ -9,7 +9,7 @@ use Rattle.meaning.specs.Executions.{Event, Execution, AreRuns, IsExecution}
 use Rattle.meaning.specs.Refusals.{HasDomain, HasFewExecutions, IsAccepted, IsRefusal, TooManyCandidates, AddressFault}
 use Rattle.plain_runs.proofs.Listing.{Over, listed_as, listed_map, over_more, over_all}
 use Rattle.plain_runs.proofs.Counting.{has_over, has_not_over}
-use Rattle.plain_locations.proofs.Mapping.{there_at, mapped_more, mapped_all}
+use Rattle.plain_runs.proofs.Mapping.{there_at, mapped_more, mapped_all}
 use Rattle.plain_executions.specs.declared.execution.Execution as code
 use Rattle.plain_executions.specs.Executions.{execution_as, execution_of, IsReadsFromOf, IsCoherenceOf, IsExecutionWith, IsExecutionFrom, IsExecutionOf, HasFaultAmong}
 

@@ -15,8 +15,8 @@ use Rattle.meaning.specs.Executions.{Event, Execution, Initial, IsStoreOf, IsOrd
 use Rattle.meaning.proofs.Counting.{here, behind, head_or_tail}
 use Rattle.plain_runs.proofs.Counting.{no_longer, has_all}
 use Rattle.plain_runs.proofs.Listing.{none_there, listed_as, once_cons, tail_once, head_new}
-use Rattle.plain_locations.specs.Locations.{names_as}
-use Rattle.plain_combinations.proofs.Picking.{listed_picks}
+use Rattle.plain_runs.specs.Locations.{names_as}
+use Rattle.plain_events.proofs.Picking.{listed_picks}
 use Rattle.plain_events.specs.declared.event.Event as code
 use Rattle.plain_events.specs.Events.{event_as, of_runs}
 use Rattle.plain_executions.specs.Executions.{event_lists_as, order_lists_as, AreAllPicked, IsCoherenceOf}

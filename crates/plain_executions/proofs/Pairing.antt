@@ -11,7 +11,7 @@ use Rattle.meaning_plain.specs.Lists.{HasPairs, Grows}
 use Rattle.meaning_plain.proofs.Growing.{nothing_there, pair_joined, first_of, second_of, grows_not, grows_as, grows_then}
 use Rattle.plain_events.specs.declared.event.Event as code
 use Rattle.plain_events.specs.Events.{event_as}
-use Rattle.plain_locations.proofs.Mapping.{mapped_more}
+use Rattle.plain_runs.proofs.Mapping.{mapped_more}
 use Rattle.plain_executions.specs.Executions.{AreRelated}
 
 pub related_at : {X Y : Type 0} (f : X → Y) (R : Relation Y) (xs : List X) (i j : ℕ) (d e : X)

@@ -11,7 +11,7 @@ use Rattle.meaning.specs.Runs.{Run}
 use Rattle.meaning.specs.Dependencies.{IsNeed}
 use Rattle.meaning.specs.Executions.{Event, Initial, Does, Loads, Stores, MayRead, Dependency, ReadsFrom, instances_of, loads_in}
 use Rattle.plain_runs.proofs.Listing.{listed_as}
-use Rattle.plain_locations.specs.Locations.{names_as}
+use Rattle.plain_runs.specs.Locations.{names_as}
 use Rattle.plain_events.specs.declared.event.Event as code
 use Rattle.plain_events.specs.Events.{event_as, of_runs, IsNode}
 use Rattle.plain_events.proofs.Doing.{node_of}

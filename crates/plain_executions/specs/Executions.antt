@@ -12,7 +12,7 @@ use Rattle.meaning.specs.Refusals.{IsRefusal, IsAccepted}
 use Rattle.plain_runs.specs.Runs.{run_as}
 use Rattle.plain_domains.specs.declared.domain.Refusal.{Refusal}
 use Rattle.plain_domains.specs.Domains.{refusal_as}
-use Rattle.plain_combinations.specs.Choices.{IsIndexChoice, pick}
+use Rattle.plain_events.specs.Choices.{IsIndexChoice, pick}
 use Rattle.plain_events.specs.declared.event.Event as code
 use Rattle.plain_events.specs.Events.{event_as, of_runs}
 use Rattle.plain_executions.specs.declared.execution.Execution as executions

@@ -3,11 +3,11 @@
 ghost use Rattle.std.specs.Prelude.{◌↔◌, ◌<◌, length, map, IfOk, IsTrue};
 ghost use Rattle.meaning.specs.Executions.{Does, Dependency, instructions_of};
 ghost use Rattle.plain_runs.specs.Runs.{run_as};
-ghost use Rattle.plain_dependencies.specs.Slots.{instructions_as};
+ghost use Rattle.plain_events.specs.Slots.{instructions_as};
 ghost use Rattle.plain_events.specs.Events.{event_as, of_runs};
 ghost use Rattle.plain_executions.specs.Kinds.{dependency_of};
 
-use plain_dependencies::dependency::{is_addr, is_ctrl, is_ctrlisync, is_data, is_need};
+use plain_events::dependency::{is_addr, is_ctrl, is_ctrlisync, is_data, is_need};
 use plain_events::event::Event;
 use plain_runs::run::{Instance, Run};
 use std::alloc::{AllocError, Global};

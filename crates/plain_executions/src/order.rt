@@ -9,7 +9,7 @@ ghost use Rattle.meaning.specs.Executions as executions;
 ghost use Rattle.meaning.specs.Executions.{IsOrder};
 ghost use Rattle.plain_runs.specs.Keeping.{PutsIf};
 ghost use Rattle.plain_runs.specs.Runs.{run_as};
-ghost use Rattle.plain_locations.specs.Locations.{names_as};
+ghost use Rattle.plain_runs.specs.Locations.{names_as};
 ghost use Rattle.plain_events.specs.Events.{event_as, of_runs};
 ghost use Rattle.plain_executions.specs.Executions.{event_lists_as, order_lists_as, IsCoherenceOf};
 

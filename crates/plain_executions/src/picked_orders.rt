@@ -1,10 +1,10 @@
 //! What choices of indexes pick from lists of orders.
 
 ghost use Rattle.std.specs.Prelude.{◌≡◌, ◌∷◌, ◌++◌, map, length, slice_get, option_to_list, IfOk, OnOk};
-ghost use Rattle.plain_combinations.specs.Choices.{pick, lists_as};
+ghost use Rattle.plain_events.specs.Choices.{pick, lists_as};
 ghost use Rattle.plain_executions.specs.Executions.{event_lists_as, order_lists_as, AreAllPicked};
 
-use plain_combinations::choice::choices;
+use plain_events::choice::choices;
 use plain_events::event::Event;
 use std::alloc::{AllocError, Global};
 

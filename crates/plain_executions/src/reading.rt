@@ -8,7 +8,7 @@ ghost use Rattle.meaning.specs.Names as names;
 ghost use Rattle.meaning.specs.Executions.{MayRead, loads_in};
 ghost use Rattle.plain_runs.specs.Keeping.{PutsIf};
 ghost use Rattle.plain_runs.specs.Runs.{run_as};
-ghost use Rattle.plain_locations.specs.Locations.{names_as};
+ghost use Rattle.plain_runs.specs.Locations.{names_as};
 ghost use Rattle.plain_events.specs.Events.{event_as, of_runs};
 ghost use Rattle.plain_executions.specs.Executions.{event_lists_as, IsAmong, IsReadsFromOf, NeedOrReadsOf};
 

@@ -6,7 +6,7 @@ use Rattle.std.proofs.lemmas.Bool.{eq-eqb, eqb-true}
 use Rattle.std.proofs.lemmas.Slice.Zip.{AllZip-long}
 use Rattle.text_values.specs.declared.model.Expression.{Expression}
 use Rattle.text_values.specs.ModelValues.{term_of}
-use Rattle.text_values.specs.declared.predefined.TheConstants.{PREDEFINED}
+use Rattle.predefined_names.specs.declared.predefined.TheConstants.{PREDEFINED}
 use Rattle.meaning.specs.Names.{Name}
 use Rattle.meaning.specs.Faults as definition
 use Rattle.meaning.specs.Faults.{Scope, ModelFault, Unbound, Arity, OfAny, AsValue, AsFunction, known_as, finding_of, faults_in, value_with, in_name, in_use, in_terms, in_body, in_application, is_falling_parameter, outermost_scope}

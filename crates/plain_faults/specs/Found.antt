@@ -7,8 +7,8 @@ use Rattle.text_values.specs.declared.model.Infix.TheVariants.{Sequence, Product
 use Rattle.text_values.specs.declared.model.Expression.{Expression}
 use Rattle.text_values.specs.ModelValue.{Term, Terms, Join, Mark, Not, On, Apply, NoTerm, OneMore, gathered}
 use Rattle.text_values.specs.ModelValues.{term_of}
-use Rattle.text_values.specs.declared.predefined.Predefined.{Predefined}
-use Rattle.text_values.specs.PredefinedNames.{spelling}
+use Rattle.predefined_names.specs.declared.predefined.Predefined.{Predefined}
+use Rattle.predefined_names.specs.PredefinedNames.{spelling}
 use Rattle.meaning.specs.Names.{Name}
 use Rattle.meaning.specs.Faults as definition
 use Rattle.meaning.specs.Faults.{KindOf, OfSet, OfRelation, OfAny, ModelFault, Scope, AsValue, AsFunction, in_term, in_terms, in_body, in_name, in_use, in_application, known_as, is_falling_parameter, value_with, with_parameters, predefined_known}

@@ -2,7 +2,7 @@
 
 ghost use Rattle.std.specs.Prelude.{◌≡◌, ◌∷◌, false, if◌then◌else◌, IfOk, OnOk};
 ghost use Rattle.text_values.specs.ModelValues.{clauses_of};
-ghost use Rattle.text_values.specs.PredefinedNames.{spelling, is_set};
+ghost use Rattle.predefined_names.specs.PredefinedNames.{spelling, is_set};
 ghost use Rattle.meaning.specs.Faults as definition;
 ghost use Rattle.plain_faults.specs.Found.{kind_as, faults_as, Adds, AreNames, IsSameKnown, with_predefined};
 

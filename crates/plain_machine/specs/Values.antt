@@ -1,4 +1,5 @@
--- What the values and states of the code are in the definitions. Read next: Runs.
+-- What the values and states of the code are in the definitions. Read next: Runs of
+-- plain_runs.
 use Rattle.std.specs.Prelude.{map}
 use Rattle.text_values.specs.declared.test.Place as text
 use Rattle.text_values.specs.declared.test.Place.TheVariants as places

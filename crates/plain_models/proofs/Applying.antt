@@ -19,8 +19,8 @@ use Rattle.plain_models.specs.declared.scope.Bound.TheVariants as bounds
 use Rattle.plain_models.specs.declared.scope.Named.{Named}
 use Rattle.plain_models.specs.Values.{meaning_as, IsEvaluatedTo, HaveValues}
 use Rattle.plain_models.specs.Scopes.{meanings_as, function_with, function_of, bound_as, with_named, bound_at, names_in, named_name, latest_index, index_behind_none, applied_index_of}
-use Rattle.meaning_rising.proofs.Inside.{alike_itself, alike_through}
-use Rattle.meaning_rising.proofs.Alike.{AllAlike, AlikeBound, meanings, functions, nothing, AlikeNames, none, more, alike_bound, application_alike, alike_meaning, alike_arguments}
+use Rattle.meaning_laws.proofs.Inside.{alike_itself, alike_through}
+use Rattle.meaning_laws.proofs.Alike.{AllAlike, AlikeBound, meanings, functions, nothing, AlikeNames, none, more, alike_bound, application_alike, alike_meaning, alike_arguments}
 use Rattle.plain_models.proofs.Latest.{bound_at_get, meanings_length, no_argument, argument_bound_there, outer_bound, outer_unbound}
 
 -- ---- the names are bound alike to themselves

@@ -6,9 +6,9 @@ use Rattle.text_values.specs.ModelValue.{Term, Checked, Clause, Binding, Functio
 use Rattle.meaning.specs.Sets.{Set, Relation, Path}
 use Rattle.meaning.specs.Names.{Name}
 use Rattle.meaning.specs.Cat.{Meaning, ASet, ARelation, Nothing, Bound, ToMeaning, ToFunction, Names, meaning_of, with_arguments, with_group, Choice, IsChosen, IsClosed, Least, with_bodies, names_after, HasProperty, NegatedIf, IsMet, IsItemMet, AreMet, IsFlagMet}
-use Rattle.meaning_rising.specs.Inside.{IsAlike}
-use Rattle.meaning_rising.proofs.Inside.{pair_inside}
-use Rattle.meaning_rising.proofs.Alike.{AllAlike, AlikeBound, meanings, functions, nothing, AlikeNames, none, more, alike_meaning, alike_arguments}
+use Rattle.meaning_laws.specs.Inside.{IsAlike}
+use Rattle.meaning_laws.proofs.Inside.{pair_inside}
+use Rattle.meaning_laws.proofs.Alike.{AllAlike, AlikeBound, meanings, functions, nothing, AlikeNames, none, more, alike_meaning, alike_arguments}
 
 turned_all : (ms ks : List (Meaning ℕ)) → AllAlike ms ks → AllAlike ks ms
 turned_all [] [] h = tt

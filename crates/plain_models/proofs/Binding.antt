@@ -18,8 +18,8 @@ use Rattle.plain_models.specs.declared.scope.Bound.TheVariants as bounds
 use Rattle.plain_models.specs.declared.scope.Named.{Named}
 use Rattle.plain_models.specs.Values.{meaning_as, IsEvaluatedTo, HaveValues}
 use Rattle.plain_models.specs.Scopes.{function_of, bound_as, with_named}
-use Rattle.meaning_rising.proofs.Inside.{alike_through}
-use Rattle.meaning_rising.proofs.Alike.{AlikeBound, meanings, AlikeNames, none, more}
+use Rattle.meaning_laws.proofs.Inside.{alike_through}
+use Rattle.meaning_laws.proofs.Alike.{AlikeBound, meanings, AlikeNames, none, more}
 use Rattle.plain_models.proofs.Applying.{named_alike, function_alike}
 use Rattle.plain_models.specs.Groups.{name_of, body_of, AreRelations}
 use Rattle.plain_models.specs.Items.{IsBoundTo, AreBoundTo, AreBound, Binds}

@@ -13,7 +13,7 @@ use Rattle.meaning_plain.proofs.Growing.{nothing_there}
 use Rattle.plain_models.specs.declared.value.Value.{Value}
 use Rattle.plain_models.specs.declared.value.Value.TheVariants as values
 use Rattle.plain_models.specs.Values.{meaning_as, IsEvaluatedTo, HaveValues}
-use Rattle.meaning_rising.proofs.Inside.{alike_through, infix_alike, postfix_inside, complement_inside, identity_inside}
+use Rattle.meaning_laws.proofs.Inside.{alike_through, infix_alike, postfix_inside, complement_inside, identity_inside}
 
 -- ---- lists
 

@@ -3,12 +3,12 @@ use Rattle.std.proofs.Common.{◌≡◌, ℕ, zero, suc, List, [], ◌∷◌, �
 use Rattle.std.specs.Prelude.{slice_get, not, if◌then◌else◌}
 use Rattle.std.specs.List.{list_any}
 use Rattle.std.proofs.lemmas.Slice.Eq.{bytes_eq-Decides}
-use Rattle.text_values.specs.declared.predefined.Predefined.{Predefined}
+use Rattle.predefined_names.specs.declared.predefined.Predefined.{Predefined}
 use Rattle.text_values.specs.declared.model.Item.{Item}
 use Rattle.text_values.specs.declared.model.Item.TheVariants as items
 use Rattle.text_values.specs.declared.model.Binding as code_binding
-use Rattle.text_values.specs.PredefinedNames as predefined
-use Rattle.text_values.specs.PredefinedNames.{spelling}
+use Rattle.predefined_names.specs.PredefinedNames as predefined
+use Rattle.predefined_names.specs.PredefinedNames.{spelling}
 use Rattle.text_values.specs.ModelValue.{Term}
 use Rattle.text_values.specs.ModelValues.{term_of, binding_of, clause_of}
 use Rattle.meaning.specs.Sets.{Set}
@@ -23,15 +23,15 @@ use Rattle.plain_models.specs.declared.scope.Bound.TheVariants as bounds
 use Rattle.plain_models.specs.declared.scope.Named.{Named}
 use Rattle.plain_models.specs.Values.{meaning_as}
 use Rattle.plain_models.specs.Scopes.{function_of, bound_as, with_named}
-use Rattle.meaning_rising.proofs.Inside.{pair_inside}
-use Rattle.meaning_rising.proofs.Alike.{AlikeNames}
-use Rattle.meaning_rising.proofs.Alike as alikes
+use Rattle.meaning_laws.proofs.Inside.{pair_inside}
+use Rattle.meaning_laws.proofs.Alike.{AlikeNames}
+use Rattle.meaning_laws.proofs.Alike as alikes
 use Rattle.plain_models.proofs.Applying.{named_alike}
 use Rattle.plain_models.specs.Groups.{name_of, AreApart, DoesGrow, IsSolvable}
 use Rattle.plain_models.specs.Items.{IsBoundTo, AreBoundTo}
 use Rattle.plain_models.specs.Answers.{IsOfValue, AreValuesOf, ArePredefined}
-use Rattle.meaning_rising.proofs.Growing.{no_parts, group_grows}
-use Rattle.meaning_rising.proofs.Risen.{RisesBound, value, function, RisesNames, none, more, same_risen, body_rises}
+use Rattle.meaning_laws.proofs.Growing.{no_parts, group_grows}
+use Rattle.meaning_laws.proofs.Risen.{RisesBound, value, function, RisesNames, none, more, same_risen, body_rises}
 
 abbrev pub IsFunctionKnown : Scope → Option Item → Known → Type 0
 IsFunctionKnown S (Some (items.Function name ps body)) k =

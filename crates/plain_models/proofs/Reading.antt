@@ -18,7 +18,7 @@ use Rattle.plain_models.specs.Groups.{IsSolvable}
 use Rattle.plain_models.specs.Items.{Binds}
 use Rattle.plain_models.specs.Answers.{AreModelAnswers, ArePredefined, IsReading}
 use Rattle.plain_models.proofs.Behind.{turned_names, met_alike, flag_alike}
-use Rattle.meaning_rising.proofs.Growing.{no_parts}
+use Rattle.meaning_laws.proofs.Growing.{no_parts}
 use Rattle.plain_models.proofs.Knowing.{outer_rises, predefined_know, item_solvable}
 use Rattle.plain_models.proofs.Binding.{IsBehind, item_behind, IsReadTo, left_is, flag_head, flag_tail}
 

@@ -12,7 +12,7 @@ use Rattle.plain_models.specs.declared.value.Value.{Value}
 use Rattle.plain_models.specs.declared.scope.Named.{Named}
 use Rattle.plain_models.specs.Values.{HaveValues}
 use Rattle.plain_models.specs.Scopes.{meanings_as, with_named, names_in}
-use Rattle.meaning_rising.proofs.Alike.{none}
+use Rattle.meaning_laws.proofs.Alike.{none}
 use Rattle.plain_models.proofs.Applying.{named_alike}
 use Rattle.plain_models.specs.Groups.{name_of, body_of, AreRelations, AreApart, DoesGrow, HasGrown, IsRound}
 use Rattle.plain_models.proofs.Solving.{AreSlots, relations_slots, AreFound, round_found, rounds_end, no_growth, extended_slots, nothing_found, room, room_falls}

@@ -13,12 +13,12 @@ use Rattle.meaning_plain.specs.Lists.{RelationOf}
 use Rattle.meaning_plain.proofs.Growing.{pair_decides, nothing_there}
 use Rattle.plain_models.specs.declared.value.Value.{Value}
 use Rattle.plain_models.specs.declared.value.Value.TheVariants as values
-use Rattle.meaning_rising.specs.Inside.{IsAlike}
+use Rattle.meaning_laws.specs.Inside.{IsAlike}
 use Rattle.plain_models.specs.Values.{meaning_as, HaveValues}
 use Rattle.plain_models.specs.Scopes.{meanings_as}
-use Rattle.meaning_rising.proofs.Inside.{pair_inside}
-use Rattle.meaning_rising.proofs.Alike.{AlikeNames, meanings, more, alike_meaning}
-use Rattle.meaning_rising.specs.Laws.{IsChoiceInside}
+use Rattle.meaning_laws.proofs.Inside.{pair_inside}
+use Rattle.meaning_laws.proofs.Alike.{AlikeNames, meanings, more, alike_meaning}
+use Rattle.meaning_laws.specs.RisingLaws.{IsChoiceInside}
 use Rattle.plain_models.specs.Groups.{AreRelations, AreApart, DoesGrow, pairs_of, IsOfPairs, Extends, DoExtend, HasGrown}
 
 -- ---- pairs

@@ -3,7 +3,7 @@ use Rattle.std.specs.Prelude.{ℕ, ◌≡◌, ◌↔◌, List, [], ◌∷◌, ma
 use Rattle.text_values.specs.declared.model.Item.{Item}
 use Rattle.text_values.specs.ModelValue.{Clause}
 use Rattle.text_values.specs.ModelValues.{clause_of}
-use Rattle.text_values.specs.PredefinedNames.{spelling}
+use Rattle.predefined_names.specs.PredefinedNames.{spelling}
 use Rattle.meaning.specs.Sets as sets
 use Rattle.meaning.specs.Names.{Name}
 use Rattle.meaning.specs.Predefined.{predefined_names}

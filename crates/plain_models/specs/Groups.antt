@@ -7,7 +7,7 @@ use Rattle.meaning.specs.Sets as sets
 use Rattle.meaning.specs.Sets.{Relation}
 use Rattle.meaning.specs.Names.{Name}
 use Rattle.meaning.specs.Cat.{Names, ARelation, meaning_of, HasPair, with_group, Choice, IsChosen}
-use Rattle.meaning_rising.specs.Laws.{IsChoiceInside}
+use Rattle.meaning_laws.specs.RisingLaws.{IsChoiceInside}
 use Rattle.plain_models.specs.declared.value.Value.{Value}
 use Rattle.plain_models.specs.declared.value.Value.TheVariants as values
 use Rattle.plain_models.specs.Values.{IsEvaluatedTo, HaveValues}

@@ -3,7 +3,7 @@ use Rattle.std.specs.Prelude.{ℕ, List, [], ◌∷◌}
 use Rattle.text_values.specs.ModelValue.{Term}
 use Rattle.meaning.specs.Sets as sets
 use Rattle.meaning.specs.Cat.{Meaning, ASet, ARelation, Nothing, Names, meaning_of}
-use Rattle.meaning_rising.specs.Inside.{IsAlike}
+use Rattle.meaning_laws.specs.Inside.{IsAlike}
 use Rattle.meaning_plain.specs.Lists.{SetOf, RelationOf}
 use Rattle.plain_models.specs.declared.value.Value.{Value}
 use Rattle.plain_models.specs.declared.value.Value.TheVariants as values

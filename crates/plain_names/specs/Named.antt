@@ -1,8 +1,8 @@
 -- What the predefined names stand for, where the events of an execution go by their indexes.
 use Rattle.std.specs.Prelude.{◌≡◌, List, true, false}
 use Rattle.std.specs.List.{AllZip}
-use Rattle.text_values.specs.declared.predefined.Predefined.{Predefined}
-use Rattle.text_values.specs.PredefinedNames.{spelling, is_set}
+use Rattle.predefined_names.specs.declared.predefined.Predefined.{Predefined}
+use Rattle.predefined_names.specs.PredefinedNames.{spelling, is_set}
 use Rattle.text_values.specs.TestValue.{Content}
 use Rattle.meaning.specs.Executions.{Event, Execution}
 use Rattle.meaning.specs.Predefined.{PairsOf, predefined_names}

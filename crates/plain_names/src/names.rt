@@ -1,7 +1,7 @@
 //! The events of an execution, and what the predefined names stand for, as lists.
 
 ghost use Rattle.std.specs.Prelude.{◌≡◌, ◌<◌, length, map, IfOk};
-ghost use Rattle.text_values.specs.PredefinedNames.{spelling};
+ghost use Rattle.predefined_names.specs.PredefinedNames.{spelling};
 ghost use Rattle.text_values.specs.TestValue.{Content};
 ghost use Rattle.meaning.specs.Executions.{loads_in};
 ghost use Rattle.meaning_plain.specs.Lists.{HasMembers};

@@ -7,7 +7,7 @@ ghost use Rattle.meaning.specs.Names as names;
 ghost use Rattle.meaning.specs.Executions.{IsEvent};
 ghost use Rattle.plain_runs.specs.Keeping.{PutsIf};
 ghost use Rattle.plain_runs.specs.Runs.{run_as};
-ghost use Rattle.plain_locations.specs.Locations.{names_as};
+ghost use Rattle.plain_runs.specs.Locations.{names_as};
 ghost use Rattle.plain_events.specs.Events.{event_as, of_runs};
 ghost use Rattle.plain_names.specs.Seen.{seen_events, IsSeenAs, AreSeenAmong, IsLookedAt};
 

@@ -6,8 +6,8 @@ use Rattle.text_values.specs.declared.instruction.Instruction.{Instruction}
 use Rattle.text_values.specs.declared.instruction.Instruction.TheVariants as does
 use Rattle.text_values.specs.declared.instruction.Fence as kinds
 use Rattle.text_values.specs.declared.instruction.Fence.TheVariants.{Sync, LightweightSync, Eieio, Isync}
-use Rattle.text_values.specs.declared.predefined.Predefined.{Predefined}
-use Rattle.text_values.specs.declared.predefined.Predefined.TheVariants as names
+use Rattle.predefined_names.specs.declared.predefined.Predefined.{Predefined}
+use Rattle.predefined_names.specs.declared.predefined.Predefined.TheVariants as names
 use Rattle.text_values.specs.TestValue.{Content}
 use Rattle.meaning.specs.Names.{Name, locations}
 use Rattle.meaning.specs.Machine.{is_load}

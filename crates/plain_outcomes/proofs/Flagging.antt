@@ -9,8 +9,8 @@ use Rattle.text_values.specs.ModelValue.{Checked, Clause, Binding, Function, Che
 use Rattle.text_values.specs.ModelValues.{clause_of, clauses_of}
 use Rattle.meaning.specs.Names.{Name}
 use Rattle.meaning.specs.Outcome.{AreRaised}
-use Rattle.plain_locations.specs.Locations.{names_as}
-use Rattle.plain_locations.proofs.Mapping.{mapped_more, mapped_all}
+use Rattle.plain_runs.specs.Locations.{names_as}
+use Rattle.plain_runs.proofs.Mapping.{mapped_more, mapped_all}
 use Rattle.plain_outcomes.specs.Kept.{AddsRaised}
 
 module _ (IsRaised : ℕ → Type 0) where

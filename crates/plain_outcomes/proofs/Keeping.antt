@@ -11,7 +11,7 @@ use Rattle.meaning.specs.Executions.{Execution, IsExecution}
 use Rattle.meaning.specs.Evaluates.{IsKept, MeetsFlag}
 use Rattle.plain_runs.proofs.Counting.{Kept, kept_none, kept_more, kept_other}
 use Rattle.plain_runs.proofs.Listing.{none_there, listed_as}
-use Rattle.plain_locations.proofs.Mapping.{mapped_more, mapped_all}
+use Rattle.plain_runs.proofs.Mapping.{mapped_more, mapped_all}
 use Rattle.plain_ends.specs.declared.ending.End.{End}
 use Rattle.plain_ends.specs.Ends.{EndsSo}
 use Rattle.plain_outcomes.specs.declared.kept.Kept as code

@@ -12,7 +12,7 @@ use Rattle.meanings_exist.specs.Sorted.{Compared, Rises, HasOneMore, IsInOrder, 
 use Rattle.meanings_exist.proofs.Sorting.{put_at}
 use Rattle.meanings_exist.proofs.Ordering.{states_transitive, states_compared}
 use Rattle.plain_machine.specs.declared.value.Value.{Value}
-use Rattle.plain_locations.proofs.Mapping.{there_at, mapped_more, mapped_all}
+use Rattle.plain_runs.proofs.Mapping.{there_at, mapped_more, mapped_all}
 use Rattle.plain_runs.proofs.Listing.{none_there}
 use Rattle.plain_ends.specs.declared.ending.End.{End}
 use Rattle.plain_ends.specs.Ends.{values_as}

@@ -13,7 +13,7 @@ use Rattle.meaning.specs.Outcome.{IsStateBefore, IsCounted, AreStates, EndsIn, S
 use Rattle.meaning.specs.Evaluates.{IsKept, MeetsFlag}
 use Rattle.meaning.proofs.Counting.{here, behind}
 use Rattle.meaning.proofs.Finals.{ends_in_one}
-use Rattle.meaning_words.specs.Words.{IsTestOfWords}
+use Rattle.meaning_laws.specs.Words.{IsTestOfWords}
 use Rattle.meanings_exist.specs.Sorted.{Rises, IsInOrder, IsGood}
 use Rattle.meanings_exist.proofs.Sorting.{pairs_rise}
 use Rattle.meanings_exist.proofs.Ending.{ends_well, satisfied_alike}

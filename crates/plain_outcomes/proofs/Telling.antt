@@ -4,8 +4,8 @@ use Rattle.std.specs.List.{AllZip}
 use Rattle.std.proofs.lemmas.List.{length-map}
 use Rattle.std.proofs.lemmas.Option.{slice_get-get_or, slice_get_within}
 use Rattle.text_values.specs.declared.model.Item.{Item}
-use Rattle.text_values.specs.declared.predefined.Predefined.{Predefined}
-use Rattle.text_values.specs.PredefinedNames.{spelling, is_set}
+use Rattle.predefined_names.specs.declared.predefined.Predefined.{Predefined}
+use Rattle.predefined_names.specs.PredefinedNames.{spelling, is_set}
 use Rattle.text_values.specs.ModelValues.{clauses_of}
 use Rattle.text_values.specs.TestValue.{Content}
 use Rattle.meaning.specs.Sets as sets
@@ -15,11 +15,11 @@ use Rattle.meaning.specs.Predefined.{EventsOf, PairsOf, predefined_names}
 use Rattle.meaning.specs.Cat as cat
 use Rattle.meaning.specs.Cat.{ASet, ARelation, Names, choice_of}
 use Rattle.meaning.specs.Evaluates.{predefined_bound, outermost}
-use Rattle.meaning_carried.proofs.Operators as carried
-use Rattle.meaning_carried.proofs.Operators.{Same}
-use Rattle.meaning_carried.proofs.Expressions.{SameBound, meanings, SameNames, no_name, one_more}
-use Rattle.meaning_carried.proofs.Extending.{Numbering, numbering, set_along, relation_along}
-use Rattle.meaning_carried.proofs.Items.{all_met_same, flags_same}
+use Rattle.meaning_laws.proofs.Operators as carried
+use Rattle.meaning_laws.proofs.Operators.{Same}
+use Rattle.meaning_laws.proofs.Expressions.{SameBound, meanings, SameNames, no_name, one_more}
+use Rattle.meaning_laws.proofs.Extending.{Numbering, numbering, set_along, relation_along}
+use Rattle.meaning_laws.proofs.Items.{all_met_same, flags_same}
 use Rattle.meaning_plain.specs.Lists.{SetOf, RelationOf, HasMembers}
 use Rattle.plain_runs.proofs.Listing.{listed_as}
 use Rattle.plain_models.specs.declared.value.Value.{Value}

@@ -4,7 +4,7 @@ use Rattle.meaning.specs.Outcome as outcome
 use Rattle.meaning.specs.Evaluates as evaluates
 use Rattle.plain_domains.specs.Domains.{refusal_as}
 use Rattle.plain_faults.specs.Found.{fault_as}
-use Rattle.plain_locations.specs.Locations.{names_as}
+use Rattle.plain_runs.specs.Locations.{names_as}
 use Rattle.plain_outcomes.specs.declared.evaluation.Observation.{Observation}
 use Rattle.plain_outcomes.specs.declared.evaluation.Observation.TheVariants.{Never, Sometimes, Always}
 use Rattle.plain_outcomes.specs.declared.evaluation.Evaluation.{Evaluation}

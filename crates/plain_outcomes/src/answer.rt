@@ -6,7 +6,7 @@ ghost use Rattle.text_values.specs.TestValue.{content_of};
 ghost use Rattle.meaning.specs.Names as names;
 ghost use Rattle.meaning.specs.Executions.{IsExecution};
 ghost use Rattle.meaning.specs.Faults.{faults};
-ghost use Rattle.plain_locations.specs.Locations.{names_as};
+ghost use Rattle.plain_runs.specs.Locations.{names_as};
 ghost use Rattle.plain_executions.specs.Executions.{execution_as};
 ghost use Rattle.plain_outcomes.specs.Answered.{AreAnswersOf};
 

@@ -15,7 +15,7 @@ ghost use Rattle.plain_outcomes.specs.Outcomes.{observation_as, evaluation_as, o
 use crate::flags::flags_of;
 use crate::kept::kept_of;
 use crate::states::{CountedState, count_holding, counted_states, sorted_states};
-use meaning_words::test_is_of_words;
+use meaning_laws::test_is_of_words;
 use plain_domains::domain::Refusal;
 use plain_executions::execution::{Execution, executions};
 use plain_faults::fault::Fault;

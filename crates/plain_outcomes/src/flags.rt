@@ -4,7 +4,7 @@ ghost use Rattle.std.specs.Prelude.{◌≡◌, ◌↔◌, ◌∷◌, ◌++◌, [
 ghost use Rattle.text_values.specs.ModelValues.{clause_of, clauses_of};
 ghost use Rattle.meaning.specs.Outcome as outcome;
 ghost use Rattle.meaning.specs.Outcome.{AreFlags, AreRaised};
-ghost use Rattle.plain_locations.specs.Locations.{names_as};
+ghost use Rattle.plain_runs.specs.Locations.{names_as};
 ghost use Rattle.plain_outcomes.specs.Kept.{AddsRaised};
 
 use std::alloc::{AllocError, Global};

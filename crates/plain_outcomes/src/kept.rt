@@ -9,7 +9,7 @@ ghost use Rattle.meaning.specs.Executions.{IsExecution};
 ghost use Rattle.meaning.specs.Faults.{faults};
 ghost use Rattle.meaning.specs.Outcome as outcome;
 ghost use Rattle.meaning.specs.Evaluates.{IsKept};
-ghost use Rattle.plain_locations.specs.Locations.{names_as};
+ghost use Rattle.plain_runs.specs.Locations.{names_as};
 ghost use Rattle.plain_executions.specs.Executions.{execution_as};
 ghost use Rattle.plain_ends.specs.Ends.{places_as};
 ghost use Rattle.plain_outcomes.specs.Kept.{AreEndsOf, AddsIfKept};
@@ -19,7 +19,7 @@ use plain_ends::ending::End;
 use plain_ends::observables::observables;
 use plain_ends::satisfied::end_of;
 use plain_executions::execution::Execution;
-use plain_locations::locations::locations;
+use plain_runs::locations::locations;
 use std::alloc::{AllocError, Global};
 use text_values::{Item, Place, Test};
 

@@ -11,8 +11,8 @@ ghost use Rattle.plain_ends.specs.Ends.{values_as};
 ghost use Rattle.plain_outcomes.specs.States.{states_as, ends_as, end_state, AreGood, IsPlaceOf, HaveCount, IsAnswerOf, IsCountedOf};
 
 use plain_ends::ending::End;
-use plain_locations::locations::is_before;
 use plain_machine::value::{Value, is_same_value};
+use plain_runs::locations::is_before;
 use std::alloc::{AllocError, Global};
 
 /// A final state.

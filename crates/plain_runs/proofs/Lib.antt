@@ -1,4 +1,6 @@
-pub mod Listing
 pub mod Counting
-pub mod Running
 pub mod Freeing
+pub mod Listing
+pub mod Mapping
+pub mod Placing
+pub mod Running

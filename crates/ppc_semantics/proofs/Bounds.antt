@@ -13,16 +13,16 @@ use Rattle.thread_runs.specs.declared.instruction.Line.{Line}
 use Rattle.thread_runs.specs.declared.instruction.Line.TheVariants.{Label, Does}
 use Rattle.thread_runs.specs.declared.instruction.Program.{Program}
 use Rattle.thread_runs.specs.declared.state.State.{State}
-use Rattle.ppc_semantics.specs.declared.fault.EvalRefusal.TheVariants.{TooManyEvents, TooManyValues, TooManyRuns, TooManyCandidates, AddressFault, TooManyCombinations}
-use Rattle.ppc_semantics.specs.declared.fault.DomainFault.{DomainFault}
-use Rattle.ppc_semantics.specs.declared.fault.DomainFault.TheVariants.{Refused, OutOfMemory}
+use Rattle.ppc_lowering.specs.declared.fault.EvalRefusal.TheVariants.{TooManyEvents, TooManyValues, TooManyRuns, TooManyCandidates, AddressFault, TooManyCombinations}
+use Rattle.ppc_lowering.specs.declared.fault.DomainFault.{DomainFault}
+use Rattle.ppc_lowering.specs.declared.fault.DomainFault.TheVariants.{Refused, OutOfMemory}
 use Rattle.thread_runs.specs.Machine.{is_load}
 use Rattle.thread_runs.specs.Runs.{Thread, StoresFreely}
 use Rattle.thread_runs.specs.AllRuns.{thread_of, HasRuns}
 use Rattle.thread_runs.specs.FreeRuns.{HasFreeRuns}
 use Rattle.thread_runs.specs.ValueSet.{IsProperValue, IsValueSet}
 use Rattle.thread_runs.specs.FreeWalks.{AreAdded}
-use Rattle.ppc_semantics.specs.Domain.{threads_from, threads_of, makes_event, has_event, has_load, lines_with, event_total, load_total, AreProper, InDomainAt, IsDomainAt, IsBoundedRound, HasCombinations, LacksDomain, HasFewRuns, IsRoundFault, IsCombinationFault, IsNextDomain}
+use Rattle.ppc_lowering.specs.Domain.{threads_from, threads_of, makes_event, has_event, has_load, lines_with, event_total, load_total, AreProper, InDomainAt, IsDomainAt, IsBoundedRound, HasCombinations, LacksDomain, HasFewRuns, IsRoundFault, IsCombinationFault, IsNextDomain}
 
 module _ (p : Program) where
   threads_have : (n : ℕ) (t : Thread) → Contains (threads_from p n) t

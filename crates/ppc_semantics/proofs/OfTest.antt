@@ -3,10 +3,10 @@ use Rattle.std.proofs.Common.{List}
 use Rattle.text_values.specs.declared.test.Test.{Test}
 use Rattle.thread_runs.specs.declared.value.Value.{Value}
 use Rattle.thread_runs.specs.declared.instruction.Program.{Program}
-use Rattle.ppc_semantics.specs.declared.fault.DomainFault.{DomainFault}
-use Rattle.ppc_semantics.specs.declared.fault.DomainFault.TheVariants.{Refused, OutOfMemory}
-use Rattle.ppc_semantics.specs.Domain.{AreProper, IsDomain, LacksDomain}
-use Rattle.ppc_semantics.specs.Lowering.{IsProgram, IsTestDomain, IsTestDomainFault}
+use Rattle.ppc_lowering.specs.declared.fault.DomainFault.{DomainFault}
+use Rattle.ppc_lowering.specs.declared.fault.DomainFault.TheVariants.{Refused, OutOfMemory}
+use Rattle.ppc_lowering.specs.Domain.{AreProper, IsDomain, LacksDomain}
+use Rattle.ppc_lowering.specs.Lowering.{IsProgram, IsTestDomain, IsTestDomainFault}
 
 pub test_domain : (t : Test) (p : Program) (V : List Value) → IsProgram t p → AreProper p
     → (AreProper p → IsDomain p V) → IsTestDomain t V

@@ -12,7 +12,7 @@ use Rattle.thread_runs.specs.Runs.{Thread, StoresFreely, free_run_of}
 use Rattle.thread_runs.specs.AllRuns.{thread_of}
 use Rattle.thread_runs.specs.ValueSet.{IsProperValue, IsValueAdded}
 use Rattle.thread_runs.specs.FreeWalks.{AreAdded, Stores}
-use Rattle.ppc_semantics.specs.Domain.{threads_from}
+use Rattle.ppc_lowering.specs.Domain.{threads_from}
 use Rattle.thread_runs.proofs.Adding.{added_after}
 
 -- the values at the start

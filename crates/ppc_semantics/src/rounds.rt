@@ -8,12 +8,11 @@ ghost use Rattle.thread_runs.specs.Runs.{IsLess, StoresFreely};
 ghost use Rattle.thread_runs.specs.AllRuns as all;
 ghost use Rattle.thread_runs.specs.FreeRuns.{HasFreeRuns};
 ghost use Rattle.thread_runs.specs.FreeWalks.{AreAdded};
-ghost use Rattle.ppc_semantics.specs.Domain as dom;
-ghost use Rattle.ppc_semantics.specs.Lowering as low;
+ghost use Rattle.ppc_lowering.specs.Domain as dom;
+ghost use Rattle.ppc_lowering.specs.Lowering as low;
 
-use crate::fault::{DomainFault, EvalRefusal};
-use crate::lowering::program;
 use bit_relations::MAX_EVENTS;
+use ppc_lowering::{DomainFault, EvalRefusal, program};
 use std::alloc::{AllocError, Global};
 use text_values::Test;
 use thread_runs::{

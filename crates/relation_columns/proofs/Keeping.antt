@@ -2,8 +2,8 @@
 use Rattle.std.proofs.Common.{ℕ, map, ◌≡◌, ◌+◌, ◌<◌, ◌≤◌, ◌↔◌, List, [], ◌∷◌, ◌++◌, length, get_or, sym, ap, ◌∙◌, arith}
 use Rattle.std.proofs.lemmas.List.{length-map, get_or-map, map-append}
 use Rattle.bit_relations.specs.Packing.{ArePacked, packed}
-use Rattle.bit_relations.specs.Relation.{Relation, IsRegular, IsRelation, no_slot}
-use Rattle.bit_relations.specs.Rows.{StoredPairs, AreStored}
+use Rattle.bit_rows.specs.Relation.{Relation, IsRegular, IsRelation, no_slot}
+use Rattle.bit_rows.specs.Rows.{StoredPairs, AreStored}
 use Rattle.bit_relations.proofs.Packing.{as_many, few_there, high_room, kept, low_room, one_more, read_again, same_there, told}
 use Rattle.bit_relations.proofs.Packing.{count_there as relation_count}
 use Rattle.relation_columns.specs.declared.spans.Span.{Span}

@@ -1,6 +1,6 @@
 -- Columns of values, as runs. Read first: the model of `RunColumn` and of `SetRuns` is `expand`.
 use Rattle.std.specs.Prelude.{ℕ, zero, suc, ◌≡◌, ◌<◌, ◌-◌, List, [], ◌∷◌, ◌++◌, length, replicate, slice_index_or}
-use Rattle.bit_relations.specs.Relation.{Relation, Events, no_slot}
+use Rattle.bit_rows.specs.Relation.{Relation, Events, no_slot}
 
 -- each value as often as its run is long: a run begins where the one before it ends, and the first
 -- at `at`

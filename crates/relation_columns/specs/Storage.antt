@@ -1,6 +1,6 @@
 -- How columns are stored: a list of runs, and for relations a list of words.
 use Rattle.std.specs.Prelude.{ℕ, List, map}
-use Rattle.bit_relations.specs.Relation.{Relation}
+use Rattle.bit_rows.specs.Relation.{Relation}
 use Rattle.bit_relations.specs.Packing.{ArePacked, unpacked}
 use Rattle.relation_columns.specs.declared.spans.Span.{Span}
 use Rattle.relation_columns.specs.declared.runs.Run.{Run}

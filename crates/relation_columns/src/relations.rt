@@ -19,7 +19,7 @@ pub struct RunColumn {
 
 impl Model for RunColumn {
     ghost use Rattle.std.specs.Prelude.{List};
-    ghost use Rattle.bit_relations.specs.Relation.{Relation};
+    ghost use Rattle.bit_rows.specs.Relation.{Relation};
     ghost use Rattle.relation_columns.specs.Runs.{expand, AreColumnRuns};
     ghost use Rattle.relation_columns.specs.Storage.{AreRelationsAt, run_ends, run_values, relations_at};
 

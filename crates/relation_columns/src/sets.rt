@@ -17,7 +17,7 @@ pub struct SetRuns {
 
 impl Model for SetRuns {
     ghost use Rattle.std.specs.Prelude.{List};
-    ghost use Rattle.bit_relations.specs.Relation.{Events};
+    ghost use Rattle.bit_rows.specs.Relation.{Events};
     ghost use Rattle.relation_columns.specs.Runs.{expand, AreColumnRuns};
     ghost use Rattle.relation_columns.specs.Storage.{run_ends, run_values};
 

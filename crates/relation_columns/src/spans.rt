@@ -1,6 +1,6 @@
 //! Relations whose words stand one after another in one list.
 ghost use Rattle.std.specs.Prelude.{◌≡◌, ◌<◌, ◌↔◌, length, IsTrue, IfOk};
-ghost use Rattle.bit_relations.specs.Relation.{IsRegular};
+ghost use Rattle.bit_rows.specs.Relation.{IsRegular};
 ghost use Rattle.relation_columns.specs.Runs.{rel_at};
 ghost use Rattle.relation_columns.specs.Storage.{AreRelationsAt, relations_at, run_values};
 

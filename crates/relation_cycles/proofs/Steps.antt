@@ -3,11 +3,11 @@ use Rattle.std.proofs.Common.{ℕ, zero, suc, ◌≡◌, ◌<◌, ◌≤◌, ◌
 use Rattle.std.proofs.Math.Seq.{get_or-append_seam}
 use Rattle.std.proofs.lemmas.Bool.{cases_lt}
 use Rattle.std.proofs.lemmas.List.{get_or_read, get_or_append_left, append-nil}
-use Rattle.bit_relations.specs.Pairs.{Path, Union, Composite}
-use Rattle.bit_relations.specs.Relation.{Relation, Has, IsRegular, IsRelation, room_of, no_slot}
+use Rattle.bit_rows.specs.Pairs.{Path, Union, Composite}
+use Rattle.bit_rows.specs.Relation.{Relation, Has, IsRegular, IsRelation, room_of, no_slot}
 use Rattle.std.specs.List.{Contains}
 use Rattle.bit_relations.proofs.Laws.{grows}
-use Rattle.bit_relations.proofs.Paths.{Path-append}
+use Rattle.bit_rows.proofs.Paths.{Path-append}
 use Rattle.relation_cycles.specs.Cycles.{IsPathFrom, IsShortestPath, IsCycle, IsCycleFrom, IsShortestCycle, IsShortestThrough, IsReachableIn, AreLevels, HasShortPaths, ComesNoLater, IsFirstUpTo, IsFirstReflexive}
 
 pub IsReachableIn-more : (R : ℕ → ℕ → Type 0) (k a b : ℕ) → IsReachableIn R k a b

@@ -1,7 +1,7 @@
 -- Cycles of a relation, and how long they are.
 use Rattle.std.specs.Prelude.{ℕ, ◌≡◌, ◌<◌, ◌≤◌, ◌⊎◌, List, [], ◌∷◌, length, slice_index_or, Contains}
-pub use Rattle.bit_relations.specs.Pairs.{Path, Plus, IsAcyclic}
-use Rattle.bit_relations.specs.Relation.{Relation, IsRelation, no_slot}
+pub use Rattle.bit_rows.specs.Pairs.{Path, Plus, IsAcyclic}
+use Rattle.bit_rows.specs.Relation.{Relation, IsRelation, no_slot}
 
 -- each event of the list is related to the next, and the last to the first: a list of n events is a
 -- cycle of n steps

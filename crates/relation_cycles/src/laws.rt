@@ -1,6 +1,6 @@
 //! A law of shortest cycles.
 
-ghost use Rattle.bit_relations.specs.Relation.{Relation, Has};
+ghost use Rattle.bit_rows.specs.Relation.{Relation, Has};
 ghost use Rattle.relation_cycles.specs.Cycles.{HasOneShortestCycle};
 
 /// A relation has at most one cycle that is the first of the shortest ones.

@@ -5,8 +5,8 @@
 #![tactic(auto)]
 
 ghost use Rattle.std.specs.Prelude.{◌≡◌, ℕ, ◌<◌, ◌≤◌, ◌+◌, length, IfOk, MatchOption};
-ghost use Rattle.bit_relations.specs.Pairs.{Composite, Plus, IsAcyclic, IsEmpty, IsIrreflexive};
-ghost use Rattle.bit_relations.specs.Relation.{Has, IsRegular, IsRelation};
+ghost use Rattle.bit_rows.specs.Pairs.{Composite, Plus, IsAcyclic, IsEmpty, IsIrreflexive};
+ghost use Rattle.bit_rows.specs.Relation.{Has, IsRegular, IsRelation};
 ghost use Rattle.relation_cycles.specs.Cycles.{IsPathFrom, IsShortestPath, IsShortestCycle, IsShortestThrough, IsReachableIn, AreLevels, HasShortPaths, IsFirstReflexive, IsFirstUpTo, IsLeastPair};
 
 pub mod laws;

@@ -6,7 +6,7 @@ use Rattle.text_values.specs.declared.test.Test.{Test}
 use Rattle.text_values.specs.declared.model.ModelText.{ModelText}
 use Rattle.binding_kinds.specs.declared.fault.ModelFault.{ModelFault}
 use Rattle.binding_graph.specs.declared.resolved.Resolved.{Resolved}
-use Rattle.verdict.specs.declared.answer.Outcome.{Outcome}
+use Rattle.outcome_states.specs.declared.answer.Outcome.{Outcome}
 use Rattle.from_scratch.specs.FromScratch.{IsFromScratch}
 use Rattle.from_scratch.specs.Suites.{AreOutcomes, AreResolvedAs}
 use Rattle.session_answers.proofs.Named.{first_is, rest_is, no_first}

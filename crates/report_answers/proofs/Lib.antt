@@ -1,4 +1,10 @@
 pub mod Drawn
+pub mod Elements
+pub mod Figures
 pub mod Known
+pub mod PageTexts
 pub mod Pages
+pub mod Passing
+pub mod Pictures
 pub mod Plain
+pub mod Tests

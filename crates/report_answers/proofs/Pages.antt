@@ -3,8 +3,8 @@ use Rattle.std.proofs.Common.{◌≡◌, ℕ, List, [], ◌++◌, map, refl, sym
 use Rattle.std.proofs.lemmas.List.Elements.{All-nil}
 use Rattle.report_details.specs.Reported.{ReportedModel, ReportedTest, Extras}
 use Rattle.report_page.specs.Page.{report_page}
-use Rattle.report_laws.specs.Whole.{HasPlainDrawings, IsWellFormed}
-use Rattle.report_laws.proofs.Pages.{page_is_well_formed}
+use Rattle.report_answers.specs.Whole.{HasPlainDrawings, IsWellFormed}
+use Rattle.report_answers.proofs.PageTexts.{page_is_well_formed}
 use Rattle.command_answers.specs.declared.file.TextFile.{TextFile}
 use Rattle.report_answers.specs.declared.judged.KnownTests.{KnownTests}
 use Rattle.report_answers.specs.declared.models.KnownModel.{KnownModel}

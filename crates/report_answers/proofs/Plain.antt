@@ -5,17 +5,17 @@ use Rattle.std.specs.List.{All, AllZip}
 use Rattle.std.proofs.lemmas.List.Elements.{All-nil, All-push, All-same}
 use Rattle.text_values.specs.declared.test.Test.{Test}
 use Rattle.text_values.specs.declared.model.ModelText.{ModelText}
-use Rattle.verdict.specs.declared.answer.Outcome.{Outcome}
-use Rattle.verdict.specs.declared.answer.OutcomeResult.{OutcomeResult}
-use Rattle.verdict.specs.declared.answer.OutcomeResult.TheVariants as results
+use Rattle.outcome_states.specs.declared.answer.Outcome.{Outcome}
+use Rattle.outcome_states.specs.declared.answer.OutcomeResult.{OutcomeResult}
+use Rattle.outcome_states.specs.declared.answer.OutcomeResult.TheVariants as results
 use Rattle.from_scratch.specs.FromScratch.{IsFromScratch, IsResultOf}
 use Rattle.command_answers.specs.declared.file.TextFile.{TextFile}
 use Rattle.report_details.specs.Reported.{ReportedTest}
 use Rattle.report_details.specs.Groups.{are_told_apart}
-use Rattle.report_laws.specs.Scripts.{IsPlainMarkup}
-use Rattle.report_laws.specs.Whole.{HasPlainDrawings}
-use Rattle.report_laws.proofs.Passing.{none_plain}
-use Rattle.report_laws.proofs.Figures.{figure_is_plain}
+use Rattle.report_answers.specs.Scripts.{IsPlainMarkup}
+use Rattle.report_answers.specs.Whole.{HasPlainDrawings}
+use Rattle.report_answers.proofs.Passing.{none_plain}
+use Rattle.report_answers.proofs.Figures.{figure_is_plain}
 use Rattle.report_answers.specs.declared.drawings.DrawingBudget.{DrawingBudget}
 use Rattle.report_answers.specs.declared.models.KnownModel.{KnownModel}
 use Rattle.report_answers.specs.Drawn.{request_of, IsDrawingOf, IsNextDrawing, AreTestDrawings, NoDrawing, NextDrawing, AreDrawingsIf}

@@ -1,4 +1,6 @@
 pub mod Drawn
-pub mod Known
 pub mod Judges
+pub mod Known
 pub mod Pages
+pub mod Scripts
+pub mod Whole

@@ -2,7 +2,7 @@
 
 ghost use Rattle.std.specs.Prelude.{◌≡◌, IfOk, map};
 ghost use Rattle.report_page.specs.Page.{report_page};
-ghost use Rattle.report_laws.specs.Whole.{IsWellFormed};
+ghost use Rattle.report_answers.specs.Whole.{IsWellFormed};
 ghost use Rattle.report_answers.specs.Judges.{content_in};
 ghost use Rattle.report_answers.specs.Known.{shown_model, shown_test, start_content, AreKnownTests};
 ghost use Rattle.report_answers.specs.Pages.{extras_of, IsPageReport};

@@ -4,8 +4,8 @@ use Rattle.std.specs.List.{insert}
 use Rattle.std.specs.declared.cmp.Ordering.{Ordering}
 use Rattle.std.specs.declared.cmp.Ordering.TheVariants.{Less, Equal}
 use Rattle.std.proofs.lemmas.List.{drop_more, take-append-drop, take-map, drop-map, map-append}
-use Rattle.verdict.specs.declared.answer.CountedState.{CountedState}
-use Rattle.verdict.specs.Order.{state_cmp}
+use Rattle.outcome_states.specs.declared.answer.CountedState.{CountedState}
+use Rattle.outcome_states.specs.Order.{state_cmp}
 use Rattle.report_details.specs.States.{placed, with_state}
 
 -- the rest of a list, from an index on

@@ -2,11 +2,11 @@
 -- counts, the flags, and the drawings. `put_tests` cites the last definition.
 use Rattle.std.specs.Prelude.{ℕ, ◌+◌, Option, Some, None, List, [], ◌∷◌, ◌++◌, codes, slice_get}
 use Rattle.std.specs.List.{flat_map}
-use Rattle.html_text.specs.Elements.{Attribute, element}
-use Rattle.html_text.specs.Escaped.{escaped}
-use Rattle.verdict.specs.declared.answer.Outcome.{Outcome}
-use Rattle.verdict.specs.declared.answer.OutcomeResult.{OutcomeResult}
-use Rattle.verdict.specs.declared.answer.OutcomeResult.TheVariants.{Refused, Evaluated}
+use Rattle.escaped_texts.specs.Elements.{Attribute, element}
+use Rattle.escaped_texts.specs.Escaped.{escaped}
+use Rattle.outcome_states.specs.declared.answer.Outcome.{Outcome}
+use Rattle.outcome_states.specs.declared.answer.OutcomeResult.{OutcomeResult}
+use Rattle.outcome_states.specs.declared.answer.OutcomeResult.TheVariants.{Refused, Evaluated}
 use Rattle.report_details.specs.Reported.{ReportedModel, ReportedTest}
 use Rattle.report_details.specs.Groups.{groups_of, has_other, keys_text}
 use Rattle.report_details.specs.Marks.{class_of, numbered, heading, result_class, result_mark, test_class}

@@ -2,8 +2,8 @@
 use Rattle.std.specs.Prelude.{ℕ, ◌+◌, ◌==◌, nat_eq, if◌then◌else◌, Option, Some, None, List, [], ◌∷◌, ◌++◌, map, length, codes, slice_get}
 use Rattle.std.specs.Cmp.Lexicographic.{pointwise}
 use Rattle.std.specs.List.{flat_map}
-use Rattle.html_text.specs.Elements.{element}
-use Rattle.html_text.specs.Escaped.{escaped}
+use Rattle.escaped_texts.specs.Elements.{element}
+use Rattle.escaped_texts.specs.Escaped.{escaped}
 use Rattle.report_details.specs.Reported.{ReportedModel}
 use Rattle.report_details.specs.Names.{group_text, firsts_from}
 

@@ -1,14 +1,14 @@
 -- How a cell is shown: its colour by a class, and its words.
 use Rattle.std.specs.Prelude.{ℕ, not, Bool, if◌then◌else◌, List, [], ◌∷◌, ◌++◌, decimal, codes}
-use Rattle.html_text.specs.Elements.{Attribute, element}
-use Rattle.html_text.specs.Escaped.{escaped}
+use Rattle.escaped_texts.specs.Elements.{Attribute, element}
+use Rattle.escaped_texts.specs.Escaped.{escaped}
 use Rattle.outcome_texts.specs.Log.{observation_word, refusal_text}
-use Rattle.verdict.specs.declared.answer.Evaluation.{Evaluation}
-use Rattle.verdict.specs.declared.answer.Observation.{Observation}
-use Rattle.verdict.specs.declared.answer.Observation.TheVariants.{Never, Sometimes, Always}
-use Rattle.verdict.specs.declared.answer.Outcome.{Outcome}
-use Rattle.verdict.specs.declared.answer.OutcomeResult.{OutcomeResult}
-use Rattle.verdict.specs.declared.answer.OutcomeResult.TheVariants.{Refused, Evaluated}
+use Rattle.outcome_states.specs.declared.answer.Evaluation.{Evaluation}
+use Rattle.outcome_states.specs.declared.answer.Observation.{Observation}
+use Rattle.outcome_states.specs.declared.answer.Observation.TheVariants.{Never, Sometimes, Always}
+use Rattle.outcome_states.specs.declared.answer.Outcome.{Outcome}
+use Rattle.outcome_states.specs.declared.answer.OutcomeResult.{OutcomeResult}
+use Rattle.outcome_states.specs.declared.answer.OutcomeResult.TheVariants.{Refused, Evaluated}
 use Rattle.report_details.specs.Groups.{has_refusal}
 
 -- one attribute

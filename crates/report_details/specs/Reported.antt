@@ -1,7 +1,7 @@
 -- What a page shows, as plain data: contracts see it so. Read this first, then Groups, Marks,
 -- States, Names, Figures, StateTable and Details.
 use Rattle.std.specs.Prelude.{ℕ, List}
-use Rattle.verdict.specs.OutcomeContent.{OutcomeContent}
+use Rattle.outcome_states.specs.OutcomeContent.{OutcomeContent}
 
 -- the name by which a model is called, and its text
 pub record ReportedModel : Type 0 where

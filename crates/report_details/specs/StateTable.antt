@@ -1,11 +1,11 @@
 -- The table of a test's final states, with their counts in each group of models.
 use Rattle.std.specs.Prelude.{ℕ, ◌==◌, if◌then◌else◌, Option, Some, None, List, [], ◌++◌, decimal, codes, slice_get}
 use Rattle.std.specs.List.{flat_map}
-use Rattle.html_text.specs.Elements.{element}
-use Rattle.html_text.specs.Escaped.{escaped}
+use Rattle.escaped_texts.specs.Elements.{element}
+use Rattle.escaped_texts.specs.Escaped.{escaped}
 use Rattle.outcome_texts.specs.Cells.{holds_sign}
-use Rattle.verdict.specs.declared.answer.CountedState.{CountedState}
-use Rattle.verdict.specs.declared.answer.Outcome.{Outcome}
+use Rattle.outcome_states.specs.declared.answer.CountedState.{CountedState}
+use Rattle.outcome_states.specs.declared.answer.Outcome.{Outcome}
 use Rattle.report_details.specs.Reported.{ReportedModel}
 use Rattle.report_details.specs.Groups.{letter}
 use Rattle.report_details.specs.Marks.{class_of, scope_of, heading}

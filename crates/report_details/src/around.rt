@@ -1,10 +1,10 @@
 //! An element of a class, and texts that are only sometimes there.
 
 ghost use Rattle.std.specs.Prelude.{◌≡◌, ◌++◌, IfOk, OnOk};
-ghost use Rattle.html_text.specs.Elements.{open_tag};
+ghost use Rattle.escaped_texts.specs.Elements.{open_tag};
 ghost use Rattle.report_details.specs.Marks.{one, class_of, text_if, numbered};
 
-use html_text::{Attribute, put_open};
+use escaped_texts::{Attribute, put_open};
 use std::alloc::{AllocError, Global};
 use text_values::{put_bytes, put_decimal};
 

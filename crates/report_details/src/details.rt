@@ -2,7 +2,7 @@
 
 ghost use Rattle.std.specs.Prelude.{◌≡◌, ◌++◌, IfOk, OnOk, codes, map};
 ghost use Rattle.std.specs.List.{flat_map};
-ghost use Rattle.html_text.specs.Elements.{open_tag, element};
+ghost use Rattle.escaped_texts.specs.Elements.{open_tag, element};
 ghost use Rattle.report_details.specs.Marks.{class_of};
 ghost use Rattle.report_details.specs.Details.{chip_class, chip, chip_of, chips, flag_words, flag_text, result_flags, flags_text, condition_part, first_condition, text_part, two_parts, body_text, details_class, details_attributes, test_attributes, summary_text, test_in_groups, grouped_test, test_details, tests_details};
 
@@ -13,7 +13,7 @@ use crate::marks::{put_result, result_class, test_class};
 use crate::names::{firsts_of, group_text};
 use crate::reported::{ReportedModel, ReportedTest};
 use crate::state_table::put_states;
-use html_text::{Attribute, put_close, put_element, put_escaped, put_open};
+use escaped_texts::{Attribute, put_close, put_element, put_escaped, put_open};
 use std::alloc::{AllocError, Global};
 use text_values::{Name, put_bytes};
 use verdict::{Outcome, OutcomeResult};
@@ -27,7 +27,7 @@ fn chip_class(alloc: Global, found: &OutcomeResult) -> Result<Vec<u8>, AllocErro
     Ok(class)
 }
 
-#[tactic(auto, unfolding(crate::specs::Details::chip, html_text::specs::Elements::element))]
+#[tactic(auto, unfolding(crate::specs::Details::chip, escaped_texts::specs::Elements::element))]
 fn put_chip(
     alloc: Global,
     text: &mut Vec<u8>,
@@ -148,7 +148,7 @@ fn put_all_flags(
     Ok(())
 }
 
-#[tactic(auto, unfolding(crate::specs::Details::condition_part, html_text::specs::Elements::element))]
+#[tactic(auto, unfolding(crate::specs::Details::condition_part, escaped_texts::specs::Elements::element))]
 fn put_condition(text: &mut Vec<u8>, condition: &[u8]) -> Result<(), AllocError>
     ensures { OnOk result (text.new.items ≡ text.old.items ++ condition_part condition.now) }
 {
@@ -167,7 +167,7 @@ fn put_first_condition(text: &mut Vec<u8>, outcomes: &[Outcome]) -> Result<(), A
     }
 }
 
-#[tactic(auto, unfolding(crate::specs::Details::text_part, html_text::specs::Elements::element))]
+#[tactic(auto, unfolding(crate::specs::Details::text_part, escaped_texts::specs::Elements::element))]
 fn put_text_part(text: &mut Vec<u8>, shown: &[u8]) -> Result<(), AllocError>
     ensures { OnOk result (text.new.items ≡ text.old.items ++ text_part shown.now) }
 {
@@ -177,7 +177,7 @@ fn put_text_part(text: &mut Vec<u8>, shown: &[u8]) -> Result<(), AllocError>
     put_close(text, b"div")
 }
 
-#[tactic(auto, unfolding(crate::specs::Details::two_parts, html_text::specs::Elements::element))]
+#[tactic(auto, unfolding(crate::specs::Details::two_parts, escaped_texts::specs::Elements::element))]
 fn put_two_parts(
     alloc: Global,
     text: &mut Vec<u8>,
@@ -278,7 +278,7 @@ fn put_test_open(
     put_details_open(text, &class, &id, test.name, &keys)
 }
 
-#[tactic(auto, unfolding(crate::specs::Details::summary_text, html_text::specs::Elements::element))]
+#[tactic(auto, unfolding(crate::specs::Details::summary_text, escaped_texts::specs::Elements::element))]
 fn put_summary(
     alloc: Global,
     text: &mut Vec<u8>,
@@ -296,7 +296,7 @@ fn put_summary(
     put_close(text, b"summary")
 }
 
-#[tactic(auto, unfolding(html_text::specs::Elements::element))]
+#[tactic(auto, unfolding(escaped_texts::specs::Elements::element))]
 fn put_opened(
     alloc: Global,
     text: &mut Vec<u8>,
@@ -315,7 +315,7 @@ fn put_opened(
     put_close(text, b"div")
 }
 
-#[tactic(auto, unfolding(crate::specs::Details::test_in_groups, html_text::specs::Elements::element))]
+#[tactic(auto, unfolding(crate::specs::Details::test_in_groups, escaped_texts::specs::Elements::element))]
 fn put_in_groups(
     alloc: Global,
     text: &mut Vec<u8>,

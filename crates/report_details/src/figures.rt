@@ -6,7 +6,7 @@ ghost use Rattle.report_details.specs.Figures.{first_drawn, drawing_groups, figu
 
 use crate::names::{firsts_of, group_text};
 use crate::reported::ReportedModel;
-use html_text::{put_close, put_element, put_open};
+use escaped_texts::{put_close, put_element, put_open};
 use std::alloc::{AllocError, Global};
 use text_values::put_bytes;
 
@@ -32,7 +32,7 @@ fn drawing_groups(alloc: Global, drawings: &[Vec<u8>]) -> Result<Vec<usize>, All
     Ok(groups)
 }
 
-#[tactic(auto, unfolding(crate::specs::Figures::figure, html_text::specs::Elements::element))]
+#[tactic(auto, unfolding(crate::specs::Figures::figure, escaped_texts::specs::Elements::element))]
 fn put_figure(text: &mut Vec<u8>, group: &[u8], drawing: &[u8]) -> Result<(), AllocError>
     ensures { OnOk result (text.new.items ≡ text.old.items ++ figure group.now drawing.now) }
 {

@@ -5,7 +5,7 @@ ghost use Rattle.report_details.specs.Marks.{sign, observation_class, result_cla
 
 use crate::around::put_if;
 use crate::groups::has_refusal;
-use html_text::{put_element, put_escaped};
+use escaped_texts::{put_element, put_escaped};
 use outcome_texts::{observation_word, put_refusal};
 use std::alloc::{AllocError, Global};
 use text_values::{put_bytes, put_decimal};

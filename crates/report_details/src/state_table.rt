@@ -2,7 +2,7 @@
 
 ghost use Rattle.std.specs.Prelude.{◌≡◌, ◌++◌, [], OnOk, codes, map};
 ghost use Rattle.std.specs.List.{flat_map};
-ghost use Rattle.html_text.specs.Elements.{open_tag, element};
+ghost use Rattle.escaped_texts.specs.Elements.{open_tag, element};
 ghost use Rattle.outcome_texts.specs.Cells.{holds_sign};
 ghost use Rattle.report_details.specs.Marks.{class_of, heading};
 ghost use Rattle.report_details.specs.StateTable.{count_text, count_cell, count_of, counts_text, state_class, state_name, state_row, state_rows, group_head, group_heads, state_heads, states_heading, states_table, states_part};
@@ -12,7 +12,7 @@ use crate::groups::put_letter;
 use crate::names::group_text;
 use crate::reported::ReportedModel;
 use crate::states::{all_states, count_in, is_counted_apart};
-use html_text::{put_close, put_element, put_escaped, put_open};
+use escaped_texts::{put_close, put_element, put_escaped, put_open};
 use std::alloc::{AllocError, Global};
 use text_values::{put_bytes, put_decimal};
 use verdict::{CountedState, Outcome};
@@ -28,7 +28,7 @@ fn put_count_text(text: &mut Vec<u8>, count: u64) -> Result<(), AllocError>
     }
 }
 
-#[tactic(auto, unfolding(crate::specs::StateTable::count_cell, html_text::specs::Elements::element))]
+#[tactic(auto, unfolding(crate::specs::StateTable::count_cell, escaped_texts::specs::Elements::element))]
 fn put_count(text: &mut Vec<u8>, state: &CountedState, outcome: &Outcome) -> Result<(), AllocError>
     ensures { OnOk result (text.new.items
         ≡ text.old.items ++ count_cell state.now outcome.now) }
@@ -85,7 +85,7 @@ fn holds_sign(holds: bool) -> &'static [u8]
     if holds { b"*>" } else { b":>" }
 }
 
-#[tactic(auto, unfolding(crate::specs::StateTable::state_name, html_text::specs::Elements::element))]
+#[tactic(auto, unfolding(crate::specs::StateTable::state_name, escaped_texts::specs::Elements::element))]
 fn put_state_name(text: &mut Vec<u8>, state: &CountedState) -> Result<(), AllocError>
     ensures { OnOk result (text.new.items ≡ text.old.items ++ state_name state.now) }
 {
@@ -113,7 +113,7 @@ fn open_row(
     open_class(text, b"tr", state_class(outcomes, state))
 }
 
-#[tactic(auto, unfolding(crate::specs::StateTable::state_row, html_text::specs::Elements::element))]
+#[tactic(auto, unfolding(crate::specs::StateTable::state_row, escaped_texts::specs::Elements::element))]
 fn put_state_row(
     text: &mut Vec<u8>,
     outcomes: &[Outcome],
@@ -159,7 +159,7 @@ fn put_state_rows(
     put_each_row(text, outcomes, firsts, &states)
 }
 
-#[tactic(auto, unfolding(crate::specs::StateTable::group_head, html_text::specs::Elements::element))]
+#[tactic(auto, unfolding(crate::specs::StateTable::group_head, escaped_texts::specs::Elements::element))]
 fn put_group_head(
     alloc: Global,
     text: &mut Vec<u8>,
@@ -194,7 +194,7 @@ fn put_group_heads(
     Ok(())
 }
 
-#[tactic(auto, unfolding(crate::specs::StateTable::state_heads, html_text::specs::Elements::element))]
+#[tactic(auto, unfolding(crate::specs::StateTable::state_heads, escaped_texts::specs::Elements::element))]
 fn put_state_heads(
     alloc: Global,
     text: &mut Vec<u8>,
@@ -212,7 +212,7 @@ fn put_state_heads(
     put_close(text, b"tr")
 }
 
-#[tactic(auto, unfolding(html_text::specs::Elements::element))]
+#[tactic(auto, unfolding(escaped_texts::specs::Elements::element))]
 fn put_table_head(
     alloc: Global,
     text: &mut Vec<u8>,
@@ -229,7 +229,7 @@ fn put_table_head(
     put_close(text, b"thead")
 }
 
-#[tactic(auto, unfolding(html_text::specs::Elements::element))]
+#[tactic(auto, unfolding(escaped_texts::specs::Elements::element))]
 fn put_table_body(
     alloc: Global,
     text: &mut Vec<u8>,
@@ -244,7 +244,7 @@ fn put_table_body(
     put_close(text, b"tbody")
 }
 
-#[tactic(auto, unfolding(crate::specs::StateTable::states_table, html_text::specs::Elements::element))]
+#[tactic(auto, unfolding(crate::specs::StateTable::states_table, escaped_texts::specs::Elements::element))]
 fn put_table(
     alloc: Global,
     text: &mut Vec<u8>,
@@ -263,7 +263,7 @@ fn put_table(
     put_close(text, b"table")
 }
 
-#[tactic(auto, unfolding(html_text::specs::Elements::element))]
+#[tactic(auto, unfolding(escaped_texts::specs::Elements::element))]
 fn put_wrapped_table(
     alloc: Global,
     text: &mut Vec<u8>,
@@ -295,7 +295,7 @@ fn put_states_heading(text: &mut Vec<u8>) -> Result<(), AllocError>
 }
 
 /// Appends the table of the final states, with their counts in each group. Errors: want of memory.
-#[tactic(auto, unfolding(crate::specs::StateTable::states_part, html_text::specs::Elements::element))]
+#[tactic(auto, unfolding(crate::specs::StateTable::states_part, escaped_texts::specs::Elements::element))]
 pub fn put_states(
     alloc: Global,
     text: &mut Vec<u8>,

@@ -2,7 +2,7 @@
 
 ghost use Rattle.std.specs.Prelude.{◌≡◌, ◌≤◌, IfOk, OnOk, MatchOption, length, map, fold};
 ghost use Rattle.std.specs.List.{insert, list_any};
-ghost use Rattle.verdict.specs.Order.{state_cmp};
+ghost use Rattle.outcome_states.specs.Order.{state_cmp};
 ghost use Rattle.outcome_texts.specs.Differences.{result_states};
 ghost use Rattle.report_details.specs.States.{with_state, with_states, all_states, count_among, count_in, has_other_count, is_counted_apart};
 

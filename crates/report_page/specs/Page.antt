@@ -1,7 +1,7 @@
 -- The page. `put_page` cites the last definition.
 use Rattle.std.specs.Prelude.{ℕ, ◌+◌, ◌-◌, ◌==◌, nat_lt, if◌then◌else◌, List, [], ◌∷◌, ◌++◌, length, decimal, codes}
-use Rattle.html_text.specs.Elements.{Attribute, open_tag, element}
-use Rattle.html_text.specs.Escaped.{escaped}
+use Rattle.escaped_texts.specs.Elements.{Attribute, open_tag, element}
+use Rattle.escaped_texts.specs.Escaped.{escaped}
 use Rattle.report_details.specs.Reported.{ReportedModel, ReportedTest, Extras}
 use Rattle.report_details.specs.Marks.{one, class_of, numbered, heading}
 use Rattle.report_details.specs.Details.{tests_details}

@@ -2,9 +2,9 @@
 -- first, then Table and Page.
 use Rattle.std.specs.Prelude.{ℕ, ◌+◌, ◌-◌, ◌==◌, nat_eq, Bool, false, if◌then◌else◌, Option, Some, None, List, [], ◌∷◌, ◌++◌, length, decimal, codes, slice_get, count_by}
 use Rattle.std.specs.Cmp.Lexicographic.{pointwise}
-use Rattle.html_text.specs.Elements.{element}
-use Rattle.html_text.specs.Escaped.{escaped}
-use Rattle.verdict.specs.declared.answer.Outcome.{Outcome}
+use Rattle.escaped_texts.specs.Elements.{element}
+use Rattle.escaped_texts.specs.Escaped.{escaped}
+use Rattle.outcome_states.specs.declared.answer.Outcome.{Outcome}
 use Rattle.outcome_texts.specs.Cells.{Cell, NoCell, Settled}
 use Rattle.outcome_texts.specs.Differences.{cells_differ}
 use Rattle.report_details.specs.Reported.{ReportedModel, ReportedTest}

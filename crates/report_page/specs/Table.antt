@@ -1,10 +1,10 @@
 -- The table of tests under models.
 use Rattle.std.specs.Prelude.{ℕ, ◌+◌, Bool, true, false, List, [], ◌∷◌, ◌++◌, codes}
 use Rattle.std.specs.List.{flat_map}
-use Rattle.html_text.specs.Elements.{Attribute, element}
-use Rattle.html_text.specs.Escaped.{escaped}
-use Rattle.verdict.specs.declared.answer.Outcome.{Outcome}
-use Rattle.verdict.specs.declared.answer.OutcomeResult.{OutcomeResult}
+use Rattle.escaped_texts.specs.Elements.{Attribute, element}
+use Rattle.escaped_texts.specs.Escaped.{escaped}
+use Rattle.outcome_states.specs.declared.answer.Outcome.{Outcome}
+use Rattle.outcome_states.specs.declared.answer.OutcomeResult.{OutcomeResult}
 use Rattle.report_details.specs.Reported.{ReportedModel, ReportedTest}
 use Rattle.report_details.specs.Groups.{groups_of, has_other, is_other, letter, keys_text}
 use Rattle.report_details.specs.Marks.{one, class_of, scope_of, text_if, numbered, heading, result_class, result_mark, test_class}

@@ -1,7 +1,7 @@
 //! The page.
 
 ghost use Rattle.std.specs.Prelude.{◌≡◌, ◌++◌, [], IfOk, OnOk, codes, length};
-ghost use Rattle.html_text.specs.Elements.{open_tag, element};
+ghost use Rattle.escaped_texts.specs.Elements.{open_tag, element};
 ghost use Rattle.report_details.specs.Marks.{class_of, heading};
 ghost use Rattle.report_page.specs.Summary.{cards, model_lines, difference_rows};
 ghost use Rattle.report_page.specs.Table.{test_rows};
@@ -13,7 +13,7 @@ use crate::summary::{
     rest_of,
 };
 use crate::table::{put_column_heads, put_rows};
-use html_text::{Attribute, put_close, put_element, put_escaped, put_open};
+use escaped_texts::{Attribute, put_close, put_element, put_escaped, put_open};
 use report_details::{
     Extras, ReportedModel, ReportedTest, numbered, open_class, open_with, put_tests,
 };
@@ -34,7 +34,7 @@ fn extent(alloc: Global, tests: usize, models: usize) -> Result<Vec<u8>, AllocEr
     Ok(words)
 }
 
-#[tactic(auto, unfolding(crate::specs::Page::extent_line, html_text::specs::Elements::element))]
+#[tactic(auto, unfolding(crate::specs::Page::extent_line, escaped_texts::specs::Elements::element))]
 fn put_extent(
     alloc: Global,
     text: &mut Vec<u8>,
@@ -51,7 +51,7 @@ fn put_extent(
     put_close(text, b"p")
 }
 
-#[tactic(auto, unfolding(crate::specs::Page::title_part, html_text::specs::Elements::element))]
+#[tactic(auto, unfolding(crate::specs::Page::title_part, escaped_texts::specs::Elements::element))]
 fn put_title(
     alloc: Global,
     text: &mut Vec<u8>,
@@ -68,7 +68,7 @@ fn put_title(
 
 // ---- numbers
 
-#[tactic(auto, unfolding(html_text::specs::Elements::element))]
+#[tactic(auto, unfolding(escaped_texts::specs::Elements::element))]
 fn put_cards_part(
     alloc: Global,
     text: &mut Vec<u8>,
@@ -92,7 +92,7 @@ fn put_observation_heads(text: &mut Vec<u8>) -> Result<(), AllocError>
     put_element(text, b"th", &[], b"refused")
 }
 
-#[tactic(auto, unfolding(html_text::specs::Elements::element))]
+#[tactic(auto, unfolding(escaped_texts::specs::Elements::element))]
 fn put_observation_row(text: &mut Vec<u8>) -> Result<(), AllocError>
     ensures { OnOk result (text.new.items
         ≡ text.old.items ++ element (codes "tr") [] page.observation_heads) }
@@ -102,7 +102,7 @@ fn put_observation_row(text: &mut Vec<u8>) -> Result<(), AllocError>
     put_close(text, b"tr")
 }
 
-#[tactic(auto, unfolding(html_text::specs::Elements::element))]
+#[tactic(auto, unfolding(escaped_texts::specs::Elements::element))]
 fn put_observation_head(text: &mut Vec<u8>) -> Result<(), AllocError>
     ensures { OnOk result (text.new.items
         ≡ text.old.items ++ page.table_head page.observation_heads) }
@@ -123,7 +123,7 @@ fn open_wrapped(text: &mut Vec<u8>, class: &[u8]) -> Result<(), AllocError>
     open_class(text, b"table", class)
 }
 
-#[tactic(auto, unfolding(html_text::specs::Elements::element))]
+#[tactic(auto, unfolding(escaped_texts::specs::Elements::element))]
 fn put_model_rows(
     alloc: Global,
     text: &mut Vec<u8>,
@@ -138,7 +138,7 @@ fn put_model_rows(
     put_close(text, b"tbody")
 }
 
-#[tactic(auto, unfolding(crate::specs::Page::wrapped_table, html_text::specs::Elements::element))]
+#[tactic(auto, unfolding(crate::specs::Page::wrapped_table, escaped_texts::specs::Elements::element))]
 fn put_observation_table(
     alloc: Global,
     text: &mut Vec<u8>,
@@ -157,7 +157,7 @@ fn put_observation_table(
     put_close(text, b"div")
 }
 
-#[tactic(auto, unfolding(crate::specs::Page::observations, html_text::specs::Elements::element))]
+#[tactic(auto, unfolding(crate::specs::Page::observations, escaped_texts::specs::Elements::element))]
 fn put_observations(
     alloc: Global,
     text: &mut Vec<u8>,
@@ -181,7 +181,7 @@ fn table_class(models: usize) -> &'static [u8]
     if models > 6 { b"num many" } else { b"num" }
 }
 
-#[tactic(auto, unfolding(html_text::specs::Elements::element))]
+#[tactic(auto, unfolding(escaped_texts::specs::Elements::element))]
 fn put_head_row(
     text: &mut Vec<u8>,
     first: &[u8],
@@ -197,7 +197,7 @@ fn put_head_row(
     put_close(text, b"tr")
 }
 
-#[tactic(auto, unfolding(crate::specs::Page::heads, html_text::specs::Elements::element))]
+#[tactic(auto, unfolding(crate::specs::Page::heads, escaped_texts::specs::Elements::element))]
 fn put_heads(
     text: &mut Vec<u8>,
     first: &[u8],
@@ -210,7 +210,7 @@ fn put_heads(
     put_close(text, b"thead")
 }
 
-#[tactic(auto, unfolding(html_text::specs::Elements::element))]
+#[tactic(auto, unfolding(escaped_texts::specs::Elements::element))]
 fn put_pair_rows(
     alloc: Global,
     text: &mut Vec<u8>,
@@ -226,7 +226,7 @@ fn put_pair_rows(
     put_close(text, b"tbody")
 }
 
-#[tactic(auto, unfolding(crate::specs::Page::wrapped_table, html_text::specs::Elements::element))]
+#[tactic(auto, unfolding(crate::specs::Page::wrapped_table, escaped_texts::specs::Elements::element))]
 fn put_pair_table(
     alloc: Global,
     text: &mut Vec<u8>,
@@ -245,7 +245,7 @@ fn put_pair_table(
     put_close(text, b"div")
 }
 
-#[tactic(auto, unfolding(crate::specs::Page::differences, html_text::specs::Elements::element))]
+#[tactic(auto, unfolding(crate::specs::Page::differences, escaped_texts::specs::Elements::element))]
 fn put_differences(
     alloc: Global,
     text: &mut Vec<u8>,
@@ -261,7 +261,7 @@ fn put_differences(
     put_close(text, b"div")
 }
 
-#[tactic(auto, unfolding(crate::specs::Page::summary_part, html_text::specs::Elements::element))]
+#[tactic(auto, unfolding(crate::specs::Page::summary_part, escaped_texts::specs::Elements::element))]
 fn put_summary(
     alloc: Global,
     text: &mut Vec<u8>,
@@ -290,7 +290,7 @@ fn filter_words(alloc: Global, words: &[u8], number: usize) -> Result<Vec<u8>, A
     Ok(shown)
 }
 
-#[tactic(auto, unfolding(crate::specs::Page::filter_label, html_text::specs::Elements::element))]
+#[tactic(auto, unfolding(crate::specs::Page::filter_label, escaped_texts::specs::Elements::element))]
 fn put_filter_label(
     alloc: Global,
     text: &mut Vec<u8>,
@@ -370,7 +370,7 @@ fn open_grid(text: &mut Vec<u8>, class: &[u8]) -> Result<(), AllocError>
     put_open(text, b"table", &[id, class])
 }
 
-#[tactic(auto, unfolding(html_text::specs::Elements::element))]
+#[tactic(auto, unfolding(escaped_texts::specs::Elements::element))]
 fn put_grid_rows(
     alloc: Global,
     text: &mut Vec<u8>,
@@ -384,7 +384,7 @@ fn put_grid_rows(
     put_close(text, b"tbody")
 }
 
-#[tactic(auto, unfolding(crate::specs::Page::grid, html_text::specs::Elements::element))]
+#[tactic(auto, unfolding(crate::specs::Page::grid, escaped_texts::specs::Elements::element))]
 fn put_grid(
     alloc: Global,
     text: &mut Vec<u8>,
@@ -399,7 +399,7 @@ fn put_grid(
     put_close(text, b"table")
 }
 
-#[tactic(auto, unfolding(html_text::specs::Elements::element))]
+#[tactic(auto, unfolding(escaped_texts::specs::Elements::element))]
 fn put_wrapped_grid(
     alloc: Global,
     text: &mut Vec<u8>,
@@ -525,7 +525,7 @@ fn open_model(alloc: Global, text: &mut Vec<u8>, number: usize) -> Result<(), Al
     put_open(text, b"details", &attributes)
 }
 
-#[tactic(auto, unfolding(html_text::specs::Elements::element))]
+#[tactic(auto, unfolding(escaped_texts::specs::Elements::element))]
 fn put_model_name(text: &mut Vec<u8>, name: &[u8]) -> Result<(), AllocError>
     ensures { OnOk result (text.new.items
         ≡ text.old.items ++ element (codes "summary") [] (heading (codes "b") name.now)) }
@@ -535,7 +535,7 @@ fn put_model_name(text: &mut Vec<u8>, name: &[u8]) -> Result<(), AllocError>
     put_close(text, b"summary")
 }
 
-#[tactic(auto, unfolding(crate::specs::Page::model_text, html_text::specs::Elements::element))]
+#[tactic(auto, unfolding(crate::specs::Page::model_text, escaped_texts::specs::Elements::element))]
 fn put_model_text(text: &mut Vec<u8>, shown: &[u8]) -> Result<(), AllocError>
     ensures { OnOk result (text.new.items ≡ text.old.items ++ page.model_text shown.now) }
 {
@@ -544,7 +544,7 @@ fn put_model_text(text: &mut Vec<u8>, shown: &[u8]) -> Result<(), AllocError>
     put_close(text, b"div")
 }
 
-#[tactic(auto, unfolding(crate::specs::Page::model_details, html_text::specs::Elements::element))]
+#[tactic(auto, unfolding(crate::specs::Page::model_details, escaped_texts::specs::Elements::element))]
 fn put_model(
     alloc: Global,
     text: &mut Vec<u8>,
@@ -604,7 +604,7 @@ fn put_content(
     put_models_part(alloc, text, models)
 }
 
-#[tactic(auto, unfolding(html_text::specs::Elements::element))]
+#[tactic(auto, unfolding(escaped_texts::specs::Elements::element))]
 fn put_main(
     alloc: Global,
     text: &mut Vec<u8>,

@@ -4,7 +4,7 @@ ghost use Rattle.std.specs.Prelude.{◌≡◌, ◌++◌, ◌-◌, IfOk, OnOk, de
 ghost use Rattle.outcome_texts.specs.Cells.{cell_of};
 ghost use Rattle.report_page.specs.Summary.{cell_under, has_class, class_count, differs, difference_count, apart_count, refused_count, card, agreeing_card, cards_text, cards, model_anchor, model_anchors, model_link, number_cell, class_cell, class_cells, model_line, model_lines, difference_cell, difference_cells, difference_row, difference_rows};
 
-use html_text::{put_close, put_element, put_escaped, put_open};
+use escaped_texts::{put_close, put_element, put_escaped, put_open};
 use outcome_texts::{Shown, cells_differ};
 use report_details::{
     ReportedModel, ReportedTest, has_refusal, is_told_apart, numbered, open_class, open_with,
@@ -99,7 +99,7 @@ fn digits(alloc: Global, number: usize) -> Result<Vec<u8>, AllocError>
     Ok(digits)
 }
 
-#[tactic(auto, unfolding(crate::specs::Summary::card, html_text::specs::Elements::element))]
+#[tactic(auto, unfolding(crate::specs::Summary::card, escaped_texts::specs::Elements::element))]
 fn put_card(
     alloc: Global,
     text: &mut Vec<u8>,
@@ -162,7 +162,7 @@ pub fn put_cards(
     put_numbers(alloc, text, tests.len(), apart, refused_count(tests))
 }
 
-#[tactic(auto, unfolding(crate::specs::Summary::model_anchor, html_text::specs::Elements::element))]
+#[tactic(auto, unfolding(crate::specs::Summary::model_anchor, escaped_texts::specs::Elements::element))]
 fn put_model_anchor(
     alloc: Global,
     text: &mut Vec<u8>,
@@ -192,7 +192,7 @@ pub fn put_model_anchors(
     Ok(())
 }
 
-#[tactic(auto, unfolding(crate::specs::Summary::model_link, html_text::specs::Elements::element))]
+#[tactic(auto, unfolding(crate::specs::Summary::model_link, escaped_texts::specs::Elements::element))]
 fn put_model_link(
     alloc: Global,
     text: &mut Vec<u8>,
@@ -206,7 +206,7 @@ fn put_model_link(
     put_close(text, b"th")
 }
 
-#[tactic(auto, unfolding(crate::specs::Summary::number_cell, html_text::specs::Elements::element))]
+#[tactic(auto, unfolding(crate::specs::Summary::number_cell, escaped_texts::specs::Elements::element))]
 fn put_number_cell(
     alloc: Global,
     text: &mut Vec<u8>,
@@ -249,7 +249,7 @@ fn put_class_cells(
     put_class_cell(alloc, text, tests, model, b"X")
 }
 
-#[tactic(auto, unfolding(crate::specs::Summary::model_line, html_text::specs::Elements::element))]
+#[tactic(auto, unfolding(crate::specs::Summary::model_line, escaped_texts::specs::Elements::element))]
 fn put_model_line(
     alloc: Global,
     text: &mut Vec<u8>,
@@ -317,7 +317,7 @@ fn put_difference_cells(
     Ok(())
 }
 
-#[tactic(auto, unfolding(crate::specs::Summary::difference_row, html_text::specs::Elements::element))]
+#[tactic(auto, unfolding(crate::specs::Summary::difference_row, escaped_texts::specs::Elements::element))]
 fn put_difference_row(
     alloc: Global,
     text: &mut Vec<u8>,

@@ -1,10 +1,10 @@
 //! The table.
 
 ghost use Rattle.std.specs.Prelude.{◌≡◌, ◌++◌, IfOk, OnOk, codes};
-ghost use Rattle.html_text.specs.Elements.{open_tag};
+ghost use Rattle.escaped_texts.specs.Elements.{open_tag};
 ghost use Rattle.report_page.specs.Table.{column_head, column_heads, cell_class, group_mark, cell_text, cells_text, test_link, row_attributes, test_row_attributes, grouped_row, test_row, test_rows};
 
-use html_text::{Attribute, put_close, put_element, put_escaped, put_open};
+use escaped_texts::{Attribute, put_close, put_element, put_escaped, put_open};
 use report_details::{
     ReportedModel, ReportedTest, groups_of, has_other, is_other, keys_text, numbered, open_class,
     open_with, put_if, put_letter, put_result, result_class, test_class,
@@ -13,7 +13,7 @@ use std::alloc::{AllocError, Global};
 use text_values::put_bytes;
 use verdict::{Outcome, OutcomeResult};
 
-#[tactic(auto, unfolding(crate::specs::Table::column_head, html_text::specs::Elements::element))]
+#[tactic(auto, unfolding(crate::specs::Table::column_head, escaped_texts::specs::Elements::element))]
 fn put_column_head(text: &mut Vec<u8>, model: &ReportedModel<'_>) -> Result<(), AllocError>
     ensures { OnOk result (text.new.items ≡ text.old.items ++ column_head model.now) }
 {
@@ -41,7 +41,7 @@ fn cell_class(alloc: Global, found: &OutcomeResult, group: usize) -> Result<Vec<
     Ok(class)
 }
 
-#[tactic(auto, unfolding(crate::specs::Table::group_mark, html_text::specs::Elements::element))]
+#[tactic(auto, unfolding(crate::specs::Table::group_mark, escaped_texts::specs::Elements::element))]
 fn put_group_mark(text: &mut Vec<u8>, is_apart: bool, group: usize) -> Result<(), AllocError>
     ensures { OnOk result (text.new.items ≡ text.old.items ++ group_mark is_apart group) }
 {
@@ -53,7 +53,7 @@ fn put_group_mark(text: &mut Vec<u8>, is_apart: bool, group: usize) -> Result<()
     put_close(text, b"sup")
 }
 
-#[tactic(auto, unfolding(crate::specs::Table::cell_text, html_text::specs::Elements::element))]
+#[tactic(auto, unfolding(crate::specs::Table::cell_text, escaped_texts::specs::Elements::element))]
 fn put_cell_text(
     alloc: Global,
     text: &mut Vec<u8>,
@@ -89,7 +89,7 @@ fn put_cells(
     Ok(())
 }
 
-#[tactic(auto, unfolding(crate::specs::Table::test_link, html_text::specs::Elements::element))]
+#[tactic(auto, unfolding(crate::specs::Table::test_link, escaped_texts::specs::Elements::element))]
 fn put_test_link(
     alloc: Global,
     text: &mut Vec<u8>,
@@ -149,7 +149,7 @@ fn put_test_open(
     put_row_open(text, &class, test.name, &keys)
 }
 
-#[tactic(auto, unfolding(crate::specs::Table::grouped_row, html_text::specs::Elements::element))]
+#[tactic(auto, unfolding(crate::specs::Table::grouped_row, escaped_texts::specs::Elements::element))]
 fn put_grouped(
     alloc: Global,
     text: &mut Vec<u8>,

@@ -1,11 +1,11 @@
 -- Rounds find the values that can arise.
 use Rattle.std.proofs.Common.{ℕ, ◌≡◌, ◌<◌, inl, inr, List, length, get_or, slice_get, Option, Some, Contains, sym, subst, ap, ◌∙◌}
 use Rattle.std.proofs.lemmas.Option.{slice_get_within, get_or_from_slice_get}
-use Rattle.bit_relations.specs.Relation.{Events, IsMember, IsEvents}
-use Rattle.run_combinations.specs.Events.{numbers, is_load, is_store}
+use Rattle.bit_rows.specs.Relation.{Events, IsMember, IsEvents}
+use Rattle.store_orders.specs.Events.{numbers, is_load, is_store}
 use Rattle.run_combinations.specs.ReadChoices.{MayReadFrom, Derived, stored, read, chosen, accesses_in}
 use Rattle.run_combinations.specs.Rounds.{IsReadingOf, Stepped, CanArise, IsArisingRound, AllArise, store_event, load_event}
-use Rattle.run_combinations.specs.declared.combination.Event.{Event}
+use Rattle.store_orders.specs.declared.combination.Event.{Event}
 use Rattle.run_combinations.specs.declared.reading.Reading.{Reading}
 use Rattle.run_combinations.proofs.Numbers.{contains_at, mapped_at, Behind, behind_at, element_at, proper}
 

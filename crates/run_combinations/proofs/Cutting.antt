@@ -1,7 +1,7 @@
 -- Prefixes that are cut back.
 use Rattle.std.proofs.Common.{ℕ, ◌≡◌, ◌++◌, ◌↔◌, ◌⊎◌, Bool, List, [], ◌∷◌, take, length, refl, ap, subst, ◌∙◌}
 use Rattle.std.proofs.Math.Seq.{take-append_seam}
-use Rattle.dataflow.specs.DependencyLists.{renumbered_pairs}
+use Rattle.taints.specs.DependencyLists.{renumbered_pairs}
 use Rattle.run_combinations.specs.Keys.{HasKey, IsLoadedKey, IsStoredKey, TellsSubset}
 use Rattle.run_combinations.specs.Prefixes.{IsEndOf, cut_lists}
 use Rattle.run_combinations.specs.Search.{PrefixLists, HasJoined, prefix_lists, with_run}

@@ -1,7 +1,7 @@
 -- Finite relations without a cycle.
 use Rattle.std.proofs.Common.{ℕ, zero, suc, ◌≡◌, ◌<◌, ◌⊎◌, inl, inr, List, [], ◌∷◌, ◌++◌, arith, sym, subst, refl}
 use Rattle.std.proofs.lemmas.Bool.{cases_eq}
-use Rattle.bit_relations.specs.Pairs.{Path, Plus, IsAcyclic}
+use Rattle.bit_rows.specs.Pairs.{Path, Plus, IsAcyclic}
 
 Path-append : (R : ℕ → ℕ → Type 0) (a : ℕ) (xs : List ℕ) (c : ℕ) (ys : List ℕ) (b : ℕ)
     → Path R a xs c → Path R c ys b → Path R a (xs ++ c ∷ ys) b

@@ -3,8 +3,8 @@ use Rattle.std.proofs.Common.{ℕ, ◌≡◌, ◌<◌, ◌≤◌, ◌+◌, ◌�
 use Rattle.std.proofs.lemmas.Bool.{cases_eq, cases_lt}
 use Rattle.std.proofs.lemmas.Option.{same_Some}
 use lib.ListN.{get_or-append}
-use Rattle.bit_relations.specs.Pairs.{Union, Plus}
-use Rattle.run_combinations.specs.Events.{ReadsFrom}
+use Rattle.bit_rows.specs.Pairs.{Union, Plus}
+use Rattle.store_orders.specs.Events.{ReadsFrom}
 use Rattle.run_combinations.specs.ReadChoices.{Accesses, MayReadFrom, IsReadChoice, Derived, stored, read, chosen, IsPossible, AreProperAccesses}
 use Rattle.run_combinations.proofs.Cycles.{turned_back, none_fails, none_first}
 

@@ -2,18 +2,18 @@
 use Rattle.std.proofs.Common.{ℕ, ◌≡◌, ◌<◌, ◌≤◌, ◌+◌, ◌↔◌, inl, inr, Bool, true, false, cond, IsTrue, List, [], ◌∷◌, ◌++◌, map, filter, length, take, get_or, slice_get, Option, Some, option_to_list, Contains, arith, rules, sym, subst, refl, ap, ◌∙◌}
 use Rattle.std.proofs.lemmas.List.{append-nil, append_assoc, map-append, take_all, length-map}
 use Rattle.std.proofs.lemmas.Option.{slice_get_within, get_or_from_slice_get, slice_get_cases}
-use Rattle.bit_relations.specs.Relation.{Events, IsMember}
-use Rattle.run_combinations.specs.Lists.{IsFiltered, none, kept, left}
-use Rattle.run_combinations.specs.Events.{numbers, is_load}
+use Rattle.bit_rows.specs.Relation.{Events, IsMember}
+use Rattle.store_orders.specs.Lists.{IsFiltered, none, kept, left}
+use Rattle.store_orders.specs.Events.{numbers, is_load}
 use Rattle.run_combinations.specs.ReadChoices.{MayReadFrom, Derived, IsPossible, nexts, accesses_in, stores_for, may_read}
 use Rattle.run_combinations.specs.Rounds.{IsReadingOf, HasDerived, GainsNext}
-use Rattle.run_combinations.specs.declared.combination.Event.{Event}
+use Rattle.store_orders.specs.declared.combination.Event.{Event}
 use Rattle.run_combinations.specs.declared.reading.Reading.{Reading}
 use Rattle.run_combinations.specs.declared.reading.Load.{Load}
 use Rattle.run_combinations.proofs.Deriving.{possible_more, possible_no_more}
-use Rattle.run_combinations.proofs.Filters.{IsFiltered-append}
+use Rattle.store_orders.proofs.Filters.{IsFiltered-append}
 use Rattle.run_combinations.proofs.Numbers.{Numbered, mapped_at, contained, number_there, proper}
-use Rattle.run_combinations.proofs.Stores.{one_event_more}
+use Rattle.store_orders.proofs.Stores.{one_event_more}
 
 -- the list has gained those with one of the first stores
 pub record GainsSome (r : Reading) (load : Load) (index : ℕ) (reads_from : List ℕ) (i : ℕ)

@@ -6,16 +6,16 @@ use Rattle.std.proofs.lemmas.List.{append-nil, take_more, take_all, length-map, 
 use Rattle.std.proofs.lemmas.Bool.{cases_lt}
 use Rattle.std.proofs.lemmas.List.Concat.{flat_map-append}
 use Rattle.std.proofs.lemmas.Option.{slice_get_within, get_or_from_slice_get}
-use Rattle.bit_relations.specs.Relation.{Events, IsMember}
-use Rattle.run_combinations.specs.Lists.{lists_of, tuples, IsFiltered, none, kept, left}
-use Rattle.run_combinations.specs.Events.{numbers, is_load}
+use Rattle.bit_rows.specs.Relation.{Events, IsMember}
+use Rattle.store_orders.specs.Lists.{lists_of, tuples, IsFiltered, none, kept, left}
+use Rattle.store_orders.specs.Events.{numbers, is_load}
 use Rattle.run_combinations.specs.ReadChoices.{Derived, IsReadChoice, IsPossible, nexts, accesses_in}
 use Rattle.run_combinations.specs.Rounds.{IsReadingOf, HasDerived, TellsPossible, ArePossible, GainsNext, AreNext, AreOver, HasManyChoices, HasReadChoices, load_event}
 use Rattle.run_combinations.specs.Search.{Tells}
-use Rattle.run_combinations.specs.declared.combination.Event.{Event}
+use Rattle.store_orders.specs.declared.combination.Event.{Event}
 use Rattle.run_combinations.specs.declared.reading.Reading.{Reading}
 use Rattle.run_combinations.specs.declared.reading.Load.{Load}
-use Rattle.run_combinations.proofs.Filters.{IsFiltered-append, IsFiltered-unique}
+use Rattle.store_orders.proofs.Filters.{IsFiltered-append, IsFiltered-unique}
 use Rattle.run_combinations.proofs.Numbers.{Behind, behind_at, mapped_at, element_at, proper}
 use Rattle.run_combinations.proofs.ReadChoiceLists.{read_choices_more, read_choices_all, no_fewer_read_choices, all_fit, Each, Each-at, Each-map}
 

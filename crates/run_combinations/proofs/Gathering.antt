@@ -5,15 +5,15 @@ use Rattle.std.proofs.lemmas.List.Elements.{Contains-append_left, Contains-push,
 use Rattle.std.proofs.lemmas.Option.{slice_get_within, get_or_from_slice_get, slice_get-get_or, slice_get-map, slice_get_cases}
 use Rattle.std.proofs.Math.Seq.{take-length}
 use Rattle.std.specs.Option.{option_map}
-use Rattle.bit_relations.specs.Relation.{Events, IsMember, IsEvents}
-use Rattle.run_combinations.specs.Events.{numbers, is_load, is_store}
+use Rattle.bit_rows.specs.Relation.{Events, IsMember, IsEvents}
+use Rattle.store_orders.specs.Events.{numbers, is_load, is_store}
 use Rattle.run_combinations.specs.ReadChoices.{MayReadFrom, accesses_in, stores_for, may_read}
 use Rattle.run_combinations.specs.Rounds.{IsReadingOf, AreLoads, AreStores, load_event}
-use Rattle.run_combinations.specs.declared.combination.Event.{Event}
+use Rattle.store_orders.specs.declared.combination.Event.{Event}
 use Rattle.run_combinations.specs.declared.reading.Reading.{Reading}
 use Rattle.run_combinations.specs.declared.reading.Load.{Load}
 use Rattle.run_combinations.specs.declared.reading.Store.{Store}
-use Rattle.run_combinations.proofs.Stores.{one_event_more}
+use Rattle.store_orders.proofs.Stores.{one_event_more}
 use Rattle.run_combinations.proofs.Numbers.{Numbered, contained, number_there, as_many}
 
 yes_true : IsTrue true

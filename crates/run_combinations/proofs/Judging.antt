@@ -3,14 +3,14 @@ use Rattle.std.proofs.Common.{Vec, ℕ, ◌≡◌, ◌<◌, ◌≤◌, ◌+◌, 
 use Rattle.std.specs.declared.alloc.Global.{Global}
 use Rattle.std.proofs.lemmas.List.{length-map}
 use Rattle.std.proofs.Math.Nat.{div-lt_iff_lt-mul, div-mul-le_self, mul-le-mul_left, mul-le-mul_right, le-mul_of_pos_right, mul_comm}
-use Rattle.run_combinations.specs.Lists.{lists_of}
-use Rattle.run_combinations.specs.Orders.{all_orders, AreInitialStoresApart}
+use Rattle.store_orders.specs.Lists.{lists_of}
+use Rattle.store_orders.specs.Orders.{all_orders, AreInitialStoresApart}
 use Rattle.run_combinations.specs.ReadChoices.{AreReadChoices}
 use Rattle.run_combinations.specs.Rounds.{IsReadingOf, HasManyChoices, HasReadChoices}
 use Rattle.run_combinations.specs.Search.{PrefixLists, Tally, capped_tally_with, PrefixFits, TalliesOneMore, ExceedsCandidates}
-use Rattle.run_combinations.specs.declared.combination.Event.{Event}
+use Rattle.store_orders.specs.declared.combination.Event.{Event}
 use Rattle.run_combinations.specs.declared.reading.Reading.{Reading}
-use Rattle.run_combinations.proofs.Counting.{some_order}
+use Rattle.store_orders.proofs.Counting.{some_order}
 
 -- what is known of the combination where its candidates are counted
 pub record Known (n : ℕ) (b : PrefixLists) (r : Reading) (o l m : ℕ) : Type 0 where

@@ -3,12 +3,12 @@ use Rattle.std.proofs.Common.{ℕ, zero, suc, ◌≡◌, ◌<◌, ◌≤◌, ◌
 use Rattle.std.specs.Int.{bit_not}
 use Rattle.std.specs.Int.RustNames.{bit_and}
 use Rattle.std.proofs.lemmas.Bool.{cases_lt, cases_eq}
-use Rattle.bit_relations.specs.Relation.{Bit}
-use Rattle.bit_relations.specs.Pairs.{Union}
-use Rattle.bit_relations.specs.Rows.{RowsHave, AreRowsFilled}
-use Rattle.bit_relations.proofs.Bits.{Bit-zero, Bit-and_not, Bit_cases, Bit-width, same_word}
-use Rattle.bit_relations.proofs.Writing.{zeros}
-use Rattle.run_combinations.proofs.Counting.{eq_true}
+use Rattle.bit_rows.specs.Relation.{Bit}
+use Rattle.bit_rows.specs.Pairs.{Union}
+use Rattle.bit_rows.specs.Rows.{RowsHave, AreRowsFilled}
+use Rattle.bit_rows.proofs.Bits.{Bit-zero, Bit-and_not, Bit_cases, Bit-width, same_word}
+use Rattle.bit_rows.proofs.Writing.{zeros}
+use Rattle.store_orders.proofs.Counting.{eq_true}
 use Rattle.run_combinations.specs.Keys.{InFirst, TellsAll}
 
 -- a word has a bit, or none of the first bits

@@ -8,12 +8,12 @@ use Rattle.thread_runs.specs.declared.run.Run.{Run}
 use Rattle.run_combinations.proofs.Parting.{each_append}
 use Rattle.run_combinations.proofs.Pruning.{load_front, load_behind, store_split}
 use Rattle.run_combinations.specs.Keys.{HasKey, AreKeysIn, AreKeys, PartsAreKeyed, ThreadsAreKeyed, bit_of}
-use Rattle.run_combinations.specs.Events.{thread_events, initial_stores, HasLoad, HasStore, CannotRead}
+use Rattle.store_orders.specs.Events.{thread_events, initial_stores, HasLoad, HasStore, CannotRead}
 use Rattle.run_combinations.specs.Parts.{IsSketch, AreSketches, HasStoresOf, AreSome, end, kept_one, left_out, Among, IsChoice, HasLoadKey, HasStoreKey, IsUnread, IsSifted, IsMade, AreBelow, NamesRuns, AreThreadParts}
 use Rattle.std.specs.List.{AllZip}
 use Rattle.run_combinations.specs.Layouts.{ArePartsOf, AreThreadsOf, AreChosen, chosen_events, HasRun, HaveParts}
-use Rattle.run_combinations.specs.declared.combination.Action.TheVariants.{Store}
-use Rattle.run_combinations.specs.declared.combination.Event.{Event}
+use Rattle.store_orders.specs.declared.combination.Action.TheVariants.{Store}
+use Rattle.store_orders.specs.declared.combination.Event.{Event}
 use Rattle.run_combinations.specs.declared.keys.KeySet.{KeySet}
 use Rattle.run_combinations.specs.declared.layout.ThreadParts.{ThreadParts}
 use Rattle.run_combinations.specs.declared.part.Part.{Part}

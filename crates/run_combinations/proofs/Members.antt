@@ -5,7 +5,7 @@ use Rattle.std.specs.Int.RustNames.{bit_or}
 use Rattle.std.proofs.lemmas.Nat.Bits.{bit_at_or, bit_at-lt, same_from_bits, bit_at_cat_low, bit_at_above}
 use Rattle.std.proofs.lemmas.Nat.{le_or_l}
 use Rattle.std.proofs.lemmas.Bool.{cases_eq, cases_lt}
-use Rattle.bit_relations.specs.Relation.{Bit, Events, IsMember, IsEvents}
+use Rattle.bit_rows.specs.Relation.{Bit, Events, IsMember, IsEvents}
 use Rattle.run_combinations.specs.Rounds.{Stepped}
 
 -- a number is a member, or it is not

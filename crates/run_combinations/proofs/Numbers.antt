@@ -4,11 +4,11 @@ use Rattle.std.specs.Option.{option_map}
 use Rattle.std.proofs.lemmas.List.{length-map}
 use Rattle.std.proofs.lemmas.Bool.{false≢true, cases_lt, cases_eq}
 use Rattle.std.proofs.lemmas.Option.{slice_get_within, get_or_from_slice_get, slice_get-map, slice_get_cases}
-use Rattle.run_combinations.specs.Events.{numbers, is_load, is_store, is_load_action, is_store_action}
+use Rattle.store_orders.specs.Events.{numbers, is_load, is_store, is_load_action, is_store_action}
 use Rattle.run_combinations.specs.ReadChoices.{AreProperAccesses, accesses_in, stores_for, may_read}
-use Rattle.run_combinations.specs.declared.combination.Event.{Event}
-use Rattle.run_combinations.specs.declared.combination.Action.{Action}
-use Rattle.run_combinations.specs.declared.combination.Action.TheVariants.{Load, Store, Fence}
+use Rattle.store_orders.specs.declared.combination.Event.{Event}
+use Rattle.store_orders.specs.declared.combination.Action.{Action}
+use Rattle.store_orders.specs.declared.combination.Action.TheVariants.{Load, Store, Fence}
 
 some_same : {X : Type 0} {u v : X} → Some u ≡ Some v → u ≡ v
 some_same h = cc

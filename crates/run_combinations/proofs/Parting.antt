@@ -9,10 +9,10 @@ use Rattle.thread_runs.specs.declared.value.Value.{Value}
 use Rattle.thread_runs.specs.declared.run.Run.{Run}
 use Rattle.run_combinations.proofs.Pruning.{load_front, load_behind, store_split}
 use Rattle.run_combinations.specs.Keys.{HasKey, AreKeysIn, AreKeys, TellsSubset, bit_of}
-use Rattle.run_combinations.specs.Events.{thread_events, HasLoad}
+use Rattle.store_orders.specs.Events.{thread_events, HasLoad}
 use Rattle.run_combinations.specs.Parts.{IsSketch, HasStoresOf, HasStoresOfAll, AreSketchesKept, none, kept, left, AreSome, end, kept_one, left_out, Among, IsChoice, HasLoadKey, HasStoreKey, IsSifted, IsMade, AreBelow, NamesRuns, AreThreadParts}
-use Rattle.run_combinations.specs.declared.combination.Action.TheVariants.{Load, Store}
-use Rattle.run_combinations.specs.declared.combination.Event.{Event}
+use Rattle.store_orders.specs.declared.combination.Action.TheVariants.{Load, Store}
+use Rattle.store_orders.specs.declared.combination.Event.{Event}
 use Rattle.run_combinations.specs.declared.keys.KeySet.{KeySet}
 use Rattle.run_combinations.specs.declared.layout.ThreadParts.{ThreadParts}
 use Rattle.run_combinations.specs.declared.part.Part.{Part}

@@ -5,15 +5,15 @@ use Rattle.std.proofs.lemmas.List.{take_more}
 use Rattle.std.proofs.lemmas.Bool.{and_parts}
 use Rattle.thread_runs.specs.declared.value.Value.{Value}
 use Rattle.thread_runs.specs.declared.value.Value.TheVariants.{Number, Address, NoValue}
-use Rattle.run_combinations.proofs.Counting.{eq_true}
-use Rattle.run_combinations.specs.Lists.{tuples, IsFiltered, none}
-use Rattle.run_combinations.specs.Events.{numbers, is_load_action, is_load, HasLoad, HasStore}
+use Rattle.store_orders.proofs.Counting.{eq_true}
+use Rattle.store_orders.specs.Lists.{tuples, IsFiltered, none}
+use Rattle.store_orders.specs.Events.{numbers, is_load_action, is_load, HasLoad, HasStore}
 use Rattle.run_combinations.specs.ReadChoices.{AreReadChoices, IsReadChoice, accesses_in, stores_for, may_read, same_value}
 use Rattle.run_combinations.specs.Keys.{HasKey, AreKeysIn, HasStores, AreKeys, PartsAreKeyed, ThreadsAreKeyed, IsKeyed, IsLoadedKey, IsStoredKey, TellsSubset}
 use Rattle.run_combinations.specs.Search.{PrefixLists, prefix_lists, with_run, initial_prefix, HasJoined}
-use Rattle.run_combinations.specs.declared.combination.Action.{Action}
-use Rattle.run_combinations.specs.declared.combination.Action.TheVariants.{Load, Store, Fence}
-use Rattle.run_combinations.specs.declared.combination.Event.{Event}
+use Rattle.store_orders.specs.declared.combination.Action.{Action}
+use Rattle.store_orders.specs.declared.combination.Action.TheVariants.{Load, Store, Fence}
+use Rattle.store_orders.specs.declared.combination.Event.{Event}
 use Rattle.run_combinations.specs.declared.keys.KeySet.{KeySet}
 use Rattle.run_combinations.specs.declared.layout.Layout.{Layout}
 use Rattle.run_combinations.specs.declared.layout.ThreadParts.{ThreadParts}

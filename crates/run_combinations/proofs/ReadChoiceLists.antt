@@ -2,9 +2,9 @@
 use Rattle.std.proofs.Common.{ℕ, zero, suc, ◌≡◌, ◌<◌, ◌≤◌, ◌+◌, List, [], ◌∷◌, ◌++◌, length, get_or, take, drop, arith, sym, subst, refl, ap, ◌∙◌, append-nil, append_assoc, length-append, length-drop, drop-cons, Contains}
 use Rattle.std.specs.List.{flat_map}
 use Rattle.std.proofs.lemmas.List.{take_more, take-append-drop}
-use Rattle.run_combinations.specs.Lists.{tuples, IsFiltered, none, kept, left}
+use Rattle.store_orders.specs.Lists.{tuples, IsFiltered, none, kept, left}
 use Rattle.run_combinations.specs.ReadChoices.{Accesses, MayReadFrom, IsReadChoice, IsPossible, AreProperAccesses, nexts}
-use Rattle.run_combinations.proofs.Filters.{IsFiltered-append, IsFiltered-split, Split, IsFiltered-through, none_of_map, tuples_more, tuples-append}
+use Rattle.store_orders.proofs.Filters.{IsFiltered-append, IsFiltered-split, Split, IsFiltered-through, none_of_map, tuples_more, tuples-append}
 use Rattle.run_combinations.proofs.Deriving.{longer, possible_is_read_choice, read_choice_is_possible, possible_front, possible_goes_on}
 
 -- the possible read choices with one load more

@@ -2,7 +2,7 @@
 use Rattle.std.specs.Prelude.{ℕ, ◌≡◌, ◌<◌, ◌≤◌, ◌+◌, ◌*◌, ◌⊎◌, List, [], ◌∷◌, length, true}
 use Rattle.run_combinations.specs.ReadChoices.{AreReadChoices}
 use Rattle.run_combinations.specs.Search.{PrefixLists}
-use Rattle.run_combinations.specs.Combinations.{CombinationLists, ordered}
+use Rattle.store_orders.specs.Combinations.{CombinationLists, ordered}
 
 -- each combination of runs that has a read choice, with its read choices and orders of the stores
 pub data AreCombinations (n : ℕ) : List PrefixLists → List CombinationLists → Type 0 where

@@ -1,11 +1,11 @@
 -- Sets of pairs of a location and a value, each of which has one bit.
 use Rattle.std.specs.Prelude.{ℕ, ◌≡◌, ◌<◌, ◌+◌, ◌*◌, ◌/◌, ◌%◌, ◌⊎◌, ◌&&◌, if◌then◌else◌, nat_lt, Bool, true, false, List, [], ◌∷◌, Option, Some, None}
 use Rattle.std.specs.List.{position_or_len}
-use Rattle.bit_relations.specs.Rows.{RowsHave}
+use Rattle.bit_rows.specs.Rows.{RowsHave}
 use Rattle.thread_runs.specs.declared.value.Value.{Value}
-use Rattle.run_combinations.specs.Events.{HasLoad, HasStore}
+use Rattle.store_orders.specs.Events.{HasLoad, HasStore}
 use Rattle.run_combinations.specs.ReadChoices.{same_value}
-use Rattle.run_combinations.specs.declared.combination.Event.{Event}
+use Rattle.store_orders.specs.declared.combination.Event.{Event}
 use Rattle.run_combinations.specs.declared.keys.KeySet.{KeySet}
 use Rattle.run_combinations.specs.declared.layout.Layout.{Layout}
 use Rattle.run_combinations.specs.declared.layout.ThreadParts.{ThreadParts}

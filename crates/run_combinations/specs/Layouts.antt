@@ -6,9 +6,9 @@ use Rattle.thread_runs.specs.declared.value.Value.{Value}
 use Rattle.thread_runs.specs.declared.run.Run.{Run}
 use Rattle.thread_runs.specs.declared.instruction.Program.{Program}
 use Rattle.thread_runs.specs.LocationValues.{ShowsServed}
-use Rattle.run_combinations.specs.Events.{thread_events, initial_stores, CannotRead}
+use Rattle.store_orders.specs.Events.{thread_events, initial_stores, CannotRead}
 use Rattle.run_combinations.specs.Parts.{IsPartOf}
-use Rattle.run_combinations.specs.declared.combination.Event.{Event}
+use Rattle.store_orders.specs.declared.combination.Event.{Event}
 use Rattle.run_combinations.specs.declared.layout.Layout.{Layout}
 use Rattle.run_combinations.specs.declared.layout.ThreadParts.{ThreadParts}
 use Rattle.run_combinations.specs.declared.part.Part.{Part}

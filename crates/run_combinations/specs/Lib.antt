@@ -1,14 +1,8 @@
 pub mod Candidates
-pub mod Combinations
-pub mod Events
-pub mod OrderPrefixes
 pub mod Keys
 pub mod Layouts
-pub mod Lists
-pub mod Orders
 pub mod Parts
 pub mod Prefixes
 pub mod Rounds
-pub mod Rows
 pub mod Search
 pub mod ReadChoices

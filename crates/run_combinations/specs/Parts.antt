@@ -5,9 +5,9 @@ use Rattle.std.specs.declared.alloc.Global.{Global}
 use Rattle.thread_runs.specs.declared.value.Value.{Value}
 use Rattle.thread_runs.specs.declared.run.Run.{Run}
 use Rattle.thread_runs.specs.Runs.{executed}
-use Rattle.dataflow.specs.Chains.{event_index}
+use Rattle.taints.specs.Chains.{event_index}
 use Rattle.dataflow.specs.Dependencies.{AreLinks}
-use Rattle.run_combinations.specs.Events.{thread_events}
+use Rattle.store_orders.specs.Events.{thread_events}
 use Rattle.run_combinations.specs.Keys.{HasKey, AreKeysIn, AreKeys, bit_of}
 use Rattle.run_combinations.specs.declared.keys.KeySet.{KeySet}
 use Rattle.run_combinations.specs.declared.layout.ThreadParts.{ThreadParts}

@@ -1,6 +1,6 @@
 -- Prefixes that are cut back to where they ended. Read `Search` first.
 use Rattle.std.specs.Prelude.{◌≡◌, take, length}
-use Rattle.run_combinations.specs.Combinations.{CombinationLists}
+use Rattle.store_orders.specs.Combinations.{CombinationLists}
 use Rattle.run_combinations.specs.Search.{PrefixLists}
 use Rattle.run_combinations.specs.declared.search.Prefix.{Prefix}
 use Rattle.run_combinations.specs.declared.search.PrefixEnd.{PrefixEnd}

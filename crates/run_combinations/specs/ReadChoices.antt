@@ -1,12 +1,12 @@
 -- Read choices: for each load of a combination of runs the store that it reads.
 use Rattle.std.specs.Prelude.{Bool, false, ◌&&◌, nat_eq, filter, ℕ, ◌≡◌, ◌<◌, ◌≤◌, List, [], ◌∷◌, ◌++◌, map, length, slice_index, slice_index_or, Option, None, Some, Contains}
-use Rattle.bit_relations.specs.Pairs.{Union, IsAcyclic}
+use Rattle.bit_rows.specs.Pairs.{Union, IsAcyclic}
 pub use Rattle.thread_runs.specs.LocationValues.{same_value}
-use Rattle.run_combinations.specs.Lists.{tuples, IsFiltered}
-use Rattle.run_combinations.specs.Events.{numbers, is_load, is_store, ReadsFrom}
-use Rattle.run_combinations.specs.declared.combination.Action.{Action}
-use Rattle.run_combinations.specs.declared.combination.Action.TheVariants as actions
-use Rattle.run_combinations.specs.declared.combination.Event.{Event}
+use Rattle.store_orders.specs.Lists.{tuples, IsFiltered}
+use Rattle.store_orders.specs.Events.{numbers, is_load, is_store, ReadsFrom}
+use Rattle.store_orders.specs.declared.combination.Action.{Action}
+use Rattle.store_orders.specs.declared.combination.Action.TheVariants as actions
+use Rattle.store_orders.specs.declared.combination.Event.{Event}
 
 -- the loads, by their numbers in event order, the stores that each may read, and which stores there
 -- are, and which loads the value of a store needs

@@ -1,11 +1,11 @@
 -- How the values that can arise are found, round by round.
 use Rattle.std.specs.Prelude.{ℕ, ◌≡◌, ◌<◌, ◌≤◌, ◌⊎◌, ◌↔◌, IsTrue, Bool, List, [], ◌++◌, length, take, slice_index_or, All, map, slice_get, slice_index, Option, Some, filter, Contains}
 use Rattle.std.specs.List.{flat_map}
-use Rattle.bit_relations.specs.Relation.{Events, IsMember, IsEvents}
-use Rattle.run_combinations.specs.Lists.{IsFiltered, tuples}
-use Rattle.run_combinations.specs.Events.{numbers, is_load, is_store}
+use Rattle.bit_rows.specs.Relation.{Events, IsMember, IsEvents}
+use Rattle.store_orders.specs.Lists.{IsFiltered, tuples}
+use Rattle.store_orders.specs.Events.{numbers, is_load, is_store}
 use Rattle.run_combinations.specs.ReadChoices.{MayReadFrom, Derived, IsPossible, AreReadChoices, nexts, accesses_in, stores_for}
-use Rattle.run_combinations.specs.declared.combination.Event.{Event}
+use Rattle.store_orders.specs.declared.combination.Event.{Event}
 use Rattle.run_combinations.specs.declared.reading.Reading.{Reading}
 use Rattle.run_combinations.specs.declared.reading.Load.{Load}
 use Rattle.run_combinations.specs.declared.reading.Store.{Store}

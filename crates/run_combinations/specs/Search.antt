@@ -1,12 +1,12 @@
 -- Combinations of runs, and what is found of them.
 use Rattle.std.specs.Prelude.{ℕ, ◌≡◌, ◌<◌, ◌≤◌, ◌+◌, ◌-◌, ◌*◌, ◌^◌, ◌⊎◌, ◌↔◌, min, List, [], ◌∷◌, ◌++◌, map, length, Bool, true, false, ◌||◌, if◌then◌else◌}
 use Rattle.std.specs.List.{flat_map}
-use Rattle.dataflow.specs.DependencyLists.{dependency_lists, link_lists, no_dependencies, renumbered_pairs, with_dependencies}
+use Rattle.taints.specs.DependencyLists.{dependency_lists, link_lists, no_dependencies, renumbered_pairs, with_dependencies}
 use Rattle.run_combinations.specs.Keys.{HasKey}
-use Rattle.run_combinations.specs.Orders.{all_orders, AreInitialStoresApart}
+use Rattle.store_orders.specs.Orders.{all_orders, AreInitialStoresApart}
 use Rattle.run_combinations.specs.ReadChoices.{AreReadChoices}
-use Rattle.run_combinations.specs.Combinations.{CombinationLists, combination_lists}
-use Rattle.run_combinations.specs.declared.combination.Event.{Event}
+use Rattle.store_orders.specs.Combinations.{CombinationLists, combination_lists}
+use Rattle.store_orders.specs.declared.combination.Event.{Event}
 use Rattle.run_combinations.specs.declared.part.Part.{Part}
 use Rattle.run_combinations.specs.declared.layout.Layout.{Layout}
 use Rattle.run_combinations.specs.declared.layout.ThreadParts.{ThreadParts}

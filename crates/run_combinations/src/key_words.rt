@@ -2,9 +2,9 @@
 
 ghost use Rattle.std.specs.Prelude.{◌≡◌, ◌↔◌, ◌⊎◌, ◌<◌, ◌≤◌, ℕ, IfSome};
 ghost use Rattle.std.specs.List.{position_or_len};
-ghost use Rattle.bit_relations.specs.Relation.{Bit};
-ghost use Rattle.bit_relations.specs.Rows.{RowsHave};
-ghost use Rattle.bit_relations.specs.Pairs.{WithPair, Union};
+ghost use Rattle.bit_rows.specs.Relation.{Bit};
+ghost use Rattle.bit_rows.specs.Rows.{RowsHave};
+ghost use Rattle.bit_rows.specs.Pairs.{WithPair, Union};
 ghost use Rattle.run_combinations.specs.Keys.{InFirst, TellsAll, TellsSubset, key_in};
 ghost use Rattle.run_combinations.specs.ReadChoices.{same_value};
 

@@ -1,7 +1,7 @@
 //! Sets of pairs of a location and a value.
 
 ghost use Rattle.std.specs.Prelude.{◌≡◌, ◌↔◌, ◌⊎◌, ◌<◌, ◌≤◌, ◌/◌, ◌%◌, ℕ, Some};
-ghost use Rattle.bit_relations.specs.Rows.{RowsHave};
+ghost use Rattle.bit_rows.specs.Rows.{RowsHave};
 
 use crate::key_words::{WORDS, are_within, join_words, key_of, set_bit};
 use thread_runs::Value;

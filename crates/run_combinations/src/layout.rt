@@ -7,16 +7,16 @@ ghost use Rattle.thread_runs.specs.declared.run.Run.{Run};
 ghost use Rattle.thread_runs.specs.LocationValues.{AreLocationValues};
 ghost use Rattle.thread_runs.specs.ValueSet.{IsValueSet};
 ghost use Rattle.run_combinations.specs.Keys.{HasKey, IsKeyed, bit_of};
-ghost use Rattle.run_combinations.specs.Events.{initial_stores, HasStore};
+ghost use Rattle.store_orders.specs.Events.{initial_stores, HasStore};
 ghost use Rattle.run_combinations.specs.Parts.{AreSketches, HasStoresOf, AreBelow, IsMade, NamesRuns, AreThreadParts, AreSiftedParts};
 ghost use Rattle.std.specs.List.{AllZip};
 ghost use Rattle.run_combinations.specs.Layouts.{AreServedRuns, IsLaidOut};
 
-use crate::combination::{Action, Event};
 use crate::keys::KeySet;
 use crate::part::{Part, Sketch, add_keys, join_stores, parts, sift, sketches};
 use dataflow::Workspace;
 use std::alloc::{AllocError, Global};
+use store_orders::{Action, Event};
 use text_values::Name;
 use thread_runs::{Domain, Program, Run, Value, held_values, served_runs_of};
 

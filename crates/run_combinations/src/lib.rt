@@ -2,26 +2,22 @@
 //! combinations of a run of each thread, and for each of them the read choices and the orders of
 //! the stores.
 //!
-//! Read `specs/Events` first, then `specs/ReadChoices`, `specs/Orders` and `specs/Candidates`. What
-//! `space` makes of these, in the words of the field, stands in `candidates`.
+//! Read `specs/Events` of `store_orders` first, then `specs/ReadChoices`, `specs/Orders` of
+//! `store_orders`, and `specs/Candidates`. What `space` makes of these, in the words of the field,
+//! stands in `candidates`.
 #![tactic(auto)]
 
-mod combination;
 mod key_words;
 mod keys;
 mod layout;
-mod orders;
 mod part;
 mod reading;
 mod search;
-mod store_orders;
 
-pub use combination::{Action, Combination, Event};
 pub use layout::{Layout, ThreadParts, registers};
-pub use orders::{row_count, rows_at, with_orders};
 pub use part::Part;
 pub use search::{Found, find_combinations};
-pub use store_orders::StoreOrders;
+pub use store_orders::{Action, Combination, Event, StoreOrders, row_count, rows_at, with_orders};
 pub use thread_runs::is_same;
 
 /// The greatest number of candidates that a test may have.

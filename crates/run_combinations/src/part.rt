@@ -1,16 +1,16 @@
 //! Runs of one thread, as parts of candidates.
 
 ghost use Rattle.std.specs.Prelude.{ℕ, ◌≡◌, ◌<◌, ◌++◌, List, [], ◌∷◌, Option, length, IfOk};
-ghost use Rattle.run_combinations.specs.declared.combination.Event.{Event};
+ghost use Rattle.store_orders.specs.declared.combination.Event.{Event};
 ghost use Rattle.run_combinations.specs.Keys.{AreKeysIn, AreKeys, bit_of};
-ghost use Rattle.run_combinations.specs.Events.{action_in, thread_events};
+ghost use Rattle.store_orders.specs.Events.{action_in, thread_events};
 ghost use Rattle.run_combinations.specs.Parts.{AreSketches, AreSketchesKept, HasStoresOf, HasStoresOfAll, AreBelow, IsSifted, IsPartOf, IsMade};
 ghost use Rattle.std.specs.List.{AllZip};
 
-use crate::combination::{Action, Event};
 use crate::keys::KeySet;
 use dataflow::{Links, Workspace};
 use std::alloc::{AllocError, Global};
+use store_orders::{Action, Event};
 use thread_runs::{Run, Value};
 
 /// A run of a thread that may be part of a candidate.

@@ -1,18 +1,18 @@
 //! The read choices of a combination of runs: for each load the store that it reads.
 
 ghost use Rattle.std.specs.Prelude.{◌≡◌, ◌<◌, ◌≤◌, ◌↔◌, ◌⊎◌, ◌++◌, ◌∷◌, [], length, option_to_list, Contains, IsTrue, IfOk, OnOk, MatchOption};
-ghost use Rattle.bit_relations.specs.Relation.{IsMember, IsEvents};
+ghost use Rattle.bit_rows.specs.Relation.{IsMember, IsEvents};
 ghost use Rattle.run_combinations.specs.Rounds.{IsEventSubset, HasCommonEvent, CanRead, CanArise, WithStores, WithLoads, IsArisingRound, HasDerived, TellsPossible, ArePossible, GainsNext, AreNext, AreOver, HasManyChoices, HasReadChoices, IsReadingOf, AreLoads, AreStores};
-ghost use Rattle.run_combinations.specs.Lists.{lists_of};
+ghost use Rattle.store_orders.specs.Lists.{lists_of};
 ghost use Rattle.run_combinations.specs.Search.{Tells};
-ghost use Rattle.run_combinations.specs.Events.{numbers, is_load, is_store};
+ghost use Rattle.store_orders.specs.Events.{numbers, is_load, is_store};
 ghost use Rattle.run_combinations.specs.ReadChoices.{may_read};
 ghost use Rattle.run_combinations.specs.ReadChoices as read_choices;
 
-use crate::combination::{Action, Event};
 use bit_relations::{EventSet, MAX_EVENTS};
 use std::alloc::{AllocError, Global};
 use std::mem::{replace, swap};
+use store_orders::{Action, Event};
 use thread_runs::is_same;
 
 /// A load with the stores of its location and value.

@@ -2,22 +2,20 @@
 ghost use Rattle.std.specs.Prelude.{ℕ, ◌≡◌, ◌≤◌, ◌+◌, ◌-◌, ◌*◌, ◌^◌, ◌||◌, Option, min, length, IsTrue, IfOk, OnOk, MatchOption};
 ghost use Rattle.thread_runs.specs.declared.value.Value.{Value};
 ghost use Rattle.run_combinations.specs.Keys.{HasKey, HasStores, AreKeys, ThreadsAreKeyed, IsKeyed, IsLoadedKey, IsStoredKey, TellsSubset};
-ghost use Rattle.run_combinations.specs.Lists.{lists_of};
+ghost use Rattle.store_orders.specs.Lists.{lists_of};
 ghost use Rattle.run_combinations.specs.Candidates.{AreSmall};
-ghost use Rattle.run_combinations.specs.Combinations.{combination_lists};
+ghost use Rattle.store_orders.specs.Combinations.{combination_lists};
 ghost use Rattle.run_combinations.specs.Prefixes.{cut_combination};
 ghost use Rattle.run_combinations.specs.Search.{runs_lists, combination_with_run, with_run, capped_tally_with, prefix_lists, tally, PrefixFits, TalliesOneMore, ExceedsCandidates, Tells, combinations, AllPrefixesFit, HasJoined, TalliesAll, AreTooMuch, initial_prefix, no_tally, all_combinations, location_count};
 
 use crate::MAX_CANDIDATES;
-use crate::combination::{Combination, Event};
 use crate::keys::KeySet;
 use crate::layout::{Layout, ThreadParts};
-use crate::orders::order_count;
 use crate::part::Part;
 use crate::reading::Reading;
-use crate::store_orders::StoreOrders;
 use dataflow::{Dependencies, add_pairs};
 use std::alloc::{AllocError, Global};
+use store_orders::{Combination, Event, StoreOrders, order_count};
 
 /// What the search has found: combinations without their orders.
 #[derive(Drop)]

@@ -6,7 +6,7 @@ use Rattle.text_values.specs.declared.test.Test.{Test}
 use Rattle.text_values.specs.TestValue.{Content, content_of}
 use Rattle.text_values.specs.declared.model.ModelText.{ModelText}
 use Rattle.text_values.specs.ModelValues.{clauses_of}
-use Rattle.verdict.specs.declared.answer.Outcome.{Outcome}
+use Rattle.outcome_states.specs.declared.answer.Outcome.{Outcome}
 use Rattle.from_scratch.specs.FromScratch.{IsFromScratch}
 use Rattle.outcome_texts.specs.Cells.{Cell, NoCell, Open, Settled}
 use Rattle.outcome_texts.specs.Columns.{Row}

@@ -14,10 +14,10 @@ use Rattle.binding_kinds.specs.Value.{Bound, BareItem, Group, Check, Mute, Defin
 use Rattle.binding_kinds.specs.Faults.{HasNoFault, FirstFault}
 use Rattle.binding_graph.specs.declared.resolved.ResolvedItem.{ResolvedItem}
 use Rattle.binding_graph.specs.Resolved.{AreResolved, IsLabelled, IsLabelledAs, AreLabelledAs}
-use Rattle.verdict.specs.declared.answer.Outcome.{Outcome}
-use Rattle.verdict.specs.declared.answer.OutcomeResult.{OutcomeResult}
-use Rattle.verdict.specs.declared.answer.OutcomeResult.TheVariants.{Refused, Evaluated}
-use Rattle.verdict.specs.declared.answer.Refusal.TheVariants as refusals
+use Rattle.outcome_states.specs.declared.answer.Outcome.{Outcome}
+use Rattle.outcome_states.specs.declared.answer.OutcomeResult.{OutcomeResult}
+use Rattle.outcome_states.specs.declared.answer.OutcomeResult.TheVariants.{Refused, Evaluated}
+use Rattle.outcome_states.specs.declared.answer.Refusal.TheVariants as refusals
 use Rattle.from_scratch.specs.FromScratch.{IsResultOf, IsFromScratch}
 use Rattle.binding_kinds.specs.Outermost.{outermost_names}
 use Rattle.bench_texts.specs.BenchTexts.{PlainModel}

@@ -4,8 +4,8 @@ use Rattle.cat_grammar.specs.declared.form.Form.TheVariants.{Model}
 use Rattle.cat_grammar.specs.Reads.{ReadsClauses, FaultAt}
 use Rattle.cat_tokens.specs.declared.rule.CatRule.{CatRule}
 use Rattle.cat_tokens.specs.Tokens.{digits_number as model_rule_number}
-use Rattle.fault_lines.specs.Lines.{fault_lines}
-use Rattle.fault_lines.specs.Words.{rule_words}
+use Rattle.fault_texts.specs.Lines.{fault_lines}
+use Rattle.fault_texts.specs.Words.{rule_words}
 use Rattle.litmus_grammar.specs.Texts.{ReadsTest, IsTestFault}
 use Rattle.litmus_tokens.specs.declared.rule.LitmusRule.{LitmusRule}
 use Rattle.litmus_tokens.specs.Numbers.{number_of as test_rule_number}

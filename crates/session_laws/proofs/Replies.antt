@@ -2,7 +2,7 @@
 use Rattle.std.proofs.Common.{◌≡◌, ℕ, List, [], ◌∷◌, map, Option, Some, None, refl, sym, ap, ◌∙◌}
 use Rattle.std.specs.List.{AllZip}
 use Rattle.text_values.specs.TestValue.{Content}
-use Rattle.verdict.specs.declared.answer.Outcome.{Outcome}
+use Rattle.outcome_states.specs.declared.answer.Outcome.{Outcome}
 use Rattle.outcome_texts.specs.Cells.{Cell, NoCell, Open, Settled, cell_log, cell_counts}
 use Rattle.outcome_texts.specs.Columns.{Row, table_of}
 use Rattle.outcome_texts.specs.Differences.{differences_printed}

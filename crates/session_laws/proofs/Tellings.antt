@@ -5,15 +5,15 @@ use Rattle.std.proofs.lemmas.Option.{slice_get-map}
 use Rattle.binding_kinds.specs.declared.fault.ModelFault.{ModelFault}
 use Rattle.binding_kinds.specs.Value as kinds
 use Rattle.binding_kinds.specs.Faults.{HasNoFault, FirstFault}
-use Rattle.fault_places.specs.declared.place.ItemFault.{ItemFault}
-use Rattle.fault_places.specs.Found.{IsItemFault}
+use Rattle.fault_texts.specs.declared.place.ItemFault.{ItemFault}
+use Rattle.fault_texts.specs.Found.{IsItemFault}
 use Rattle.binding_kinds.specs.Outermost.{outermost_names}
-use Rattle.fault_places.specs.Signs.{signs_of_item}
+use Rattle.fault_texts.specs.Signs.{signs_of_item}
 use Rattle.command_answers.specs.declared.file.TextFile.{TextFile}
 use Rattle.command_answers.specs.Reports.{IsModelTold, IsTestTold, IsToldOf}
 use Rattle.command_answers.specs.Told.{IsFaultTold, IsRead, IsUnread}
 use Rattle.from_scratch.proofs.Sole.{one_fault}
-use Rattle.fault_models.specs.Told.{item_number, fault_told, IsModelFaultText, IsFaultless, IsFaulty}
+use Rattle.fault_texts.specs.Told.{item_number, fault_told, IsModelFaultText, IsFaultless, IsFaulty}
 use Rattle.text_values.specs.declared.model.Item.{Item}
 use Rattle.text_values.specs.ModelValue.{Clause}
 use Rattle.text_values.specs.ModelValues.{clause_of, clauses_of}

@@ -5,7 +5,7 @@ use mathlib.Core.List.{IsPrefix}
 use Rattle.desk.specs.declared.answer.Settling.{Settling}
 use Rattle.desk.specs.declared.answer.Settling.TheVariants.{Done, Waits, Refused}
 use Rattle.desk.specs.Held.{TellsSettled}
-use Rattle.desk.proofs.Growing.{prefix_same}
+use Rattle.desk_ledger.proofs.Growing.{prefix_same}
 use Rattle.desk.specs.Numbers.{desk_fault_number}
 use Rattle.desk.specs.declared.fault.DeskFault.{DeskFault}
 use Rattle.desk.specs.declared.fault.DeskFault.TheVariants as desk_faults

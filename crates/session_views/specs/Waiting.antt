@@ -1,6 +1,6 @@
 -- Cells that a question asks for and that a board shows open. Read after Shown.
 use Rattle.std.specs.Prelude.{◌≡◌, ℕ, List, [], ◌∷◌, map, Option, Some, None, Contains}
-use Rattle.verdict.specs.declared.answer.Outcome.{Outcome}
+use Rattle.outcome_states.specs.declared.answer.Outcome.{Outcome}
 use Rattle.bench_texts.specs.BenchTexts.{BenchTexts, test_index, model_index}
 use Rattle.board.specs.Contents.{BoardContent, cell_at}
 use Rattle.session_edits.specs.declared.request.Question.{Question}

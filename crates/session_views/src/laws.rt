@@ -3,7 +3,7 @@
 ghost use Rattle.std.specs.Prelude.{◌≡◌, ◌<◌, ◌≤◌, ◌+◌, ◌-◌, ◌^◌, ℕ, List, [], Some, false, slice_get};
 ghost use mathlib.Core.List.{IsPrefix};
 ghost use Rattle.text_values.specs.TestValue.{Content};
-ghost use Rattle.verdict.specs.declared.answer.Outcome.{Outcome};
+ghost use Rattle.outcome_states.specs.declared.answer.Outcome.{Outcome};
 ghost use Rattle.bench_texts.specs.declared.edit.Edit.{Edit as CodeEdit};
 ghost use Rattle.bench_texts.specs.BenchTexts.{BenchTexts, PlainModel, no_texts};
 ghost use Rattle.bench_texts.specs.Edits.{Applies, edit_of};

@@ -1,11 +1,8 @@
-//! Sessions of a running desk: scripts with a known answer, two workers that must work at once, a
-//! script that does not end, and scripts that are drawn from a fixed seed. Each part begins with a
-//! line that names it.
+//! Sessions of a running desk: scripts with a known answer, two workers that must work at once, and
+//! a script that does not end. Each part begins with a line that names it.
 
-mod drawn;
 mod gate;
 mod hearing;
-mod kept;
 pub mod run;
 mod scripts;
 
@@ -22,9 +19,6 @@ use tests_cases::streams::{Endless, word_of};
 
 const SMALL: &[u8] =
     b"model sc\nacyclic po|rf|fr|co as sc\n.\ntest\nPPC MP\n{ 0:r2=x; 0:r4=y; 1:r2=y; 1:r4=x; }\nP0 | P1 ;\nli r1,1 | lwz r1,0(r2) ;\nstw r1,0(r2) | lwz r3,0(r4) ;\nli r3,1 | ;\nstw r3,0(r4) | ;\nexists (1:r1=1 /\\ 1:r3=0)\n.\ntest\nPPC CoWR\n{ 0:r2=x; }\nP0 ;\nli r1,1 ;\nstw r1,0(r2) ;\nlwz r3,0(r2) ;\nexists (0:r3=0)\n.\ntable sc\n";
-
-/// How many scripts are drawn.
-const DRAWN: u64 = 300;
 
 fn last_line(output: &[u8]) -> &str {
     match str::from_utf8(output) {
@@ -97,7 +91,5 @@ where
     show_endless(rt, 0)?;
     show_endless(rt, 2)?;
     println!(rt; "# What a listener hears")?;
-    show_hearing(rt)?;
-    println!(rt; "# Scripts that are drawn")?;
-    kept::show(rt, DRAWN)
+    show_hearing(rt)
 }

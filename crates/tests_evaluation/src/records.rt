@@ -3,12 +3,10 @@
 //! HTML.
 
 use candidates::EvalRefusal;
-use html_text::{Attribute, put_element, put_escaped};
-use json_text::{put_number, put_string};
+use escaped_texts::{Attribute, put_element, put_escaped, put_field, put_number, put_string};
 use outcome_lines::{Subject, put_eval_json};
 use std::alloc::{AllocError, Global};
 use std::io;
-use tab_text::put_field;
 use text_values::{Name, Quantifier};
 use verdict::{CountedState, Evaluation, FinalValue, Observation, Outcome, OutcomeResult, Refusal};
 

@@ -1,6 +1,6 @@
 //! Prints the words of each rule, as the tables of docs/FORMATS.md have them.
 
-use fault_lines::rule_words;
+use fault_texts::rule_words;
 use std::io;
 
 /// The letters of the rules, and how many rules each has.

@@ -8,7 +8,7 @@ use Rattle.litmus_tokens.specs.Texts.{TokenAt, test_tokens_of, test_lexing, Stan
 use Rattle.litmus_tokens.specs.Conditions.{condition_limits, place_meaning, tree_formula}
 use Rattle.litmus_table.specs.Late.{Late, Note, Defines, Branches, or_else, is_in, defined, late_notes, first_late, columns_notes, thread_notes, late_columns}
 use Rattle.litmus_table.specs.Laws.{LabelMark, Defined, Branched, label_marks, AreMarks, AreNoted}
-use Rattle.litmus_table.specs.Machine.{ThreadSteps}
+use Rattle.litmus_words.specs.Machine.{ThreadSteps}
 use Rattle.text_values.specs.declared.test.Step.{Step}
 use Rattle.text_values.specs.declared.test.InitEntry.{InitEntry}
 use Rattle.litmus_grammar.specs.declared.parts.TextKind.TheVariants as kinds

@@ -2,4 +2,3 @@ pub mod Bytes
 pub mod InPlace
 pub mod Separated
 pub mod Arguments
-pub mod Table

@@ -4,6 +4,5 @@ pub mod Letters
 pub mod Names
 pub mod TestValue
 pub mod Parts
-pub mod PredefinedNames
 pub mod ModelValue
 pub mod ModelValues

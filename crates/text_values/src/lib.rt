@@ -5,17 +5,16 @@
 //!   printed part by part is the list with a separator between its parts.
 //! - Litmus tests of Power as values: threads, instructions, initial values, conditions. Read
 //!   specs/TestValue.antt first: it says what a test means, without its layout in memory.
-//! - Models in the cat language as values, and the predefined names. Read specs/ModelValue.antt
-//!   first: it says what an item and an expression mean. Other crates cite proofs/Arguments.antt.
+//! - Models in the cat language as values. Read specs/ModelValue.antt first: it says what an item
+//!   and an expression mean. Other crates cite proofs/Arguments.antt. The predefined names stand in
+//!   `predefined_names`.
 #![tactic(auto)]
 
 mod instruction;
-pub mod laws;
 mod layout;
 mod letters;
 mod model;
 mod name;
-mod predefined;
 mod put;
 mod same;
 mod test;
@@ -28,7 +27,7 @@ pub use model::{
     ShownExpression,
 };
 pub use name::Name;
-pub use predefined::{PREDEFINED, PREDEFINED_COUNT, Predefined};
+pub use predefined_names::{PREDEFINED, PREDEFINED_COUNT, Predefined};
 pub use put::{put_between, put_bytes, put_decimal};
 pub use same::{are_same_names, is_same_label};
 pub use test::{

@@ -69,7 +69,6 @@ pub enum CheckWord {
 }
 
 /// `["~"] ("acyclic" | "irreflexive" | "empty") e`
-#[derive(Drop)]
 pub struct Check {
     /// Whether `~` stands before the word.
     pub negated: bool,
@@ -79,13 +78,28 @@ pub struct Check {
     pub body: Expression,
 }
 
+impl Drop for Check {
+    fn drop(self) {
+        let Check {
+            negated: _,
+            word: _,
+            body: _,
+        } = self;
+    }
+}
+
 /// One name of a group, with its body.
-#[derive(Drop)]
 pub struct Binding {
     /// The name.
     pub name: Name,
     /// Its meaning.
     pub body: Expression,
+}
+
+impl Drop for Binding {
+    fn drop(self) {
+        let Binding { name: _, body: _ } = self;
+    }
 }
 
 /// One expression of a `show` or an `unshow`.

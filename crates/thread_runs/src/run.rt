@@ -11,7 +11,6 @@ pub struct Domain {
 }
 
 /// A run of a thread: its i-th executed load reads the i-th value.
-#[derive(Drop)]
 pub struct Run {
     /// The values of the executed loads.
     pub values: Vec<Value>,
@@ -23,4 +22,16 @@ pub struct Run {
     pub registers: [Value; 32],
     /// Whether the run stopped at a fault.
     pub faulted: bool,
+}
+
+impl Drop for Run {
+    fn drop(self) {
+        let Run {
+            values: _,
+            steps: _,
+            events: _,
+            registers: _,
+            faulted: _,
+        } = self;
+    }
 }

@@ -1,15 +1,12 @@
-//! Prints how long evaluations, benches, desks and operations on relations take, by its words.
-//! Without words it prints the forms of its words and what needs no clock: whether the operations
-//! on relations give the same as plain loops, and how many jobs settle benches.
+//! Prints how long evaluations, benches and desks take, by its words. Without words it prints the
+//! forms of its words and what needs no clock: how many jobs settle benches.
 #![tactic(auto)]
 
 mod benches;
 mod desks;
 mod pairs;
 mod phases;
-mod plain;
 mod player;
-mod relations;
 mod suite;
 mod tables;
 mod timing;
@@ -20,10 +17,9 @@ use std::sync::Wait;
 use std::thread::Threads;
 
 /// The forms of the words.
-const FORMS: [&str; 4] = [
+const FORMS: [&str; 3] = [
     "tests times [--phases] MODEL TEST MODEL TEST ..",
     "tests times suite MODEL .. over TEST ..",
-    "tests times relations",
     "tests times bench [times|workers]",
 ];
 
@@ -38,8 +34,6 @@ enum Asked<'a> {
     Benches,
     /// How long desks take by their number of workers.
     Workers,
-    /// How long operations on relations take beside plain loops.
-    Relations,
     /// How long a cell takes where all tests are evaluated under all models.
     Suite(&'a [String]),
     /// How the time of an evaluation is spent, for each pair of a model's file and a test's file.
@@ -69,7 +63,6 @@ fn asked_by(words: &[String]) -> Asked<'_> {
     };
     match first.as_str() {
         "bench" => asked_of_benches(rest),
-        "relations" => Asked::Relations,
         _ if rest.is_empty() => Asked::Forms,
         "suite" => Asked::Suite(rest),
         "--phases" => Asked::Phases(rest),
@@ -82,7 +75,6 @@ fn show_forms<R: Files + Clock + Print + AllocGlobal + Wait>(rt: &R) -> io::Resu
     for form in FORMS {
         println!(rt; "{form}")?;
     }
-    relations::show_all(rt, false)?;
     benches::show_jobs(rt)
 }
 
@@ -96,7 +88,6 @@ where
         Asked::Jobs => benches::show_jobs(rt),
         Asked::Benches => benches::show_times(rt),
         Asked::Workers => benches::show_workers(rt),
-        Asked::Relations => relations::show_all(rt, true),
         Asked::Suite(paths) => suite::show_all(rt, paths),
         Asked::Phases(paths) => pairs::show_all(rt, paths, true),
         Asked::Pairs(paths) => pairs::show_all(rt, paths, false),

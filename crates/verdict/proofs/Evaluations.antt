@@ -17,27 +17,27 @@ use Rattle.std.proofs.lemmas.Map.Views.{Contains-from_any}
 use Rattle.text_values.specs.declared.test.Quantifier.{Quantifier}
 use Rattle.text_values.specs.declared.test.Place.{Place}
 use Rattle.text_values.specs.TestValue.{Formula}
-use Rattle.candidates.specs.Space.{Shown}
-use Rattle.verdict.specs.Compiled.{value_of, Shows, Compiles}
-use Rattle.verdict.specs.Counting.{count_kept, tally, AreAbove, pairs_of, pairs_in}
+use Rattle.candidate_spaces.specs.Space.{Shown}
+use Rattle.outcome_states.specs.Compiled.{value_of, Shows, Compiles}
+use Rattle.outcome_states.specs.Counting.{count_kept, tally, AreAbove, pairs_of, pairs_in}
 use Rattle.verdict.specs.Evaluated.{number_that, is_satisfied, values_of, IsWorded, IsStateOf, Says}
-use Rattle.verdict.specs.Final.{final_value, final_state}
+use Rattle.outcome_states.specs.Final.{final_value, final_state}
 use Rattle.verdict.specs.Judgement.{is_same_truth, total_of, IsJudged}
-use Rattle.verdict.specs.Kept.{holds_at, is_kept, holds_on_some, kept, Flag, names_of_flags, raised_names}
-use Rattle.verdict.specs.Meaning.{observables_of}
-use Rattle.verdict.specs.Order.{state_cmp, is_state}
-use Rattle.verdict.specs.Shown.{known_observables, is_among, AreShown}
-use Rattle.verdict.specs.declared.answer.CountedState.{CountedState}
-use Rattle.verdict.specs.declared.answer.Evaluation.{Evaluation}
-use Rattle.verdict.specs.declared.answer.FinalValue.{FinalValue}
-use Rattle.verdict.specs.declared.formula.Formula as code
-use Rattle.verdict.specs.declared.observable.Observable.{Observable}
-use Rattle.verdict.specs.contracts.answer.FinalValueOrd.TheImpl as value_ord
-use Rattle.verdict.proofs.Atoms.{known_of_both}
+use Rattle.outcome_states.specs.Kept.{holds_at, is_kept, holds_on_some, kept, Flag, names_of_flags, raised_names}
+use Rattle.outcome_states.specs.Meaning.{observables_of}
+use Rattle.outcome_states.specs.Order.{state_cmp, is_state}
+use Rattle.outcome_states.specs.Shown.{known_observables, is_among, AreShown}
+use Rattle.outcome_states.specs.declared.answer.CountedState.{CountedState}
+use Rattle.outcome_states.specs.declared.answer.Evaluation.{Evaluation}
+use Rattle.outcome_states.specs.declared.answer.FinalValue.{FinalValue}
+use Rattle.outcome_states.specs.declared.formula.Formula as code
+use Rattle.outcome_states.specs.declared.observable.Observable.{Observable}
+use Rattle.outcome_states.specs.contracts.answer.FinalValueOrd.TheImpl as value_ord
+use Rattle.outcome_states.proofs.Atoms.{known_of_both}
 use Rattle.verdict.proofs.KeptLists.{counted_by_indices, many_within, raised_by_indices, rising_read}
-use Rattle.verdict.proofs.Orders.{value_orders, state_total, is_state_same}
+use Rattle.outcome_states.proofs.Orders.{value_orders, state_total, is_state_same}
 use Rattle.verdict.proofs.Spread.{how_many, weigh, many_agree, length-filter_twice, weighed, all_keys, own_number, All-of_map}
-use Rattle.verdict.proofs.Tallies.{Entries}
+use Rattle.outcome_states.proofs.Tallies.{Entries}
 use Rattle.std.proofs.lemmas.Bool.{or_left}
 
 abbrev State : Type 0

@@ -5,8 +5,8 @@ use Rattle.std.specs.List.Sorted.{IsStrictlySortedBy}
 use Rattle.std.specs.declared.cmp.Ordering.{Ordering}
 use Rattle.std.specs.declared.cmp.Ordering.TheVariants.{Less}
 use Rattle.std.proofs.lemmas.List.{get_or-drop}
-use Rattle.verdict.specs.Counting.{count_kept}
-use Rattle.verdict.specs.Kept.{holds_at, holds_on_some}
+use Rattle.outcome_states.specs.Counting.{count_kept}
+use Rattle.outcome_states.specs.Kept.{holds_at, holds_on_some}
 use Rattle.verdict.proofs.Spread.{how_many}
 use Rattle.std.proofs.Math.Bool.{and-false}
 

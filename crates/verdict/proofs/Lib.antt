@@ -1,13 +1,4 @@
-pub mod Atoms
-pub mod Columns
-pub mod Finals
-pub mod Endings
 pub mod Evaluations
-pub mod HeldTexts
 pub mod KeptLists
-pub mod Names
-pub mod Observables
-pub mod Orders
 pub mod Spread
-pub mod Tallies
 pub mod Uniqueness

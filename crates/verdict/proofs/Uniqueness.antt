@@ -13,24 +13,24 @@ use Rattle.std.proofs.lemmas.Map.Views.{Contains-from_any, list_any-from_Contain
 use Rattle.text_values.specs.declared.test.Place.{Place}
 use Rattle.text_values.specs.declared.test.Quantifier.{Quantifier}
 use Rattle.text_values.specs.TestValue.{Formula}
-use Rattle.candidates.specs.Space.{Shown}
+use Rattle.candidate_spaces.specs.Space.{Shown}
 use Rattle.candidates.proofs.Elements.{member_cases, member_later}
 use Rattle.candidates.proofs.Sole.{same_rising}
 use Rattle.verdict.specs.Evaluated.{number_that, values_of, IsStateOf, Says, IsEvaluation, IsEvaluatedAs}
-use Rattle.verdict.specs.Final.{final_value, final_state}
+use Rattle.outcome_states.specs.Final.{final_value, final_state}
 use Rattle.verdict.specs.Judgement.{observation_of, is_met}
-use Rattle.verdict.specs.Kept.{Flag, kept}
+use Rattle.outcome_states.specs.Kept.{Flag, kept}
 use Rattle.verdict.specs.Laws.{HasOneConditionOutcome}
-use Rattle.verdict.specs.Order.{observable_cmp, state_cmp, is_observable, is_state}
-use Rattle.verdict.specs.Shown.{AreShown}
-use Rattle.verdict.specs.Text.{state_text}
-use Rattle.verdict.specs.declared.answer.CountedState.{CountedState}
-use Rattle.verdict.specs.declared.answer.Evaluation.{Evaluation}
-use Rattle.verdict.specs.declared.answer.FinalValue.{FinalValue}
-use Rattle.verdict.specs.declared.answer.OutcomeResult.{OutcomeResult}
-use Rattle.verdict.specs.declared.answer.OutcomeResult.TheVariants.{Refused, Evaluated}
-use Rattle.verdict.specs.declared.observable.Observable.{Observable}
-use Rattle.verdict.proofs.Orders.{observable_total, state_total, is_observable_same, is_state_same}
+use Rattle.outcome_states.specs.Order.{observable_cmp, state_cmp, is_observable, is_state}
+use Rattle.outcome_states.specs.Shown.{AreShown}
+use Rattle.outcome_states.specs.Text.{state_text}
+use Rattle.outcome_states.specs.declared.answer.CountedState.{CountedState}
+use Rattle.outcome_states.specs.declared.answer.Evaluation.{Evaluation}
+use Rattle.outcome_states.specs.declared.answer.FinalValue.{FinalValue}
+use Rattle.outcome_states.specs.declared.answer.OutcomeResult.{OutcomeResult}
+use Rattle.outcome_states.specs.declared.answer.OutcomeResult.TheVariants.{Refused, Evaluated}
+use Rattle.outcome_states.specs.declared.observable.Observable.{Observable}
+use Rattle.outcome_states.proofs.Orders.{observable_total, state_total, is_observable_same, is_state_same}
 
 -- ---- rising lists with the same members
 

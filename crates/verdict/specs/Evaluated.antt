@@ -7,24 +7,24 @@ use Rattle.text_values.specs.declared.test.Quantifier.{Quantifier}
 use Rattle.text_values.specs.declared.test.Place.{Place}
 use Rattle.text_values.specs.TestValue.{Formula}
 use Rattle.litmus_printing.specs.Printing.{condition_text}
-use Rattle.candidates.specs.Space.{Shown}
-use Rattle.verdict.specs.declared.answer.CountedState.{CountedState}
-use Rattle.verdict.specs.declared.answer.Evaluation.{Evaluation}
-use Rattle.verdict.specs.declared.answer.FinalValue.{FinalValue}
-use Rattle.verdict.specs.declared.answer.Outcome.{Outcome}
-use Rattle.verdict.specs.declared.answer.OutcomeResult.{OutcomeResult}
-use Rattle.verdict.specs.declared.answer.OutcomeResult.TheVariants.{Refused, Evaluated}
-use Rattle.verdict.specs.declared.formula.Formula as code
-use Rattle.verdict.specs.declared.observable.Observable.{Observable}
-use Rattle.verdict.specs.Compiled.{value_of, Compiles}
-use Rattle.verdict.specs.Counting.{count_kept, tally, AreAbove, pairs_of, pairs_in}
-use Rattle.verdict.specs.Final.{final_value, final_state}
+use Rattle.candidate_spaces.specs.Space.{Shown}
+use Rattle.outcome_states.specs.declared.answer.CountedState.{CountedState}
+use Rattle.outcome_states.specs.declared.answer.Evaluation.{Evaluation}
+use Rattle.outcome_states.specs.declared.answer.FinalValue.{FinalValue}
+use Rattle.outcome_states.specs.declared.answer.Outcome.{Outcome}
+use Rattle.outcome_states.specs.declared.answer.OutcomeResult.{OutcomeResult}
+use Rattle.outcome_states.specs.declared.answer.OutcomeResult.TheVariants.{Refused, Evaluated}
+use Rattle.outcome_states.specs.declared.formula.Formula as code
+use Rattle.outcome_states.specs.declared.observable.Observable.{Observable}
+use Rattle.outcome_states.specs.Compiled.{value_of, Compiles}
+use Rattle.outcome_states.specs.Counting.{count_kept, tally, AreAbove, pairs_of, pairs_in}
+use Rattle.outcome_states.specs.Final.{final_value, final_state}
 use Rattle.verdict.specs.Judgement.{IsJudged}
-use Rattle.verdict.specs.Kept.{kept, Flag, raised_names}
-use Rattle.verdict.specs.Meaning.{satisfies, observables_of}
-use Rattle.verdict.specs.Order.{state_cmp, is_state}
-use Rattle.verdict.specs.Shown.{AreShown}
-use Rattle.verdict.specs.Text.{state_text}
+use Rattle.outcome_states.specs.Kept.{kept, Flag, raised_names}
+use Rattle.outcome_states.specs.Meaning.{satisfies, observables_of}
+use Rattle.outcome_states.specs.Order.{state_cmp, is_state}
+use Rattle.outcome_states.specs.Shown.{AreShown}
+use Rattle.outcome_states.specs.Text.{state_text}
 
 -- how many of these executions pass a test
 abbrev pub number_that : {X : Type 0} → (X → Bool) → List (ℕ × X) → ℕ

@@ -3,10 +3,10 @@ use Rattle.std.specs.Prelude.{ℕ, ◌≡◌, Bool, List}
 use Rattle.text_values.specs.declared.test.Place.{Place}
 use Rattle.text_values.specs.declared.test.Quantifier.{Quantifier}
 use Rattle.text_values.specs.TestValue.{Formula}
-use Rattle.candidates.specs.Space.{Shown}
+use Rattle.candidate_spaces.specs.Space.{Shown}
 use Rattle.verdict.specs.Evaluated.{IsOutcomeOn}
-use Rattle.verdict.specs.Kept.{Flag}
-use Rattle.verdict.specs.declared.answer.Outcome.{Outcome}
+use Rattle.outcome_states.specs.Kept.{Flag}
+use Rattle.outcome_states.specs.declared.answer.Outcome.{Outcome}
 
 -- an outcome is the only one of its locations, its executions, its condition, what it observes, and
 -- the answers of checks and flags

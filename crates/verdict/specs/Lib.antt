@@ -1,15 +1,3 @@
-pub mod Compiled
-pub mod Counting
-pub mod Ends
 pub mod Evaluated
-pub mod EvaluationContent
-pub mod Final
 pub mod Judgement
-pub mod Kept
 pub mod Laws
-pub mod Meaning
-pub mod Names
-pub mod Order
-pub mod OutcomeContent
-pub mod Shown
-pub mod Text

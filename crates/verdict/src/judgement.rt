@@ -3,33 +3,25 @@
 ghost use Rattle.std.specs.Prelude.{◌≡◌, ℕ, ◌<◌, ◌&&◌, ◌++◌, Bool, List, [], ◌∷◌, false, if◌then◌else◌, IfOk, OnOk, min, ◌-◌, ◌^◌, length, map, vec_len, slice_index_or};
 ghost use Rattle.std.specs.List.{list_any, All};
 ghost use Rattle.std.specs.List.Sorted.{IsStrictlySortedBy};
-ghost use Rattle.candidates.specs.Space.{shown_in};
+ghost use Rattle.candidate_spaces.specs.Space.{shown_in};
 ghost use Rattle.text_values.specs.TestValue.{formula_of};
-ghost use Rattle.verdict.specs.Counting.{pairs_of, pairs_in};
-ghost use Rattle.verdict.specs.Kept.{holds_at, is_kept, AreKeptBy, holds_on_some, of_raised, names_of_flags};
-ghost use Rattle.verdict.specs.Names.{is_name};
+ghost use Rattle.outcome_states.specs.Counting.{pairs_of, pairs_in};
+ghost use Rattle.outcome_states.specs.Kept.{holds_at, is_kept, AreKeptBy, holds_on_some, of_raised, names_of_flags};
+ghost use Rattle.outcome_states.specs.Names.{is_name};
 ghost use Rattle.verdict.specs.Evaluated.{values_of, IsWorded, AreEndStates, IsEvaluation, IsOutcomeOn};
-ghost use Rattle.verdict.specs.Order.{state_cmp};
+ghost use Rattle.outcome_states.specs.Order.{state_cmp};
 ghost use Rattle.verdict.specs.Judgement.{is_same_truth, total_of, observation_of, is_met, IsJudged, IsOutcomeOf};
 
-use crate::answer::{CountedState, Evaluation, Observation, Outcome, OutcomeResult};
-use crate::final_states::{StateCounts, final_states};
-use crate::formula::{Formula, formula_over, satisfies};
-use crate::observable::{Observable, shown_observables};
-use crate::state_text::state_text;
 use candidates::Space;
 use litmus_printing::print_condition;
+use outcome_states::final_states::final_states;
+use outcome_states::state_text::state_text;
+use outcome_states::{
+    CountedState, Evaluation, Formula, Observable, Observation, Outcome, OutcomeResult, Raised,
+    StateCounts, formula_over, satisfies, shown_observables,
+};
 use std::alloc::{AllocError, Global};
 use text_values::{Condition, Name, Place, Quantifier};
-
-/// A flag: its name, and whether its check holds on each candidate.
-#[derive(Clone, Copy)]
-pub struct Raised<'a> {
-    /// The name after `as`.
-    pub name: &'a Name,
-    /// For each candidate of the space, whether the check holds there.
-    pub holds: &'a [bool],
-}
 
 // Drops the candidates on which the check does not hold.
 fn keep_where(kept: &mut [bool], holds: &[bool])

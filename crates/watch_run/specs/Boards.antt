@@ -11,7 +11,7 @@ use Rattle.board.specs.Operations.{board_after}
 use Rattle.board.specs.Legal.{IsLegal}
 use Rattle.board.specs.Results.{ShowsRightCells}
 use Rattle.board.specs.Edits.{edit_count}
-use Rattle.desk.specs.Boards.{AreSettled}
+use Rattle.desk_ledger.specs.Boards.{AreSettled}
 use Rattle.bench_instance.specs.Cells.{board_cells}
 use Rattle.session_views.specs.Knowing.{KnowsTexts}
 use Rattle.watch_run.specs.Holding.{Holding}

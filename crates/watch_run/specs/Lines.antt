@@ -3,7 +3,7 @@ use Rattle.std.specs.Prelude.{◌≡◌, ◌⊎◌, ℕ, ◌+◌, List, [], ◌�
 use Rattle.std.specs.List.{position_or_len, AllZip}
 use Rattle.text_values.specs.TestValue.{Content}
 use Rattle.text_values.specs.Layout.{is_line_end}
-use Rattle.verdict.specs.declared.answer.Outcome.{Outcome}
+use Rattle.outcome_states.specs.declared.answer.Outcome.{Outcome}
 use Rattle.outcome_texts.specs.Cells.{Cell, NoCell, Open, Settled}
 use Rattle.outcome_texts.specs.Columns.{table_of}
 use Rattle.bench_texts.specs.BenchTexts.{BenchTexts, PlainModel}

@@ -1,6 +1,6 @@
 -- A check has an answer in each candidate.
 use Rattle.std.proofs.Common.{ℕ, ◌≡◌, ◌<◌, ◌≤◌, ◌↔◌, ◌∙◌, inl, inr, List, [], Bool, true, false, IsTrue, sym, subst}
-use Rattle.bit_relations.specs.Pairs.{Plus}
+use Rattle.bit_rows.specs.Pairs.{Plus}
 use Rattle.whole_outcomes.specs.NameLaws.{Told}
 use Rattle.whole_outcomes.proofs.Telling.{told_not, Below, told_below}
 use Rattle.text_values.specs.declared.model.CheckWord.{CheckWord}
@@ -10,11 +10,11 @@ use Rattle.binding_kinds.specs.declared.kinds.Kind.TheVariants as kinds
 use Rattle.binding_graph.specs.declared.resolved.CheckCode.{CheckCode}
 use Rattle.binding_graph.specs.declared.resolved.Source.{Source}
 use Rattle.binding_graph.specs.Trees.{SetTree, RelTree, rel_code}
-use Rattle.cat_eval.specs.Checks.{Holds, IsEmptySet}
-use Rattle.cat_eval.specs.Executions.{events_of, EventsAt, PairsAt}
-use Rattle.cat_eval.specs.Meaning.{MeansSet, MeansRelation}
-use Rattle.cat_eval.specs.Named.{OwnPairs, WithOwn}
-use Rattle.cat_eval.specs.Values.{IsCheckAnswer, Unless}
+use Rattle.cat_machine.specs.Checks.{Holds, IsEmptySet}
+use Rattle.cat_machine.specs.Executions.{events_of, EventsAt, PairsAt}
+use Rattle.cat_machine.specs.Meaning.{MeansSet, MeansRelation}
+use Rattle.cat_machine.specs.Named.{OwnPairs, WithOwn}
+use Rattle.cat_machine.specs.Values.{IsCheckAnswer, Unless}
 use Rattle.order_growth.specs.Within.{HasExpression}
 use Rattle.whole_outcomes.specs.ValueLaws.{AnswersExist}
 use Rattle.whole_outcomes.proofs.Trees.{IsToldSet, IsTold, plus, told_set, told_relation, truth, truth_is}

@@ -3,20 +3,20 @@ use Rattle.std.proofs.Common.{ℕ, ◌≡◌, ◌<◌, zero, suc, List, [], ◌�
 use Rattle.std.specs.Prelude.{slice_get}
 use Rattle.std.specs.List.{AllByRecursion}
 use Rattle.std.proofs.lemmas.Option.{slice_get_within, get_or_from_slice_get}
-use Rattle.bit_relations.specs.Relation.{Relation, Events, IsRegular, IsEvents, no_slot}
+use Rattle.bit_rows.specs.Relation.{Relation, Events, IsRegular, IsEvents, no_slot}
 use Rattle.base_names.specs.Known.{EventsFound}
 use Rattle.binding_kinds.specs.declared.kinds.Kind.{Kind}
 use Rattle.binding_kinds.specs.declared.kinds.Kind.TheVariants as kinds
 use Rattle.binding_graph.specs.declared.resolved.Body.{Body}
 use Rattle.binding_graph.specs.declared.resolved.Source.{Source}
 use Rattle.binding_graph.specs.declared.resolved.Step.{Step}
-use Rattle.cat_eval.specs.declared.column.Column.{Column}
-use Rattle.cat_eval.specs.declared.column.Column.TheVariants as columns
-use Rattle.cat_eval.specs.Columns.{HasColumnValue, HaveValues}
-use Rattle.cat_eval.specs.Executions.{events_of, EventsAt, PairsAt}
-use Rattle.cat_eval.specs.Named.{PairsFound}
-use Rattle.cat_eval.specs.Values.{IsFor, IsMeaning}
-use Rattle.cat_eval.proofs.Growing.{codes_long}
+use Rattle.cat_machine.specs.declared.column.Column.{Column}
+use Rattle.cat_machine.specs.declared.column.Column.TheVariants as columns
+use Rattle.cat_machine.specs.Columns.{HasColumnValue, HaveValues}
+use Rattle.cat_machine.specs.Executions.{events_of, EventsAt, PairsAt}
+use Rattle.cat_machine.specs.Named.{PairsFound}
+use Rattle.cat_machine.specs.Values.{IsFor, IsMeaning}
+use Rattle.cat_machine.proofs.Growing.{codes_long}
 use Rattle.order_growth.specs.Within.{HasExpression, AreBodyExpressions}
 use Rattle.whole_outcomes.specs.Whole.{IsColumnBelow}
 use Rattle.whole_outcomes.specs.ColumnLaws.{ColumnsAreBelow}

@@ -2,23 +2,23 @@
 use Rattle.std.proofs.Common.{ℕ, ◌≡◌, ◌<◌, ◌≤◌, ◌∙◌, zero, suc, List, [], ◌∷◌, length, get_or, Bool, true, false, Bor, refl, sym, ap, subst, arith}
 use Rattle.std.specs.List.{AllByRecursion}
 use mathlib.Core.List.{head-eq_of_cons-eq}
-use Rattle.bit_relations.specs.Relation.{Relation, Events, IsRelation, IsEvents, no_slot}
+use Rattle.bit_rows.specs.Relation.{Relation, Events, IsRelation, IsEvents, no_slot}
 use Rattle.binding_kinds.specs.declared.kinds.Kind.{Kind}
 use Rattle.binding_kinds.specs.declared.kinds.Kind.TheVariants as kinds
 use Rattle.binding_graph.specs.declared.resolved.Body.{Body}
 use Rattle.binding_graph.specs.declared.resolved.Source.{Source}
 use Rattle.binding_graph.specs.declared.resolved.Step.{Step}
 use Rattle.binding_graph.specs.Trees.{SetTree, RelTree, set_code, rel_code}
-use Rattle.candidates.specs.Space.{Candidate}
-use Rattle.cat_eval.specs.declared.column.Column.{Column}
-use Rattle.cat_eval.specs.Executions.{events_of, EventsAt, PairsAt}
-use Rattle.cat_eval.specs.Least.{IsLeast, AreMonotone}
-use Rattle.cat_eval.specs.Meaning.{MeansSet, MeansRelation}
-use Rattle.cat_eval.specs.Named.{OwnPairs, WithOwn}
-use Rattle.cat_eval.specs.Rising.{AreCodes}
-use Rattle.cat_eval.specs.Running.{BuildsTrees, sets_after, rels_after}
-use Rattle.cat_eval.specs.Values.{IsMeaning}
-use Rattle.cat_eval.proofs.Codes.{code_leads, set_code_leads}
+use Rattle.candidate_spaces.specs.Space.{Candidate}
+use Rattle.cat_machine.specs.declared.column.Column.{Column}
+use Rattle.cat_machine.specs.Executions.{events_of, EventsAt, PairsAt}
+use Rattle.cat_machine.specs.Least.{IsLeast, AreMonotone}
+use Rattle.cat_machine.specs.Meaning.{MeansSet, MeansRelation}
+use Rattle.cat_machine.specs.Named.{OwnPairs, WithOwn}
+use Rattle.cat_machine.specs.Rising.{AreCodes}
+use Rattle.cat_machine.specs.Running.{BuildsTrees, sets_after, rels_after}
+use Rattle.cat_machine.specs.Values.{IsMeaning}
+use Rattle.cat_machine.proofs.Codes.{code_leads, set_code_leads}
 use Rattle.order_growth.specs.Within.{HasExpression, AreBodyExpressions}
 use Rattle.whole_outcomes.specs.Values.{no_set, AreGroupValues, AreInputsBelow}
 use Rattle.whole_outcomes.specs.ValueLaws.{ValuesExist}

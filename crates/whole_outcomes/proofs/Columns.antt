@@ -7,13 +7,13 @@ use Rattle.binding_graph.specs.declared.resolved.Body.{Body}
 use Rattle.binding_graph.specs.declared.resolved.ResolvedItem.{ResolvedItem}
 use Rattle.binding_graph.specs.declared.resolved.Role.{Role}
 use Rattle.binding_graph.specs.declared.resolved.Role.TheVariants as roles
-use Rattle.candidates.specs.declared.candidate.Space.{Space}
-use Rattle.candidates.specs.Space.{Candidate, candidates_in}
-use Rattle.cat_eval.specs.declared.column.Column.{Column}
-use Rattle.cat_eval.specs.Columns.{ColumnsOf, AreGroupColumns}
-use Rattle.cat_eval.specs.Executions.{events_of}
-use Rattle.cat_eval.specs.Named.{InputEvents, InputPairs}
-use Rattle.cat_eval.specs.Values.{AnswersOf}
+use Rattle.candidate_spaces.specs.declared.candidate.Space.{Space}
+use Rattle.candidate_spaces.specs.Space.{Candidate, candidates_in}
+use Rattle.cat_machine.specs.declared.column.Column.{Column}
+use Rattle.cat_machine.specs.Columns.{ColumnsOf, AreGroupColumns}
+use Rattle.cat_machine.specs.Executions.{events_of}
+use Rattle.cat_machine.specs.Named.{InputEvents, InputPairs}
+use Rattle.cat_machine.specs.Values.{AnswersOf}
 use Rattle.from_scratch.specs.Answers.{AreNamed, AreLeast, LeastOf, AreItemColumns, HasAnswers}
 use Rattle.order_growth.specs.Within.{AreBodyExpressions}
 use Rattle.order_growth.specs.Coded.{IsOfExpressions, AreOfExpressions}

@@ -4,17 +4,17 @@ use Rattle.std.specs.Prelude.{◌&&◌, ◌||◌, not}
 use Rattle.std.specs.List.{AllZip, Contains, filter, enumerate_from}
 use Rattle.text_values.specs.declared.test.Quantifier.{Quantifier}
 use Rattle.text_values.specs.TestValue.{Formula}
-use Rattle.candidates.specs.Space.{Shown}
+use Rattle.candidate_spaces.specs.Space.{Shown}
 use Rattle.verdict.specs.Evaluated.{number_that, is_satisfied, values_of, IsStateOf, Says, IsEvaluation, IsEvaluatedAs}
-use Rattle.verdict.specs.Final.{final_state}
-use Rattle.verdict.specs.Kept.{Flag, holds_at, is_kept, is_raised, kept, each_once, names_of_flags, raised_names}
-use Rattle.verdict.specs.Order.{is_state}
-use Rattle.verdict.specs.declared.answer.CountedState.{CountedState}
-use Rattle.verdict.specs.declared.answer.Evaluation.{Evaluation}
-use Rattle.verdict.specs.declared.answer.OutcomeResult.{OutcomeResult}
-use Rattle.verdict.specs.declared.answer.OutcomeResult.TheVariants.{Refused, Evaluated}
-use Rattle.verdict.specs.declared.observable.Observable.{Observable}
-use Rattle.kept_orders.specs.Sublists.{LeavesOut, nothing_left, stays, is_left}
+use Rattle.outcome_states.specs.Final.{final_state}
+use Rattle.outcome_states.specs.Kept.{Flag, holds_at, is_kept, is_raised, kept, each_once, names_of_flags, raised_names}
+use Rattle.outcome_states.specs.Order.{is_state}
+use Rattle.outcome_states.specs.declared.answer.CountedState.{CountedState}
+use Rattle.outcome_states.specs.declared.answer.Evaluation.{Evaluation}
+use Rattle.outcome_states.specs.declared.answer.OutcomeResult.{OutcomeResult}
+use Rattle.outcome_states.specs.declared.answer.OutcomeResult.TheVariants.{Refused, Evaluated}
+use Rattle.outcome_states.specs.declared.observable.Observable.{Observable}
+use Rattle.whole_outcomes.specs.Sublists.{LeavesOut, nothing_left, stays, is_left}
 use Rattle.whole_outcomes.specs.Fewer.{AgreeAt, FlagsAgreeAt, flag_names}
 use Rattle.whole_outcomes.specs.FewerLaws.{OutcomeOverFewer}
 

@@ -4,15 +4,15 @@ use Rattle.std.specs.Prelude.{slice_get, Option, Some}
 use Rattle.std.proofs.lemmas.Bool.{cases_eq}
 use Rattle.std.proofs.lemmas.List.{get_or-replicate, length-replicate}
 use Rattle.std.proofs.lemmas.Option.{slice_get-get_or}
-use Rattle.bit_relations.specs.Relation.{Relation, Has, IsRelation, room_of, no_slot}
+use Rattle.bit_rows.specs.Relation.{Relation, Has, IsRelation, room_of, no_slot}
 use Rattle.bit_relations.proofs.Laws.{grows}
 use Rattle.binding_graph.specs.declared.resolved.Source.{Source}
 use Rattle.binding_graph.specs.Trees.{RelTree}
-use Rattle.cat_eval.specs.Least.{IsLeast, AreMonotone, SolvesAt, body}
-use Rattle.cat_eval.specs.Meaning.{MeansRelation}
-use Rattle.cat_eval.specs.Named.{PairsFound, OwnPairs, WithOwn}
-use Rattle.cat_eval.specs.Rising.{IsBelowSolution, AreEmpty, rooms}
-use Rattle.cat_eval.proofs.Growing.{value_within, sound_step, rooms-set, empty_sound}
+use Rattle.cat_machine.specs.Least.{IsLeast, AreMonotone, SolvesAt, body}
+use Rattle.cat_machine.specs.Meaning.{MeansRelation}
+use Rattle.cat_machine.specs.Named.{PairsFound, OwnPairs, WithOwn}
+use Rattle.cat_machine.specs.Rising.{IsBelowSolution, AreEmpty, rooms}
+use Rattle.cat_machine.proofs.Growing.{value_within, sound_step, rooms-set, empty_sound}
 use Rattle.whole_outcomes.proofs.Trees.{IsToldSet, IsTold, no_pairs, told_relation, some_relation}
 use Rattle.whole_outcomes.proofs.Named.{own_told}
 

@@ -2,7 +2,7 @@
 use Rattle.std.proofs.Common.{ℕ, ◌≡◌, ◌+◌, zero, suc, List, [], ◌∷◌, length, map, Option, Some, None, refl, ap, subst, arith}
 use Rattle.std.specs.Prelude.{slice_get}
 use Rattle.std.proofs.lemmas.Option.{none-some, same_Some}
-use Rattle.kept_orders.specs.Sublists.{LeavesOut, nothing_left, stays, is_left}
+use Rattle.whole_outcomes.specs.Sublists.{LeavesOut, nothing_left, stays, is_left}
 
 first : (Z : Type 0) (full : List Z) (i : ℕ) (z : Z) → slice_get full (i + 0) ≡ Some z
     → slice_get full i ≡ Some z

@@ -10,6 +10,7 @@ pub mod Leaving
 pub mod Named
 pub mod Names
 pub mod Outcomes
+pub mod Products
 pub mod Rows
 pub mod Saying
 pub mod Telling

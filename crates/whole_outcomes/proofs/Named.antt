@@ -3,24 +3,24 @@
 use Rattle.std.proofs.Common.{ℕ, ◌≡◌, ◌<◌, inl, inr, zero, suc, List, [], ◌∷◌, length, get_or, Option, Some, None, Bor, arith}
 use Rattle.std.specs.Prelude.{slice_get}
 use Rattle.std.proofs.lemmas.Bool.{cases_eq}
-use Rattle.bit_relations.specs.Relation.{Relation, Events, Has, IsMember, IsRegular, no_slot}
-use Rattle.bit_relations.proofs.Bits.{Bit_cases}
+use Rattle.bit_rows.specs.Relation.{Relation, Events, Has, IsMember, IsRegular, no_slot}
+use Rattle.bit_rows.proofs.Bits.{Bit_cases}
 use Rattle.base_names.specs.Known.{EventsFound}
 use Rattle.base_names.specs.Candidate.{SetIn, RelationIn}
 use Rattle.whole_outcomes.specs.NameLaws.{Told}
 use Rattle.whole_outcomes.proofs.Telling.{told_both}
 use Rattle.whole_outcomes.proofs.Names.{names_told}
-use Rattle.text_values.specs.declared.predefined.Predefined.{Predefined}
-use Rattle.text_values.specs.declared.predefined.Predefined.TheVariants as names
+use Rattle.predefined_names.specs.declared.predefined.Predefined.{Predefined}
+use Rattle.predefined_names.specs.declared.predefined.Predefined.TheVariants as names
 use Rattle.binding_graph.specs.declared.resolved.Source.{Source}
 use Rattle.binding_graph.specs.declared.resolved.Source.TheVariants as sources
-use Rattle.run_combinations.specs.declared.combination.Combination.{Combination}
-use Rattle.candidates.specs.Space.{Candidate}
-use Rattle.cat_eval.specs.declared.column.Column.{Column}
-use Rattle.cat_eval.specs.declared.column.Column.TheVariants as columns
-use Rattle.cat_eval.specs.Executions.{EventsAt, PairsAt}
-use Rattle.cat_eval.specs.Least.{AreRelationsOn}
-use Rattle.cat_eval.specs.Named.{ColumnEvents, ColumnPairs, InputEvents, InputPairs, PairsFound, OwnPairs, WithOwn}
+use Rattle.store_orders.specs.declared.combination.Combination.{Combination}
+use Rattle.candidate_spaces.specs.Space.{Candidate}
+use Rattle.cat_machine.specs.declared.column.Column.{Column}
+use Rattle.cat_machine.specs.declared.column.Column.TheVariants as columns
+use Rattle.cat_machine.specs.Executions.{EventsAt, PairsAt}
+use Rattle.cat_machine.specs.Least.{AreRelationsOn}
+use Rattle.cat_machine.specs.Named.{ColumnEvents, ColumnPairs, InputEvents, InputPairs, PairsFound, OwnPairs, WithOwn}
 use Rattle.whole_outcomes.specs.Values.{AreInputsBelow}
 use Rattle.whole_outcomes.proofs.Trees.{IsToldSet, IsTold, no_events, no_pairs}
 

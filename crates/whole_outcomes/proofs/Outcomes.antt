@@ -7,10 +7,10 @@ use Rattle.text_values.specs.TestValue.{formula_of}
 use Rattle.binding_graph.specs.declared.resolved.CheckCode.{CheckCode}
 use Rattle.binding_graph.specs.declared.resolved.ResolvedItem.{ResolvedItem}
 use Rattle.binding_graph.specs.declared.resolved.Role.TheVariants.{Check}
-use Rattle.candidates.specs.declared.candidate.Space.{Space}
-use Rattle.candidates.specs.Space.{Candidate, Shown, candidates_in, shown_of, shown_in}
+use Rattle.candidate_spaces.specs.declared.candidate.Space.{Space}
+use Rattle.candidate_spaces.specs.Space.{Candidate, Shown, candidates_in, shown_of, shown_in}
 use Rattle.verdict.specs.Evaluated.{IsEvaluation}
-use Rattle.verdict.specs.Kept.{Flag, holds_at, is_kept, kept}
+use Rattle.outcome_states.specs.Kept.{Flag, holds_at, is_kept, kept}
 use Rattle.whole_outcomes.specs.Fewer.{AgreeAt, FlagsAgreeAt, flag_names, AreFewer}
 use Rattle.whole_outcomes.proofs.Counted as counting
 use Rattle.from_scratch.specs.Answers.{AreSaid}

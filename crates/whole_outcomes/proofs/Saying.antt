@@ -7,9 +7,9 @@ use Rattle.binding_graph.specs.declared.resolved.CheckCode.{CheckCode}
 use Rattle.binding_graph.specs.declared.resolved.ResolvedItem.{ResolvedItem}
 use Rattle.binding_graph.specs.declared.resolved.Role.{Role}
 use Rattle.binding_graph.specs.declared.resolved.Role.TheVariants as roles
-use Rattle.candidates.specs.declared.candidate.Space.{Space}
-use Rattle.candidates.specs.Space.{candidates_in}
-use Rattle.verdict.specs.Kept.{Flag}
+use Rattle.candidate_spaces.specs.declared.candidate.Space.{Space}
+use Rattle.candidate_spaces.specs.Space.{candidates_in}
+use Rattle.outcome_states.specs.Kept.{Flag}
 use Rattle.from_scratch.specs.Answers.{AreItemColumns, HasAnswers, IsSaidAs, IsSaidBy, AreSaid}
 use Rattle.order_growth.specs.Coded.{AreOfExpressions}
 use Rattle.whole_outcomes.specs.Whole.{AreAmong, AreAnswersKept}

@@ -2,10 +2,10 @@
 -- it is a set or a relation.
 use Rattle.std.proofs.Common.{ℕ, ◌≡◌, ◌<◌, ◌≤◌, ◌+◌, ◌↔◌, ◌⊎◌, inl, inr, zero, suc, List, Bool, true, false, IsTrue, refl, sym, ◌∙◌, subst, arith}
 use Rattle.std.proofs.lemmas.Bool.{cases_eq, false≢true}
-use Rattle.bit_relations.specs.Pairs.{Union, Complement, Composite, Product, On, Plus, PlusBelow, Identity}
-use Rattle.bit_relations.specs.Relation.{Relation, Events, IsRelation, IsEvents}
-use Rattle.bit_relations.proofs.Closing.{Plus-within}
-use Rattle.bit_relations.proofs.Paths.{PlusBelow-suc, PlusBelow-zero, PlusBelow-all}
+use Rattle.bit_rows.specs.Pairs.{Union, Complement, Composite, Product, On, Plus, PlusBelow, Identity}
+use Rattle.bit_rows.specs.Relation.{Relation, Events, IsRelation, IsEvents}
+use Rattle.bit_rows.proofs.Closing.{Plus-within}
+use Rattle.bit_rows.proofs.Paths.{PlusBelow-suc, PlusBelow-zero, PlusBelow-all}
 use Rattle.whole_outcomes.proofs.Words.{sets_told, relations_told}
 use Rattle.whole_outcomes.specs.NameLaws.{Told}
 use Rattle.whole_outcomes.proofs.Telling.{told_both, told_either, told_not, told_same, told_less, Below, told_below}
@@ -15,7 +15,7 @@ use Rattle.binding_graph.specs.declared.resolved.Blend.{Blend}
 use Rattle.binding_graph.specs.declared.resolved.Blend.TheVariants as blends
 use Rattle.binding_graph.specs.declared.resolved.Source.{Source}
 use Rattle.binding_graph.specs.Trees.{SetTree, SetName, AllEvents, NoEvent, BlendSets, ComplementSet, RelTree, RelName, NoPair, BlendRelations, SequenceRelations, ProductOfSets, IdentityOn, Close, ComplementRelation}
-use Rattle.cat_eval.specs.Meaning.{MeansSet, MeansRelation, BlendedSets, Blended, Closed, Others}
+use Rattle.cat_machine.specs.Meaning.{MeansSet, MeansRelation, BlendedSets, Blended, Closed, Others}
 
 -- it can be told which events the set has, all of which are below n
 pub record IsToldSet (n : ℕ) (S : ℕ → Type 0) : Type 0 where

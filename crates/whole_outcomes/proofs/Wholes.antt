@@ -4,11 +4,11 @@ use Rattle.std.specs.Prelude.{slice_get}
 use Rattle.std.proofs.lemmas.Option.{slice_get-get_or, slice_get_within, slice_get_cases, get_or_from_slice_get, same_Some}
 use Rattle.binding_graph.specs.declared.resolved.Body.{Body}
 use Rattle.binding_graph.specs.declared.resolved.CheckCode.{CheckCode}
-use Rattle.candidates.specs.Space.{Candidate}
-use Rattle.cat_eval.specs.declared.column.Column.{Column}
-use Rattle.cat_eval.specs.Columns.{HaveValues, AreGroupColumns}
-use Rattle.cat_eval.specs.Executions.{events_of, EventsAt, PairsAt}
-use Rattle.cat_eval.specs.Values.{AreAnswers, IsCheckAnswer}
+use Rattle.candidate_spaces.specs.Space.{Candidate}
+use Rattle.cat_machine.specs.declared.column.Column.{Column}
+use Rattle.cat_machine.specs.Columns.{HaveValues, AreGroupColumns}
+use Rattle.cat_machine.specs.Executions.{events_of, EventsAt, PairsAt}
+use Rattle.cat_machine.specs.Values.{AreAnswers, IsCheckAnswer}
 use Rattle.order_growth.specs.Within.{HasExpression, AreBodyExpressions}
 use Rattle.whole_outcomes.specs.Values.{AreGroupValues}
 use Rattle.whole_outcomes.proofs.Bodies.{values_found}

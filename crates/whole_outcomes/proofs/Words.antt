@@ -5,8 +5,8 @@ use Rattle.std.proofs.lemmas.Bool.{cases_eq, cases_lt}
 use Rattle.std.proofs.lemmas.Bool.Decides.{nat_tests}
 use Rattle.std.proofs.lemmas.List.{length_push, get_or_push, get_or_append_left}
 use Rattle.std.proofs.lemmas.Nat.Bits.{bit_at-pow_same, bit_at-pow_other}
-use Rattle.bit_relations.specs.Relation.{Bit, Relation, IsRelation}
-use Rattle.bit_relations.proofs.Bits.{Bit-zero, Bit-or}
+use Rattle.bit_rows.specs.Relation.{Bit, Relation, IsRelation}
+use Rattle.bit_rows.proofs.Bits.{Bit-zero, Bit-or}
 use Rattle.whole_outcomes.specs.RelationLaws.{TestsAreSets, TestsAreRelations}
 
 -- ---- words

@@ -3,11 +3,11 @@ use Rattle.std.specs.Prelude.{ℕ, ◌≡◌, Bool, List, Option, Some, slice_ge
 use denote.Ref.{Bor}
 use Rattle.binding_graph.specs.declared.resolved.Body.{Body}
 use Rattle.binding_graph.specs.declared.resolved.CheckCode.{CheckCode}
-use Rattle.candidates.specs.Space.{Candidate}
-use Rattle.cat_eval.specs.declared.column.Column.{Column}
-use Rattle.cat_eval.specs.Columns.{AreGroupColumns}
-use Rattle.cat_eval.specs.Executions.{events_of}
-use Rattle.cat_eval.specs.Values.{AreAnswers}
+use Rattle.candidate_spaces.specs.Space.{Candidate}
+use Rattle.cat_machine.specs.declared.column.Column.{Column}
+use Rattle.cat_machine.specs.Columns.{AreGroupColumns}
+use Rattle.cat_machine.specs.Executions.{events_of}
+use Rattle.cat_machine.specs.Values.{AreAnswers}
 use Rattle.order_growth.specs.Within.{HasExpression, AreBodyExpressions}
 use Rattle.whole_outcomes.specs.Whole.{AreAmong, AreInputsKept, AreColumnsKept, AreAnswersKept, IsColumnBelow, AreBelowAll}
 

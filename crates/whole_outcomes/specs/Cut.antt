@@ -1,10 +1,9 @@
--- A space without candidates that a check refuses. Read `Sublists` of kept_orders first. Read next:
--- Laws.
+-- A space without candidates that a check refuses. Read `Sublists` first. Read next: Laws.
 use Rattle.std.specs.Prelude.{ℕ, ◌≡◌, Bool, false, List, Some, slice_get}
 use Rattle.binding_graph.specs.declared.resolved.ResolvedItem.{ResolvedItem}
-use Rattle.candidates.specs.declared.candidate.Space.{Space}
-use Rattle.candidates.specs.Space.{candidates_in, shown_of}
-use Rattle.kept_orders.specs.Sublists.{LeavesOut}
+use Rattle.candidate_spaces.specs.declared.candidate.Space.{Space}
+use Rattle.candidate_spaces.specs.Space.{candidates_in, shown_of}
+use Rattle.whole_outcomes.specs.Sublists.{LeavesOut}
 use Rattle.from_scratch.specs.Answers.{AreItemColumns, HasAnswers}
 
 -- all answers that the check may have refuse the candidate at this index; the items before it are

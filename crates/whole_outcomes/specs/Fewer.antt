@@ -1,9 +1,9 @@
 -- Executions without some that a check refuses. Read next: FewerLaws.
 use Rattle.std.specs.Prelude.{ℕ, ◌≡◌, Bool, false, List, map}
 use Rattle.std.specs.List.{AllZip}
-use Rattle.candidates.specs.Space.{Shown}
-use Rattle.kept_orders.specs.Sublists.{LeavesOut}
-use Rattle.verdict.specs.Kept.{Flag, holds_at, is_kept}
+use Rattle.candidate_spaces.specs.Space.{Shown}
+use Rattle.whole_outcomes.specs.Sublists.{LeavesOut}
+use Rattle.outcome_states.specs.Kept.{Flag, holds_at, is_kept}
 
 -- checks say the same at an index among all executions as at one among the fewer
 abbrev pub AgreeAt : List (List Bool) → List (List Bool) → ℕ → ℕ → Type 0

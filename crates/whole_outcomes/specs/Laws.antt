@@ -4,8 +4,8 @@ use Rattle.text_values.specs.declared.test.Test.{Test}
 use Rattle.binding_graph.specs.declared.resolved.CheckCode.{CheckCode}
 use Rattle.binding_graph.specs.declared.resolved.ResolvedItem.{ResolvedItem}
 use Rattle.binding_graph.specs.declared.resolved.Role.TheVariants.{Check}
-use Rattle.candidates.specs.declared.candidate.Space.{Space}
-use Rattle.verdict.specs.declared.answer.Evaluation.{Evaluation}
+use Rattle.candidate_spaces.specs.declared.candidate.Space.{Space}
+use Rattle.outcome_states.specs.declared.answer.Evaluation.{Evaluation}
 use Rattle.from_scratch.specs.Cell.{IsEvaluationBy}
 use Rattle.order_growth.specs.Coded.{AreOfExpressions}
 use Rattle.whole_outcomes.specs.Cut.{IsCut}

@@ -2,9 +2,12 @@ pub mod ColumnLaws
 pub mod Cut
 pub mod Fewer
 pub mod FewerLaws
+pub mod Kept
+pub mod KeptRows
 pub mod Laws
 pub mod NameLaws
 pub mod RelationLaws
+pub mod Sublists
 pub mod ValueLaws
 pub mod Values
 pub mod Whole

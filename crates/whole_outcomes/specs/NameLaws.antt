@@ -1,8 +1,8 @@
 -- What a predefined name has in a candidate can be told. Read `Candidate` of base_names first. Read
 -- next: Values.
 use Rattle.std.specs.Prelude.{ℕ, ◌⊎◌, List}
-use Rattle.text_values.specs.declared.predefined.Predefined.{Predefined}
-use Rattle.run_combinations.specs.declared.combination.Combination.{Combination}
+use Rattle.predefined_names.specs.declared.predefined.Predefined.{Predefined}
+use Rattle.store_orders.specs.declared.combination.Combination.{Combination}
 use Rattle.base_names.specs.Candidate.{SetIn, RelationIn}
 
 -- the fact holds, or it does not

@@ -1,7 +1,7 @@
 -- What a test tells of events is a set, and of pairs a relation. Read `Pairs` and `Relation` of
--- bit_relations first. Read next: NameLaws.
+-- bit_rows first. Read next: NameLaws.
 use Rattle.std.specs.Prelude.{ℕ, ◌<◌, ◌≤◌, Bool, IsTrue}
-use Rattle.bit_relations.specs.Relation.{Relation, Events, IsRelation, IsEvents}
+use Rattle.bit_rows.specs.Relation.{Relation, Events, IsRelation, IsEvents}
 
 -- A test of events tells a set of the first n.
 abbrev pub TestsAreSets : Type 0

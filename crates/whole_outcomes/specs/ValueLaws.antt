@@ -2,13 +2,13 @@
 -- Whole.
 use Rattle.std.specs.Prelude.{ℕ, Bool, List}
 use denote.Ref.{Bor}
-use Rattle.bit_relations.specs.Relation.{Relation, Events}
+use Rattle.bit_rows.specs.Relation.{Relation, Events}
 use Rattle.binding_graph.specs.declared.resolved.Body.{Body}
 use Rattle.binding_graph.specs.declared.resolved.CheckCode.{CheckCode}
-use Rattle.candidates.specs.Space.{Candidate}
-use Rattle.cat_eval.specs.declared.column.Column.{Column}
-use Rattle.cat_eval.specs.Executions.{events_of, EventsAt, PairsAt}
-use Rattle.cat_eval.specs.Values.{IsCheckAnswer}
+use Rattle.candidate_spaces.specs.Space.{Candidate}
+use Rattle.cat_machine.specs.declared.column.Column.{Column}
+use Rattle.cat_machine.specs.Executions.{events_of, EventsAt, PairsAt}
+use Rattle.cat_machine.specs.Values.{IsCheckAnswer}
 use Rattle.order_growth.specs.Within.{HasExpression, AreBodyExpressions}
 use Rattle.whole_outcomes.specs.Values.{AreGroupValues, AreInputsBelow}
 

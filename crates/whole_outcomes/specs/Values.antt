@@ -1,17 +1,17 @@
 -- The values of the names of a group in one candidate, whether or not anything computes them. Read
--- `Meaning` and `Least` of cat_eval first. Read next: ValueLaws.
+-- `Meaning` and `Least` of cat_machine first. Read next: ValueLaws.
 use Rattle.std.specs.Prelude.{ℕ, ◌<◌, Bool, true, false, List, length, slice_get, slice_index_or}
 use denote.Ref.{Bor}
-use Rattle.bit_relations.specs.Relation.{Relation, Events, no_slot}
+use Rattle.bit_rows.specs.Relation.{Relation, Events, no_slot}
 use Rattle.binding_graph.specs.declared.resolved.Body.{Body}
 use Rattle.binding_graph.specs.Trees.{RelTree}
-use Rattle.candidates.specs.Space.{Candidate}
-use Rattle.cat_eval.specs.declared.column.Column.{Column}
-use Rattle.cat_eval.specs.Executions.{events_of, EventsAt, PairsAt}
-use Rattle.cat_eval.specs.Least.{IsLeast, AreMonotone}
-use Rattle.cat_eval.specs.Named.{InputEvents, InputPairs}
-use Rattle.cat_eval.specs.Rising.{AreCodes}
-use Rattle.cat_eval.specs.Values.{IsMeaning}
+use Rattle.candidate_spaces.specs.Space.{Candidate}
+use Rattle.cat_machine.specs.declared.column.Column.{Column}
+use Rattle.cat_machine.specs.Executions.{events_of, EventsAt, PairsAt}
+use Rattle.cat_machine.specs.Least.{IsLeast, AreMonotone}
+use Rattle.cat_machine.specs.Named.{InputEvents, InputPairs}
+use Rattle.cat_machine.specs.Rising.{AreCodes}
+use Rattle.cat_machine.specs.Values.{IsMeaning}
 
 abbrev pub no_set : Events
 no_set = record { count = 0; word = 0 }

@@ -1,14 +1,15 @@
--- Values over all candidates and over fewer of them. Read `Columns` of cat_eval first.
+-- Values over all candidates and over fewer of them. Read `Columns` of cat_machine
+-- first.
 -- Read next: ColumnLaws.
 use Rattle.std.specs.Prelude.{ℕ, ◌≡◌, ◌<◌, Bool, List, length, Option, Some, slice_get}
 use Rattle.std.specs.List.{AllZip}
 use denote.Ref.{Bor}
-use Rattle.dataflow.specs.DependencyLists.{dependency_lists}
-use Rattle.candidates.specs.Space.{Candidate}
-use Rattle.cat_eval.specs.declared.column.Column.{Column}
-use Rattle.cat_eval.specs.declared.column.Column.TheVariants as columns
-use Rattle.cat_eval.specs.Executions.{events_of}
-use Rattle.cat_eval.specs.Named.{ColumnEvents, ColumnPairs}
+use Rattle.taints.specs.DependencyLists.{dependency_lists}
+use Rattle.candidate_spaces.specs.Space.{Candidate}
+use Rattle.cat_machine.specs.declared.column.Column.{Column}
+use Rattle.cat_machine.specs.declared.column.Column.TheVariants as columns
+use Rattle.cat_machine.specs.Executions.{events_of}
+use Rattle.cat_machine.specs.Named.{ColumnEvents, ColumnPairs}
 use Rattle.whole_outcomes.specs.Values.{AreInputsBelow}
 
 -- both have the same events, dependencies, reads-from and coherence

@@ -3,8 +3,11 @@
 //! what names and checks have in a candidate can be told.
 //!
 //! Read specs/RelationLaws and NameLaws first, then Values and ValueLaws, Whole and ColumnLaws,
-//! Fewer and FewerLaws, Cut and Laws.
+//! Fewer and FewerLaws, Cut and Laws. Orders of stores that are made of kept rows have specs/Kept,
+//! then specs/KeptRows.
 #![tactic(auto)]
+
+mod kept_rows;
 
 ghost use Rattle.whole_outcomes.specs.RelationLaws.{TestsAreSets, TestsAreRelations};
 ghost use Rattle.whole_outcomes.specs.NameLaws.{NamesAreTold};
@@ -14,6 +17,7 @@ ghost use Rattle.whole_outcomes.specs.FewerLaws.{OutcomeOverFewer};
 ghost use Rattle.whole_outcomes.specs.Laws.{EvaluationOverCut};
 
 use binding_graph::{Body, CheckCode};
+pub use kept_rows::orders_have_kept_rows;
 use run_combinations::Combination;
 
 /// A test of events tells a set of the first n.

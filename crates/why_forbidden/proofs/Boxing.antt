@@ -10,7 +10,7 @@ use Rattle.std.proofs.lemmas.Option.{same_Some, slice_get_within}
 use Rattle.cat_eval.proofs.Visits.{get_more}
 use Rattle.draw_graph.specs.declared.drawing.Cluster.{Cluster}
 use Rattle.why_text.specs.declared.event.ToldEvent.{ToldEvent}
-use Rattle.run_combinations.specs.declared.combination.Event.{Event}
+use Rattle.store_orders.specs.declared.combination.Event.{Event}
 use Rattle.why_forbidden.specs.Drawings.{AreBoxes, AreClusters, HasThread, IsBox, IsBoxed, IsCluster, box_numbers}
 use Rattle.why_forbidden.specs.Told.{Scene}
 

@@ -6,14 +6,14 @@ use Rattle.std.specs.Option.{is_none, is_some}
 use Rattle.std.proofs.lemmas.List.{length-append, length-map}
 use Rattle.std.proofs.lemmas.Option.{same_Some, slice_get-map, slice_get_within}
 use Rattle.std.proofs.lemmas.Slice.Zip.{AllZip-long}
-use Rattle.bit_relations.specs.Relation.{Events, IsEvents, IsMember}
+use Rattle.bit_rows.specs.Relation.{Events, IsEvents, IsMember}
 use Rattle.binding_graph.specs.declared.resolved.ResolvedItem.{ResolvedItem}
-use Rattle.candidates.specs.declared.candidate.Space.{Space}
-use Rattle.candidates.specs.declared.execution.Execution.{Execution}
+use Rattle.candidate_spaces.specs.declared.candidate.Space.{Space}
+use Rattle.candidate_spaces.specs.declared.execution.Execution.{Execution}
 use Rattle.candidates.specs.Listed.{ListsExecutions, ShowsExecution}
-use Rattle.candidates.specs.Space.{Candidate, IsShownAt, Shown, candidate_count, candidates_in, shown_by, shown_in, shown_of}
+use Rattle.candidate_spaces.specs.Space.{Candidate, IsShownAt, Shown, candidate_count, candidates_in, shown_by, shown_in, shown_of}
 use Rattle.text_values.specs.declared.model.ModelText.{ModelText}
-use Rattle.text_values.specs.declared.predefined.TheConstants.{PREDEFINED}
+use Rattle.predefined_names.specs.declared.predefined.TheConstants.{PREDEFINED}
 use Rattle.draw_graph.specs.declared.drawing.Cluster.{Cluster}
 use Rattle.draw_graph.specs.declared.drawing.Drawing.{Drawing}
 use Rattle.draw_graph.specs.Drawn.{IsDrawnEvent}
@@ -27,7 +27,7 @@ use Rattle.from_scratch.proofs.Knowing.{item_at}
 use Rattle.from_scratch.proofs.Ordered.{resolved_ordered}
 use Rattle.from_scratch.proofs.Rising.{resolved_rising}
 use Rattle.why_text.specs.declared.event.ToldEvent.{ToldEvent}
-use Rattle.run_combinations.specs.declared.combination.Event.{Event}
+use Rattle.store_orders.specs.declared.combination.Event.{Event}
 use Rattle.verdict.specs.Evaluated.{is_satisfied}
 use Rattle.why_forbidden.specs.declared.checks.CheckValues.{CheckValues}
 use Rattle.why_forbidden.specs.declared.checks.FirstRefusal.{FirstRefusal}

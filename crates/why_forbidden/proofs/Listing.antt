@@ -2,8 +2,8 @@
 use Rattle.std.proofs.Common.{ℕ, ◌≡◌, ◌<◌, ◌+◌, ◌∙◌, List, [], ◌∷◌, ◌++◌, length, get_or, take, refl, ap, sym, append_assoc, arith, cond, true, false}
 use Rattle.std.proofs.lemmas.List.{append-nil, map-append, take_more, length-take-le}
 use Rattle.std.proofs.lemmas.List.Elements.{filter_more}
-use Rattle.text_values.specs.PredefinedNames.{is_set}
-use Rattle.text_values.specs.declared.predefined.Predefined.{Predefined}
+use Rattle.predefined_names.specs.PredefinedNames.{is_set}
+use Rattle.predefined_names.specs.declared.predefined.Predefined.{Predefined}
 use Rattle.why_labels.specs.declared.label.PredefinedValue.{PredefinedValue}
 use Rattle.why_forbidden.specs.Language.{is_relation_name, valued_names, relation_names}
 use Rattle.binding_graph.specs.declared.resolved.ResolvedItem.{ResolvedItem}

@@ -3,17 +3,17 @@ use Rattle.std.proofs.Common.{ℕ, zero, suc, ◌≡◌, ◌<◌, ◌+◌, ◌�
 use Rattle.std.proofs.lemmas.List.{take_more}
 use Rattle.binding_graph.proofs.Labels.{zip_push}
 use Rattle.std.specs.List.{AllZip}
-use Rattle.bit_relations.specs.Pairs.{Restriction}
-use Rattle.bit_relations.specs.Relation.{Events, IsRelation, Relation}
+use Rattle.bit_rows.specs.Pairs.{Restriction}
+use Rattle.bit_rows.specs.Relation.{Events, IsRelation, Relation}
 use Rattle.binding_kinds.specs.declared.kinds.Kind.TheVariants as kinds
 use Rattle.binding_graph.specs.declared.resolved.Source.TheVariants as sources
 use Rattle.binding_graph.specs.Trees.{RelName}
-use Rattle.candidates.specs.declared.candidate.Space.{Space}
-use Rattle.candidates.specs.Space.{Candidate}
-use Rattle.cat_eval.specs.Columns.{HasColumnValue}
-use Rattle.cat_eval.specs.Executions.{events_of, EventsAt, PairsAt}
-use Rattle.cat_eval.specs.Values.{IsFor, IsMeaning}
-use Rattle.text_values.specs.declared.predefined.Predefined.{Predefined}
+use Rattle.candidate_spaces.specs.declared.candidate.Space.{Space}
+use Rattle.candidate_spaces.specs.Space.{Candidate}
+use Rattle.cat_machine.specs.Columns.{HasColumnValue}
+use Rattle.cat_machine.specs.Executions.{events_of, EventsAt, PairsAt}
+use Rattle.cat_machine.specs.Values.{IsFor, IsMeaning}
+use Rattle.predefined_names.specs.declared.predefined.Predefined.{Predefined}
 use Rattle.draw_graph.specs.declared.drawing.Edges.{Edges}
 use Rattle.draw_graph.specs.declared.drawing.Ink.{Ink}
 use Rattle.draw_graph.specs.Drawn.{AreEdges, Drawn, DrawnAmong, IsStrictOrder}

@@ -5,8 +5,8 @@ use denote.Ref.{Bor}
 use Rattle.binding_graph.specs.declared.resolved.ResolvedItem.{ResolvedItem}
 use Rattle.binding_graph.specs.declared.resolved.Role.{Role}
 use Rattle.binding_graph.specs.declared.resolved.Role.TheVariants as roles
-use Rattle.candidates.specs.declared.candidate.Space.{Space}
-use Rattle.cat_eval.specs.declared.column.Column.{Column}
+use Rattle.candidate_spaces.specs.declared.candidate.Space.{Space}
+use Rattle.cat_machine.specs.declared.column.Column.{Column}
 use Rattle.text_values.specs.declared.model.CheckWord.TheVariants as words
 use Rattle.why_witness.specs.Refusals.{IsWitness}
 use Rattle.why_witness.specs.Values.{AreValues}

@@ -2,10 +2,10 @@
 -- Drawings says what comes of it.
 use Rattle.std.specs.Prelude.{ℕ, ◌≡◌, ◌<◌, Bool, true, false, List, Option, length}
 use Rattle.std.specs.List.{All, AllZip}
-use Rattle.cat_eval.specs.Executions.{events_of}
-use Rattle.text_values.specs.declared.predefined.Predefined.{Predefined}
-use Rattle.candidates.specs.declared.candidate.Space.{Space}
-use Rattle.candidates.specs.Space.{Candidate}
+use Rattle.cat_machine.specs.Executions.{events_of}
+use Rattle.predefined_names.specs.declared.predefined.Predefined.{Predefined}
+use Rattle.candidate_spaces.specs.declared.candidate.Space.{Space}
+use Rattle.candidate_spaces.specs.Space.{Candidate}
 use Rattle.draw_graph.specs.declared.drawing.Drawing.{Drawing}
 use Rattle.draw_graph.specs.declared.drawing.Edges.{Edges}
 use Rattle.draw_graph.specs.declared.drawing.Ink.{Ink}

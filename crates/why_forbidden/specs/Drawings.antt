@@ -9,21 +9,21 @@ use Rattle.binding_graph.specs.declared.resolved.ResolvedItem.{ResolvedItem}
 use Rattle.binding_graph.specs.declared.resolved.Source.TheVariants as sources
 use Rattle.binding_kinds.specs.declared.fault.ModelFault.{ModelFault}
 use Rattle.binding_kinds.specs.Numbers as model_faults
-use Rattle.candidates.specs.declared.candidate.Space.{Space}
-use Rattle.ppc_semantics.specs.declared.fault.EvalRefusal.{EvalRefusal}
+use Rattle.candidate_spaces.specs.declared.candidate.Space.{Space}
+use Rattle.ppc_lowering.specs.declared.fault.EvalRefusal.{EvalRefusal}
 use Rattle.candidates.specs.Listed.{ListsExecutions, IsSpaceRefusal}
-use Rattle.ppc_semantics.specs.Numbers as refusals
-use Rattle.candidates.specs.Space.{Candidate, candidate_count, candidates_in, shown_of}
-use Rattle.cat_eval.specs.Executions.{events_of, PairsAt}
+use Rattle.ppc_lowering.specs.Numbers as refusals
+use Rattle.candidate_spaces.specs.Space.{Candidate, candidate_count, candidates_in, shown_of}
+use Rattle.cat_machine.specs.Executions.{events_of, PairsAt}
 use Rattle.cat_printing.specs.Printing.{printed_item}
 use Rattle.text_values.specs.declared.model.Item.{Item}
 use Rattle.text_values.specs.declared.model.ModelText.{ModelText}
-use Rattle.text_values.specs.declared.predefined.Predefined.{Predefined}
-use Rattle.text_values.specs.declared.predefined.Predefined.TheVariants as names
-use Rattle.text_values.specs.declared.predefined.TheConstants.{PREDEFINED}
-use Rattle.text_values.specs.PredefinedNames.{spelling}
+use Rattle.predefined_names.specs.declared.predefined.Predefined.{Predefined}
+use Rattle.predefined_names.specs.declared.predefined.Predefined.TheVariants as names
+use Rattle.predefined_names.specs.declared.predefined.TheConstants.{PREDEFINED}
+use Rattle.predefined_names.specs.PredefinedNames.{spelling}
 use Rattle.text_values.specs.ModelValues.{clause_of}
-use Rattle.why_origins.specs.Origins.{AreInstructions}
+use Rattle.why_text.specs.Origins.{AreInstructions}
 use Rattle.why_witness.specs.Pairs.{HasPair}
 use Rattle.draw_graph.specs.declared.drawing.Cluster.{Cluster}
 use Rattle.draw_graph.specs.declared.drawing.Drawing.{Drawing}
@@ -42,7 +42,7 @@ use Rattle.from_scratch.specs.Known.{HasAllColumns}
 use Rattle.why_text.specs.declared.event.ToldEvent.{ToldEvent}
 use Rattle.why_text.specs.declared.reason.Reason.{Reason}
 use Rattle.why_text.specs.declared.reason.ToldStep.{ToldStep}
-use Rattle.run_combinations.specs.declared.combination.Event.{Event}
+use Rattle.store_orders.specs.declared.combination.Event.{Event}
 use Rattle.draw_relations.specs.declared.values.ShownValues.{ShownValues}
 use Rattle.draw_relations.specs.Values.{AreAllShown}
 use Rattle.why_labels.specs.declared.label.NameValues.{NameValues}

@@ -3,8 +3,8 @@
 use Rattle.std.specs.Prelude.{◌≡◌, List}
 use Rattle.std.specs.List.{All}
 use Rattle.binding_graph.specs.declared.resolved.ResolvedItem.{ResolvedItem}
-use Rattle.candidates.specs.declared.candidate.Space.{Space}
-use Rattle.text_values.specs.declared.predefined.TheConstants.{PREDEFINED}
+use Rattle.candidate_spaces.specs.declared.candidate.Space.{Space}
+use Rattle.predefined_names.specs.declared.predefined.TheConstants.{PREDEFINED}
 use Rattle.from_scratch.specs.Answers.{AreSoundItems}
 use Rattle.from_scratch.specs.Known.{HasAllColumns}
 use Rattle.why_forbidden.specs.declared.evaluated.Evaluated.{Evaluated}

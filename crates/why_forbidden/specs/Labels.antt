@@ -5,7 +5,7 @@ use Rattle.binding_graph.specs.declared.resolved.Body.{Body}
 use Rattle.binding_graph.specs.declared.resolved.Code.{Code}
 use Rattle.binding_graph.specs.declared.resolved.ResolvedItem.{ResolvedItem}
 use Rattle.text_values.specs.declared.model.Item.{Item}
-use Rattle.text_values.specs.PredefinedNames.{spelling}
+use Rattle.predefined_names.specs.PredefinedNames.{spelling}
 use Rattle.why_labels.specs.declared.label.EventPair.{EventPair}
 use Rattle.why_labels.specs.declared.label.NameValues.{NameValues}
 use Rattle.why_labels.specs.declared.unions.ModelName.{ModelName}

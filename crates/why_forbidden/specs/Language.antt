@@ -4,9 +4,9 @@ use Rattle.binding_kinds.specs.declared.kinds.Kind.TheVariants as kinds
 use Rattle.binding_graph.specs.declared.resolved.Code.{Code}
 use Rattle.binding_graph.specs.declared.resolved.Source.TheVariants as sources
 use Rattle.binding_graph.specs.declared.resolved.Step.TheVariants as steps
-use Rattle.text_values.specs.PredefinedNames.{is_set}
-use Rattle.text_values.specs.declared.predefined.Predefined.{Predefined}
-use Rattle.candidates.specs.declared.candidate.Space.{Space}
+use Rattle.predefined_names.specs.PredefinedNames.{is_set}
+use Rattle.predefined_names.specs.declared.predefined.Predefined.{Predefined}
+use Rattle.candidate_spaces.specs.declared.candidate.Space.{Space}
 use Rattle.why_witness.specs.Values.{AreValues}
 use Rattle.why_labels.specs.declared.label.PredefinedValue.{PredefinedValue}
 

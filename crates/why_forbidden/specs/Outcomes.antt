@@ -3,9 +3,9 @@
 use Rattle.std.specs.Prelude.{ℕ, ◌≡◌, ◌+◌, ◌==◌, List, [], ◌∷◌, ◌++◌, Bool, true, false, if◌then◌else◌, length, Some, slice_get}
 use Rattle.text_values.specs.declared.test.Test.{Test}
 use Rattle.text_values.specs.TestValue.{formula_of}
-use Rattle.candidates.specs.declared.candidate.Space.{Space}
-use Rattle.candidates.specs.Space.{Shown, shown_in}
-use Rattle.why_origins.specs.Origins.{AreInstructions}
+use Rattle.candidate_spaces.specs.declared.candidate.Space.{Space}
+use Rattle.candidate_spaces.specs.Space.{Shown, shown_in}
+use Rattle.why_text.specs.Origins.{AreInstructions}
 use Rattle.verdict.specs.Evaluated.{is_satisfied}
 use Rattle.why_text.specs.declared.event.ToldEvent.{ToldEvent}
 use Rattle.why_text.specs.declared.reason.Reason.{Reason}

@@ -8,7 +8,7 @@ use Rattle.cat_printing.specs.Printing.{printed_item}
 use Rattle.why_witness.specs.declared.witness.Witness.{Witness}
 use Rattle.why_text.specs.declared.event.ToldEvent.{ToldEvent}
 use Rattle.why_text.specs.declared.reason.Reason.{Reason}
-use Rattle.run_combinations.specs.declared.combination.Event.{Event}
+use Rattle.store_orders.specs.declared.combination.Event.{Event}
 use Rattle.thread_runs.specs.declared.instruction.Instruction.{Instruction}
 use Rattle.why_forbidden.specs.declared.checks.CheckValues.{CheckValues}
 use Rattle.why_forbidden.specs.Labels.{Judgement}

@@ -1,7 +1,7 @@
 -- What the code keeps of a case, as the definitions name it.
 use Rattle.std.specs.Prelude.{ℕ, ◌≡◌, ◌+◌, List, [], ◌∷◌, ◌++◌, Bool, true, Option}
 use Rattle.text_values.specs.declared.test.Test.{Test}
-use Rattle.candidates.specs.declared.candidate.Space.{Space}
+use Rattle.candidate_spaces.specs.declared.candidate.Space.{Space}
 use Rattle.why_text.specs.declared.event.ToldEvent.{ToldEvent}
 use Rattle.why_text.specs.declared.finding.Findings.{Findings}
 use Rattle.why_text.specs.declared.reason.Reason.{Reason}
@@ -15,7 +15,7 @@ use Rattle.why_forbidden.specs.Labels.{Judgement}
 use Rattle.why_forbidden.specs.Outcomes.{Case, IsCandidate, IsOther, IsKeptCandidate, IsForbiddenCandidate, AreFindings, first_shown}
 use Rattle.why_forbidden.specs.Steps.{StepStart, StepLeg}
 use Rattle.why_forbidden.specs.Told.{Scene}
-use Rattle.why_origins.specs.Origins.{AreInstructions}
+use Rattle.why_text.specs.Origins.{AreInstructions}
 use Rattle.why_labels.specs.declared.label.EventPair.{EventPair}
 use Rattle.why_labels.specs.declared.unions.ModelName.{ModelName}
 use Rattle.why_labels.specs.Labels.{Relates, IsInnermost}

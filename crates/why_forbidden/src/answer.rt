@@ -1,8 +1,8 @@
 //! Which executions satisfy what a test asks for, and why a model forbids them.
 
 ghost use Rattle.std.specs.Prelude.{◌≡◌, ◌++◌, ◌-◌, ◌^◌, ◌<◌, ◌≤◌, IfOk, OnOk};
-ghost use Rattle.candidates.specs.Space.{candidate_count, IsShownAt};
-ghost use Rattle.why_origins.specs.Origins.{AreAllRuns};
+ghost use Rattle.candidate_spaces.specs.Space.{candidate_count, IsShownAt};
+ghost use Rattle.why_text.specs.Origins.{AreAllRuns};
 ghost use Rattle.from_scratch.specs.Answers.{AreSoundItems};
 ghost use Rattle.why_forbidden.specs.Checked.{IsFirstRefusal};
 ghost use Rattle.why_forbidden.specs.Outcomes.{IsReasonFor};
@@ -19,9 +19,9 @@ use litmus_printing::print_condition;
 use ppc_semantics::Run;
 use std::alloc::{AllocError, Global};
 use text_values::{ModelText, Test, put_bytes, put_decimal};
-use why_origins::{all_runs, instructions_of};
-use why_satisfied::is_satisfied;
-use why_text::{Findings, Reason, ToldEvent, put_findings};
+use why_text::{
+    Findings, Reason, ToldEvent, all_runs, instructions_of, is_satisfied, put_findings,
+};
 
 /// What is asked of `why`.
 #[derive(Clone, Copy, Debug, PartialEq, Eq)]

@@ -1,7 +1,7 @@
 //! The boxes of a drawing: its events.
 
 ghost use Rattle.std.specs.Prelude.{◌≡◌, ◌<◌, ◌↔◌, IfOk, IsTrue, None, Some, length, slice_get, slice_index_or};
-ghost use Rattle.bit_relations.specs.Relation.{IsMember};
+ghost use Rattle.bit_rows.specs.Relation.{IsMember};
 ghost use Rattle.why_forbidden.specs.Drawings.{AreBoxesOf, AreClusters, HasThread, IsBoxed, IsCluster};
 ghost use Rattle.why_forbidden.specs.Views.{scene_of};
 

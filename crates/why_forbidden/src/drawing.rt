@@ -3,11 +3,11 @@
 ghost use Rattle.std.specs.Prelude.{◌≡◌, ◌<◌, ◌^◌, IfOk, false, length};
 ghost use Rattle.std.specs.List.{All};
 ghost use Rattle.candidates.specs.Listed.{ListsExecutions};
-ghost use Rattle.candidates.specs.Space.{IsShownAt, candidate_count};
-ghost use Rattle.why_origins.specs.Origins.{AreAllRuns};
+ghost use Rattle.candidate_spaces.specs.Space.{IsShownAt, candidate_count};
+ghost use Rattle.why_text.specs.Origins.{AreAllRuns};
 ghost use Rattle.from_scratch.specs.FromScratch.{AreItemsOf, IsFaultless};
 ghost use Rattle.why_forbidden.specs.Drawable.{AddsDrawing, AreEdgesAt, AreReady, HasCount, IsGraphAt, subject_of};
-ghost use Rattle.bit_relations.specs.Relation.{IsMember};
+ghost use Rattle.bit_rows.specs.Relation.{IsMember};
 ghost use Rattle.why_forbidden.specs.Drawings.{AreDrawingsOf, AreDrawn, AreSteps, IsCheckText, IsDrawn, IsFate, step_ends};
 ghost use Rattle.why_forbidden.specs.Drawings.{IsFirstRefusalIfAny, comment_end, comment_front, refused_comment, title_text};
 ghost use Rattle.why_forbidden.specs.Drawings as drawings;
@@ -29,9 +29,7 @@ use draw_scene::{Format, put_unless_skipped};
 use ppc_semantics::Run;
 use std::alloc::{AllocError, Global};
 use text_values::{ModelText, Test, put_bytes, put_decimal};
-use why_origins::{all_runs, instructions_of};
-use why_satisfied::is_satisfied;
-use why_text::{Telling, ToldStep};
+use why_text::{Telling, ToldStep, all_runs, instructions_of, is_satisfied};
 
 /// Which executions are drawn.
 #[derive(Clone, Copy)]

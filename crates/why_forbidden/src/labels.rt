@@ -2,7 +2,7 @@
 
 ghost use Rattle.std.specs.Prelude.{◌≡◌, ◌++◌, IfOk, codes, slice_get};
 ghost use Rattle.std.specs.List.{All};
-ghost use Rattle.text_values.specs.declared.predefined.TheConstants.{PREDEFINED};
+ghost use Rattle.predefined_names.specs.declared.predefined.TheConstants.{PREDEFINED};
 ghost use Rattle.why_forbidden.specs.Labels.{IsBehind, IsInner, IsStepLabel, IsNamed, item_inputs_of, names_inside_name, spelled};
 ghost use Rattle.why_forbidden.specs.Language.{IsOfLanguage, valued_names, relation_names};
 ghost use Rattle.why_forbidden.specs.Views.{IsInnermostOf, judgement_of};

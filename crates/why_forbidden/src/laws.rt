@@ -1,7 +1,7 @@
 //! Laws of the reasons that are told. Read specs/Laws first.
 
 ghost use Rattle.std.specs.Prelude.{List};
-ghost use Rattle.candidates.specs.declared.candidate.Space.{Space};
+ghost use Rattle.candidate_spaces.specs.declared.candidate.Space.{Space};
 ghost use Rattle.why_forbidden.specs.declared.checks.CheckValues.{CheckValues};
 ghost use Rattle.why_forbidden.specs.Laws.{HasOneFirstRefusal, HasSameStarts, HasWalkBack};
 

@@ -3,11 +3,11 @@
 ghost use Rattle.std.specs.Prelude.{◌≡◌, ◌≤◌, ◌↔◌, ℕ, IfOk};
 ghost use Rattle.std.specs.List.{All, AllZip};
 ghost use Rattle.binding_kinds.specs.declared.kinds.Kind.TheVariants as kinds;
-ghost use Rattle.bit_relations.specs.Relation.{Events, Has, IsMember, IsRelation, Relation};
-ghost use Rattle.candidates.specs.Space.{Candidate};
-ghost use Rattle.cat_eval.specs.Columns.{HasColumnValue};
-ghost use Rattle.cat_eval.specs.Executions.{events_of};
-ghost use Rattle.cat_eval.specs.Values.{IsFor};
+ghost use Rattle.bit_rows.specs.Relation.{Events, Has, IsMember, IsRelation, Relation};
+ghost use Rattle.candidate_spaces.specs.Space.{Candidate};
+ghost use Rattle.cat_machine.specs.Columns.{HasColumnValue};
+ghost use Rattle.cat_machine.specs.Executions.{events_of};
+ghost use Rattle.cat_machine.specs.Values.{IsFor};
 ghost use Rattle.why_witness.specs.Pairs.{HasPair};
 ghost use Rattle.why_forbidden.specs.Drawable.{AreAllLinesAt, AreLinesAt, AreValuesOf, HasCount};
 ghost use Rattle.why_forbidden.specs.Drawings.{AreShownLines, IsCandidateAt, PairsOfName};

@@ -2,7 +2,7 @@
 use Rattle.std.proofs.Common.{◌≡◌, List, [], Some, None, refl, arith}
 use Rattle.binding_kinds.specs.declared.scope.Input.{Input}
 use Rattle.binding_graph.specs.declared.resolved.ResolvedItem.{ResolvedItem}
-use Rattle.text_values.specs.declared.predefined.Predefined.{Predefined}
+use Rattle.predefined_names.specs.declared.predefined.Predefined.{Predefined}
 use Rattle.why_labels.specs.declared.unions.ModelName.{ModelName}
 use Rattle.why_labels.specs.declared.unions.ModelName.TheVariants as names
 use Rattle.why_labels.specs.Labels.{IsFirstOf, IsInnermost, NoName, Itself, Inside}

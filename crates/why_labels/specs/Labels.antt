@@ -3,8 +3,8 @@ use Rattle.std.specs.Prelude.{ℕ, ◌≡◌, ◌<◌, List, length, slice_index
 use Rattle.std.specs.List.{Any}
 use Rattle.binding_kinds.specs.declared.scope.Input.{Input}
 use Rattle.binding_graph.specs.declared.resolved.ResolvedItem.{ResolvedItem}
-use Rattle.cat_eval.specs.declared.column.Column.{Column}
-use Rattle.text_values.specs.declared.predefined.Predefined.{Predefined}
+use Rattle.cat_machine.specs.declared.column.Column.{Column}
+use Rattle.predefined_names.specs.declared.predefined.Predefined.{Predefined}
 use Rattle.why_witness.specs.Pairs.{HasPair}
 use Rattle.why_labels.specs.declared.label.EventPair.{EventPair}
 use Rattle.why_labels.specs.declared.label.NameValues.{NameValues}

@@ -4,10 +4,10 @@ use Rattle.litmus_printing.specs.Printing.{fence_text}
 use Rattle.thread_runs.specs.declared.instruction.Instruction.{Instruction}
 use Rattle.thread_runs.specs.declared.instruction.Instruction.TheVariants as instructions
 use Rattle.thread_runs.specs.declared.value.Value.{Value}
-use Rattle.run_combinations.specs.declared.combination.Action.{Action}
-use Rattle.run_combinations.specs.declared.combination.Action.TheVariants as actions
-use Rattle.verdict.specs.Final.{value_shown}
-use Rattle.verdict.specs.Text.{name_at, value_text}
+use Rattle.store_orders.specs.declared.combination.Action.{Action}
+use Rattle.store_orders.specs.declared.combination.Action.TheVariants as actions
+use Rattle.outcome_states.specs.Final.{value_shown}
+use Rattle.outcome_states.specs.Text.{name_at, value_text}
 use Rattle.why_text.specs.declared.event.ToldEvent.{ToldEvent}
 
 -- the letters from `a` on, and behind `z` again with a number: `a1`

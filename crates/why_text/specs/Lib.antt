@@ -1,3 +1,5 @@
 pub mod Events
-pub mod Reasons
 pub mod Findings
+pub mod OfRuns
+pub mod Origins
+pub mod Reasons

@@ -2,8 +2,8 @@
 
 ghost use Rattle.std.specs.Prelude.{◌≡◌, ◌++◌, OnOk};
 ghost use Rattle.std.specs.List.{flat_map};
-ghost use Rattle.verdict.specs.Final.{value_shown};
-ghost use Rattle.verdict.specs.Text.{value_text};
+ghost use Rattle.outcome_states.specs.Final.{value_shown};
+ghost use Rattle.outcome_states.specs.Text.{value_text};
 ghost use Rattle.why_text.specs.Events.{lettered, event_name, value_told, access_text, fence_told, action_text, thread_text, plain_access, indexed_access, instruction_text, instruction_told, event_line};
 
 use candidates::{Action, Event};

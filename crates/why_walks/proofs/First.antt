@@ -1,7 +1,7 @@
 -- The first walk is one.
 use Rattle.std.proofs.Common.{ℕ, ◌≡◌, ◌<◌, ◌≤◌, ◌∙◌, inl, inr, List, [], ◌∷◌, length, refl, sym, ap, subst, arith}
 use Rattle.std.proofs.lemmas.Bool.{cases_lt}
-use Rattle.bit_relations.specs.Relation.{Has}
+use Rattle.bit_rows.specs.Relation.{Has}
 use Rattle.relation_cycles.specs.Cycles.{IsShortestPath}
 use Rattle.relation_cycles.proofs.Steps.{same_place}
 use Rattle.why_walks.specs.declared.factor.Repeats.{Repeats}

@@ -4,22 +4,22 @@ use Rattle.std.specs.Prelude.{slice_get, Some}
 use Rattle.std.specs.List.{All}
 use Rattle.std.proofs.lemmas.List.Elements.{All-cons, All-tail}
 use denote.Ref.{Bor}
-use Rattle.bit_relations.specs.Pairs.{Path, Plus}
-use Rattle.bit_relations.specs.Relation.{Relation, Events, Has, IsRelation}
+use Rattle.bit_rows.specs.Pairs.{Path, Plus}
+use Rattle.bit_rows.specs.Relation.{Relation, Events, Has, IsRelation}
 use Rattle.binding_kinds.specs.declared.kinds.Kind.{Kind}
 use Rattle.binding_kinds.specs.declared.kinds.Kind.TheVariants as kinds
 use Rattle.binding_graph.specs.declared.resolved.Code.{Code}
 use Rattle.binding_graph.specs.declared.resolved.Source.{Source}
 use Rattle.binding_graph.specs.Trees.{RelTree, RelName, NoPair, BlendRelations, SequenceRelations, ProductOfSets, IdentityOn, Close, ComplementRelation, rel_code}
-use Rattle.candidates.specs.declared.candidate.Space.{Space}
-use Rattle.candidates.specs.Space.{candidates_in, Candidate}
-use Rattle.cat_eval.specs.declared.column.Column.{Column}
-use Rattle.cat_eval.specs.declared.column.Column.TheVariants as columns
-use Rattle.cat_eval.specs.Columns.{HasColumnValue}
-use Rattle.cat_eval.specs.Executions.{events_of, EventsAt, PairsAt}
-use Rattle.cat_eval.specs.Meaning.{MeansRelation}
-use Rattle.cat_eval.specs.Named.{WithOwn, OwnPairs}
-use Rattle.cat_eval.specs.Values.{IsFor, IsMeaning}
+use Rattle.candidate_spaces.specs.declared.candidate.Space.{Space}
+use Rattle.candidate_spaces.specs.Space.{candidates_in, Candidate}
+use Rattle.cat_machine.specs.declared.column.Column.{Column}
+use Rattle.cat_machine.specs.declared.column.Column.TheVariants as columns
+use Rattle.cat_machine.specs.Columns.{HasColumnValue}
+use Rattle.cat_machine.specs.Executions.{events_of, EventsAt, PairsAt}
+use Rattle.cat_machine.specs.Meaning.{MeansRelation}
+use Rattle.cat_machine.specs.Named.{WithOwn, OwnPairs}
+use Rattle.cat_machine.specs.Values.{IsFor, IsMeaning}
 use Rattle.why_witness.specs.Pairs.{HasPair}
 use Rattle.text_values.specs.declared.model.Postfix.TheVariants as postfix
 use Rattle.relation_cycles.specs.Cycles.{IsPathFrom}

@@ -6,9 +6,9 @@ use Rattle.std.proofs.Math.Seq.{drop-cons, get_or-append_seam}
 use Rattle.std.proofs.lemmas.Bool.{cases_lt}
 use Rattle.std.proofs.lemmas.List.{append-nil, drop_all, get_or_append_left, get_or_read, length-append}
 use Rattle.std.proofs.lemmas.List.Elements.{All-drop, All-tail}
-use Rattle.bit_relations.specs.Pairs.{Composite, Identity, Path, Plus}
-use Rattle.bit_relations.specs.Relation.{Relation, Has, IsRegular, IsRelation, no_slot}
-use Rattle.bit_relations.proofs.Closing.{Plus-within}
+use Rattle.bit_rows.specs.Pairs.{Composite, Identity, Path, Plus}
+use Rattle.bit_rows.specs.Relation.{Relation, Has, IsRegular, IsRelation, no_slot}
+use Rattle.bit_rows.proofs.Closing.{Plus-within}
 use Rattle.relation_cycles.specs.Cycles.{IsPathFrom}
 use Rattle.why_walks.specs.declared.factor.Repeats.{Repeats}
 use Rattle.why_walks.specs.declared.factor.Repeats.TheVariants as repeats

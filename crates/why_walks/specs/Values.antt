@@ -2,13 +2,13 @@
 use Rattle.std.specs.Prelude.{ℕ, ◌≡◌, ◌<◌, ◌↔◌, List, [], Some, length, slice_get, slice_index_or, map}
 use Rattle.std.specs.List.{All}
 use denote.Ref.{Bor}
-use Rattle.bit_relations.specs.Relation.{Relation, Has, IsRegular}
+use Rattle.bit_rows.specs.Relation.{Relation, Has, IsRegular}
 use Rattle.binding_graph.specs.declared.resolved.Code.{Code}
 use Rattle.binding_kinds.specs.declared.kinds.Kind.TheVariants as kinds
 use Rattle.binding_graph.specs.Trees.{RelTree, rel_code}
-use Rattle.candidates.specs.declared.candidate.Space.{Space}
-use Rattle.cat_eval.specs.declared.column.Column.{Column}
-use Rattle.cat_eval.specs.declared.column.Column.TheVariants as columns
+use Rattle.candidate_spaces.specs.declared.candidate.Space.{Space}
+use Rattle.cat_machine.specs.declared.column.Column.{Column}
+use Rattle.cat_machine.specs.declared.column.Column.TheVariants as columns
 use Rattle.why_witness.specs.Pairs.{HasPair}
 use Rattle.why_witness.specs.Values.{AreValues}
 use Rattle.why_walks.specs.declared.run.Link.{Link}

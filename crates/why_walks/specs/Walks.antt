@@ -3,8 +3,8 @@
 use Rattle.std.specs.Prelude.{ℕ, ◌≡◌, ◌<◌, ◌-◌, ◌⊎◌, List, [], ◌∷◌, Vec, drop, length, map, slice_index_or}
 use Rattle.std.specs.List.{All}
 use Rattle.std.specs.declared.alloc.Global.{Global}
-use Rattle.bit_relations.specs.Pairs.{Composite, Identity, Opt, Plus, Star}
-use Rattle.bit_relations.specs.Relation.{Relation, Has, IsRegular, IsRelation, no_slot}
+use Rattle.bit_rows.specs.Pairs.{Composite, Identity, Opt, Plus, Star}
+use Rattle.bit_rows.specs.Relation.{Relation, Has, IsRegular, IsRelation, no_slot}
 use Rattle.relation_cycles.specs.Cycles.{IsPathFrom, IsShortestPath}
 use Rattle.why_walks.specs.declared.factor.Repeats.{Repeats}
 use Rattle.why_walks.specs.declared.factor.Repeats.TheVariants as repeats

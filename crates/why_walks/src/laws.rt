@@ -2,7 +2,7 @@
 
 ghost use Rattle.std.specs.Prelude.{List};
 ghost use Rattle.binding_graph.specs.declared.resolved.Code.{Code};
-ghost use Rattle.candidates.specs.declared.candidate.Space.{Space};
+ghost use Rattle.candidate_spaces.specs.declared.candidate.Space.{Space};
 ghost use Rattle.why_walks.specs.declared.run.Link.{Link};
 ghost use Rattle.why_walks.specs.declared.value.FactorValues.{FactorValues};
 ghost use Rattle.why_walks.specs.Found.{HasOneFirstWalk, HasWalks};

@@ -1,8 +1,8 @@
 //! Walks through relations in turn.
 
 ghost use Rattle.std.specs.Prelude.{◌≡◌, ◌↔◌, ◌<◌, ◌≤◌, IfOk, IfSome, IsTrue, MatchOption, None, length};
-ghost use Rattle.bit_relations.specs.Pairs.{Composite, Plus};
-ghost use Rattle.bit_relations.specs.Relation.{Has, IsRelation};
+ghost use Rattle.bit_rows.specs.Pairs.{Composite, Plus};
+ghost use Rattle.bit_rows.specs.Relation.{Has, IsRelation};
 ghost use Rattle.why_walks.specs.Walks.{AreLinksOn, AreRests, IsFirstRun, IsFirstWalk, IsLeastMiddle, IsNoWalk, IsOneStep, IsRunInto, IsWalk, LinkPairs, runs_of};
 ghost use Rattle.relation_cycles.specs.Cycles.{IsShortestPath};
 

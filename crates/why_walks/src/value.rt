@@ -1,7 +1,7 @@
 //! The values of factors in the candidates of a space.
 
 ghost use Rattle.std.specs.Prelude.{◌≡◌, ◌↔◌, ℕ, IfOk};
-ghost use Rattle.bit_relations.specs.Relation.{Has, IsRegular};
+ghost use Rattle.bit_rows.specs.Relation.{Has, IsRegular};
 ghost use Rattle.why_witness.specs.Pairs.{HasPair};
 ghost use Rattle.why_walks.specs.Factors.{factor_steps};
 ghost use Rattle.why_walks.specs.Values.{AreFactorValues, AreLinksAt, IsLinkAt, IsOn, HasFactorColumn, value_part};

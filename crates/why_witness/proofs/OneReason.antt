@@ -10,11 +10,11 @@ use Rattle.binding_kinds.specs.declared.kinds.Kind.{Kind}
 use Rattle.binding_kinds.specs.declared.kinds.Kind.TheVariants as kinds
 use Rattle.binding_graph.specs.declared.resolved.CheckCode.{CheckCode}
 use Rattle.binding_graph.specs.declared.resolved.Source.{Source}
-use Rattle.cat_eval.specs.declared.column.Column.{Column}
-use Rattle.cat_eval.specs.Checks.{Holds, IsEmptySet}
-use Rattle.cat_eval.specs.Executions.{events_of, EventsAt, PairsAt}
-use Rattle.cat_eval.specs.Meaning.{MeansSet, MeansRelation}
-use Rattle.cat_eval.specs.Named.{WithOwn, OwnPairs}
+use Rattle.cat_machine.specs.declared.column.Column.{Column}
+use Rattle.cat_machine.specs.Checks.{Holds, IsEmptySet}
+use Rattle.cat_machine.specs.Executions.{events_of, EventsAt, PairsAt}
+use Rattle.cat_machine.specs.Meaning.{MeansSet, MeansRelation}
+use Rattle.cat_machine.specs.Named.{WithOwn, OwnPairs}
 use Rattle.why_witness.specs.declared.witness.Witness.{Witness}
 use Rattle.why_witness.specs.declared.witness.Witness.TheVariants as shown
 use Rattle.why_witness.specs.Refusals.{HasOneWitness}

@@ -1,11 +1,11 @@
 -- Relations of the same pairs are broken by the same witnesses.
 use Rattle.std.proofs.Common.{ℕ, ◌≡◌, ◌↔◌, List, [], ◌∷◌, Bool, true, false, Option, Some, None, subst, sym}
-use Rattle.bit_relations.specs.Pairs.{Path}
+use Rattle.bit_rows.specs.Pairs.{Path}
 use Rattle.relation_cycles.specs.Cycles.{IsCycle}
 use Rattle.text_values.specs.declared.model.CheckWord.{CheckWord}
 use Rattle.text_values.specs.declared.model.CheckWord.TheVariants as words
-use Rattle.cat_eval.specs.Checks.{Holds}
-use Rattle.cat_eval.proofs.Same.{Same, SameSet}
+use Rattle.cat_machine.specs.Checks.{Holds}
+use Rattle.cat_machine.proofs.Same.{Same, SameSet}
 use Rattle.why_witness.specs.declared.witness.Witness.{Witness}
 use Rattle.why_witness.specs.declared.witness.Witness.TheVariants as shown
 use Rattle.why_witness.specs.Witnesses.{Breaks, BreaksSet, IsExplanation}

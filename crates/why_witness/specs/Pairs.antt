@@ -1,8 +1,8 @@
 -- The pairs of a name in a candidate.
 use Rattle.std.specs.Prelude.{ℕ, ◌≡◌, Some, slice_get}
-use Rattle.bit_relations.specs.Relation.{Relation, Has}
-use Rattle.cat_eval.specs.declared.column.Column.{Column}
-use Rattle.cat_eval.specs.declared.column.Column.TheVariants as columns
+use Rattle.bit_rows.specs.Relation.{Relation, Has}
+use Rattle.cat_machine.specs.declared.column.Column.{Column}
+use Rattle.cat_machine.specs.declared.column.Column.TheVariants as columns
 
 -- the relation that is the column's value in the candidate of number k has the pair
 abbrev pub HasPair : Column → ℕ → ℕ → ℕ → Type 0

@@ -1,5 +1,5 @@
--- Why a check refuses a candidate. Read first: `Meaning` and `Checks` of cat_eval, `Cycles` of
--- relation_cycles.
+-- Why a check refuses a candidate. Read first: `Meaning` and `Checks` of cat_machine, `Cycles`
+-- of relation_cycles.
 use Rattle.std.specs.Prelude.{ℕ, ◌≡◌, ◌<◌, List, [], Bool, true, false, Option, Some, None}
 use Rattle.relation_cycles.specs.Cycles.{IsShortestCycle, IsFirstReflexive, IsLeastPair}
 use Rattle.text_values.specs.declared.model.CheckWord.{CheckWord}
@@ -10,9 +10,9 @@ use Rattle.binding_graph.specs.declared.resolved.CheckCode.{CheckCode}
 use Rattle.binding_graph.specs.declared.resolved.Source.{Source}
 use Rattle.binding_graph.specs.declared.resolved.Step.{Step}
 use Rattle.binding_graph.specs.Trees.{SetTree, RelTree, set_code, rel_code}
-use Rattle.cat_eval.specs.Checks.{Holds, IsEmptySet}
-use Rattle.cat_eval.specs.Meaning.{MeansSet, MeansRelation}
-use Rattle.cat_eval.specs.Named.{WithOwn, OwnPairs}
+use Rattle.cat_machine.specs.Checks.{Holds, IsEmptySet}
+use Rattle.cat_machine.specs.Meaning.{MeansSet, MeansRelation}
+use Rattle.cat_machine.specs.Named.{WithOwn, OwnPairs}
 use Rattle.why_witness.specs.declared.witness.Witness.{Witness}
 use Rattle.why_witness.specs.declared.witness.Witness.TheVariants as shown
 

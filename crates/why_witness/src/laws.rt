@@ -2,7 +2,7 @@
 
 ghost use Rattle.std.specs.Prelude.{ℕ};
 ghost use Rattle.binding_graph.specs.declared.resolved.CheckCode.{CheckCode};
-ghost use Rattle.cat_eval.specs.declared.column.Column.{Column};
+ghost use Rattle.cat_machine.specs.declared.column.Column.{Column};
 ghost use Rattle.why_witness.specs.Refusals.{HasOneWitness};
 
 /// A check of an expression refuses a candidate for one reason, or not at all.

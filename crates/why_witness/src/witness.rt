@@ -1,9 +1,9 @@
 //! Why a check refuses a candidate.
 
 ghost use Rattle.std.specs.Prelude.{◌≡◌, ◌<◌, IfOk, MatchOption, length};
-ghost use Rattle.bit_relations.specs.Relation.{Has, IsMember};
-ghost use Rattle.cat_eval.specs.Checks.{Holds, IsEmptySet};
-ghost use Rattle.cat_eval.specs.Values.{column_len};
+ghost use Rattle.bit_rows.specs.Relation.{Has, IsMember};
+ghost use Rattle.cat_machine.specs.Checks.{Holds, IsEmptySet};
+ghost use Rattle.cat_machine.specs.Values.{column_len};
 ghost use Rattle.why_witness.specs.Refusals.{IsWitness};
 ghost use Rattle.why_witness.specs.Witnesses.{Breaks, BreaksSet, IsExplanation};
 ghost use Rattle.relation_columns.specs.Runs.{rel_at, set_at};

@@ -9,7 +9,7 @@ use Rattle.std.proofs.lemmas.Option.{none-some}
 use Rattle.std.proofs.lemmas.List.{length-map}
 use Rattle.text_values.specs.declared.test.Test.{Test}
 use Rattle.text_values.specs.TestValue.{Content, content_of}
-use Rattle.verdict.specs.declared.answer.Outcome.{Outcome}
+use Rattle.outcome_states.specs.declared.answer.Outcome.{Outcome}
 use Rattle.memo_core.specs.declared.keys.Node.{Node}
 use Rattle.from_scratch.specs.FromScratch.{IsFromScratch}
 use Rattle.bench_nodes.specs.declared.table.ModelRow.{ModelRow}
@@ -27,7 +27,7 @@ use Rattle.bench_texts.specs.Limits.{is_full, is_spent, models_outputs}
 use Rattle.bench_texts.specs.Replacements.{texts_with, IsPutBy}
 use Rattle.bench_texts.proofs.Lists.{length-changed_at}
 use Rattle.desk_history.proofs.Showing.{fold_push}
-use Rattle.desk.specs.Boards.{BoardCell, with_outcome}
+use Rattle.desk_ledger.specs.Boards.{BoardCell, with_outcome}
 use Rattle.board.specs.declared.operation.BoardOp.{BoardOp}
 use Rattle.board.specs.declared.operation.BoardOp.TheVariants as ops
 use Rattle.board.specs.declared.operation.CellIndex.{CellIndex}

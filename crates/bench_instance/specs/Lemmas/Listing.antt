@@ -6,10 +6,10 @@ use Rattle.std.proofs.Math.Nat.{suc-mul, zero-mul}
 use Rattle.std.proofs.lemmas.Bool.{ltb-false}
 use Rattle.std.proofs.lemmas.Option.{none-some}
 use Rattle.std.proofs.lemmas.List.{length-append}
-use Rattle.verdict.specs.declared.answer.Outcome.{Outcome}
+use Rattle.outcome_states.specs.declared.answer.Outcome.{Outcome}
 use Rattle.bench_texts.specs.BenchTexts.{changed_at}
 use Rattle.bench_nodes.proofs.Lists.{get_left, get_right}
-use Rattle.desk.specs.Boards.{BoardCell, with_outcome}
+use Rattle.desk_ledger.specs.Boards.{BoardCell, with_outcome}
 use Rattle.board.specs.Contents.{RowContent, ColumnContent, BoardContent, cell_at}
 use Rattle.board.specs.Operations.{put_cell}
 use Rattle.bench_instance.specs.Cells.{cell_with, row_cells, all_cells, IsCountable, board_cells}

@@ -1,4 +1,4 @@
-use Rattle.bit_relations.specs.Relation.{room_of}
+use Rattle.bit_rows.specs.Relation.{room_of}
 use Rattle.relation_cycles.proofs.Steps.{IsGrowing}
 use Rattle.relation_cycles.proofs.levels_of.Given as goal
 

@@ -1,5 +1,5 @@
 use Rattle.std.proofs.Common.{◌-◌}
-use Rattle.bit_relations.specs.Relation.{Has}
+use Rattle.bit_rows.specs.Relation.{Has}
 use Rattle.relation_cycles.proofs.Steps.{IsAhead}
 use Rattle.relation_cycles.proofs.middle.Given as goal
 

@@ -1,6 +1,6 @@
 use Rattle.std.proofs.Common.{ℕ, ◌<◌, ◌≤◌, ◌-◌, sym, ◌∙◌, arith}
 use Rattle.std.proofs.lemmas.Bool.{false≢true}
-use Rattle.bit_relations.specs.Relation.{Has}
+use Rattle.bit_rows.specs.Relation.{Has}
 use Rattle.relation_cycles.specs.Cycles.{IsReachableIn}
 use Rattle.relation_cycles.proofs.Steps.{begins_inside, begun, closes, comes_first, left_below, left_some, level_is, steps_on, traced}
 use Rattle.relation_cycles.proofs.path_within.Goals as goal

@@ -1,4 +1,4 @@
-use Rattle.bit_relations.specs.Relation.{Has}
+use Rattle.bit_rows.specs.Relation.{Has}
 use Rattle.relation_cycles.proofs.Steps.{IsTraced}
 use Rattle.relation_cycles.proofs.path_within.Given as goal
 

@@ -1,5 +1,5 @@
 use Rattle.std.proofs.Common.{ℕ, ◌<◌}
-use Rattle.bit_relations.specs.Relation.{Has}
+use Rattle.bit_rows.specs.Relation.{Has}
 use Rattle.relation_cycles.specs.Cycles.{IsReachableIn}
 use Rattle.relation_cycles.proofs.shortest_path.Given as goal
 

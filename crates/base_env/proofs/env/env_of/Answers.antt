@@ -1,6 +1,6 @@
 use Rattle.std.proofs.Common.{ℕ, ◌<◌, refl, subst}
-use Rattle.bit_relations.specs.Relation.{IsEvents}
-use Rattle.text_values.specs.declared.predefined.Predefined.TheVariants as names
+use Rattle.bit_rows.specs.Relation.{IsEvents}
+use Rattle.predefined_names.specs.declared.predefined.Predefined.TheVariants as names
 use Rattle.base_env.proofs.env.env_of.Goals as goal
 
 pub returns : goal.returns

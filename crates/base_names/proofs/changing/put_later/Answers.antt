@@ -1,7 +1,7 @@
 use Rattle.std.proofs.Common.{arith}
 use Rattle.std.proofs.lemmas.Bool.{false≢true}
 use Rattle.base_names.proofs.Rising.{nothing_stands, no_more, later_more, later_other}
-use Rattle.bit_relations.specs.Relation.{Has}
+use Rattle.bit_rows.specs.Relation.{Has}
 use Rattle.base_names.proofs.changing.put_later.Goals as goal
 use Rattle.base_names.proofs.changing.put_later.Goals.{then-stands_at, else-stands_at+else-rising}
 

@@ -1,4 +1,4 @@
-use Rattle.bit_relations.specs.Relation.{IsRelation}
+use Rattle.bit_rows.specs.Relation.{IsRelation}
 use Rattle.base_names.specs.Events.{Below, CoherenceTo}
 use Rattle.base_names.proofs.changing.write_order.Given as goal
 

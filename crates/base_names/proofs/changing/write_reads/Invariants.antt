@@ -1,5 +1,5 @@
 use Rattle.std.proofs.Common.{◌≡◌, ◌≤◌, take}
-use Rattle.bit_relations.specs.Relation.{IsRelation}
+use Rattle.bit_rows.specs.Relation.{IsRelation}
 use Rattle.base_names.specs.Events.{Below, ReadsFromBelow, loads_in}
 use Rattle.base_names.proofs.changing.write_reads.Given as goal
 

@@ -1,6 +1,6 @@
 use Rattle.std.proofs.Common.{◌↔◌, IsTrue}
-use Rattle.bit_relations.specs.Relation.{Has, IsRelation}
-use Rattle.bit_relations.specs.Pairs.{Union}
+use Rattle.bit_rows.specs.Relation.{Has, IsRelation}
+use Rattle.bit_rows.specs.Pairs.{Union}
 use Rattle.base_names.specs.Events.{Fenced, FenceBelow, RowTo}
 use Rattle.base_names.proofs.fixed.put_fenced_from.Given as goal
 

@@ -1,5 +1,5 @@
-use Rattle.bit_relations.specs.Relation.{Has, IsRelation}
-use Rattle.bit_relations.specs.Pairs.{Union}
+use Rattle.bit_rows.specs.Relation.{Has, IsRelation}
+use Rattle.bit_rows.specs.Pairs.{Union}
 use Rattle.base_names.specs.Events.{Links, Before, RowsTo}
 use Rattle.base_names.proofs.fixed.put_linked.Given as goal
 

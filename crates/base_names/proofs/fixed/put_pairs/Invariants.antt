@@ -1,6 +1,6 @@
 use Rattle.std.proofs.Common.{take}
-use Rattle.bit_relations.specs.Relation.{Has, IsRelation}
-use Rattle.bit_relations.specs.Pairs.{Union}
+use Rattle.bit_rows.specs.Relation.{Has, IsRelation}
+use Rattle.bit_rows.specs.Pairs.{Union}
 use Rattle.base_names.specs.Events.{Below, ListedPairs}
 use Rattle.base_names.proofs.fixed.put_pairs.Given as goal
 

@@ -1,4 +1,4 @@
-use Rattle.text_values.specs.declared.predefined.Predefined.TheVariants as names
+use Rattle.predefined_names.specs.declared.predefined.Predefined.TheVariants as names
 use Rattle.text_values.specs.declared.instruction.Fence.TheVariants.{Sync, LightweightSync, Eieio, Isync}
 use Rattle.base_names.specs.Events.{ListedPairs, Fenced}
 use Rattle.base_names.proofs.Named.{from_nothing, nothing_is, linked_is, identity_is, external_is, links_program, links_both}

@@ -1,7 +1,7 @@
 use Rattle.std.proofs.Common.{ℕ, ◌≡◌, ◌<◌, ◌+◌, ◌↔◌, ◌∙◌, inl, inr, List, ◌∷◌, length, get_or, drop, ap, sym, subst, rules}
 use Rattle.std.proofs.lemmas.List.{drop_more, drop_all}
-use Rattle.bit_relations.specs.Relation.{Has}
-use Rattle.text_values.specs.declared.predefined.Predefined.{Predefined}
+use Rattle.bit_rows.specs.Relation.{Has}
+use Rattle.predefined_names.specs.declared.predefined.Predefined.{Predefined}
 use Rattle.base_names.specs.declared.names.Shared.{Shared}
 use Rattle.base_names.specs.Known.{PairsUnder}
 use Rattle.base_names.proofs.names.find_shared.Goals as goal

@@ -1,5 +1,5 @@
 use Rattle.std.proofs.Common.{ℕ, ◌≡◌, ◌<◌, length, get_or}
-use Rattle.bit_relations.specs.Relation.{IsEvents}
+use Rattle.bit_rows.specs.Relation.{IsEvents}
 use Rattle.base_names.specs.declared.names.Named.{Named}
 use Rattle.base_names.specs.Known.{set_names}
 use Rattle.base_names.specs.Candidate.{SetIn}

@@ -1,5 +1,5 @@
 use Rattle.std.proofs.Common.{ℕ, ◌≡◌, ◌<◌, length, get_or}
-use Rattle.bit_relations.specs.Relation.{IsRelation}
+use Rattle.bit_rows.specs.Relation.{IsRelation}
 use Rattle.base_names.specs.declared.names.Shared.{Shared}
 use Rattle.base_names.specs.Known.{shared_names}
 use Rattle.base_names.specs.Candidate.{SharedIn}

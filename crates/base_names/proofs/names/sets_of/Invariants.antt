@@ -1,5 +1,5 @@
 use Rattle.std.proofs.Common.{◌≡◌, ◌++◌, drop, filter}
-use Rattle.text_values.specs.PredefinedNames.{is_set}
+use Rattle.predefined_names.specs.PredefinedNames.{is_set}
 use Rattle.base_names.specs.Known.{set_names}
 use Rattle.base_names.proofs.names.sets_of.Given as goal
 

@@ -1,8 +1,8 @@
 use Rattle.std.proofs.Common.{◌≡◌, take, get_or, List, [], ◌∷◌, ◌++◌, ◌+◌, sym, ◌∙◌}
 use Rattle.std.proofs.lemmas.Bool.{true≢false}
 use Rattle.std.proofs.lemmas.List.{take_more, take_all}
-use Rattle.text_values.specs.declared.predefined.Predefined.{Predefined}
-use Rattle.text_values.specs.declared.predefined.Predefined.TheVariants.{Loads}
+use Rattle.predefined_names.specs.declared.predefined.Predefined.{Predefined}
+use Rattle.predefined_names.specs.declared.predefined.Predefined.TheVariants.{Loads}
 use Rattle.base_names.proofs.Covering.{covered_more}
 use Rattle.base_names.proofs.names.shared_of.Goals as goal
 use Rattle.base_names.proofs.names.shared_of.Goals.{then-not-is_set+in-Some+in_ok-make_room-in-Some, then-not-is_set+in-None, else-not-is_set}

@@ -1,6 +1,6 @@
 use Rattle.std.proofs.Common.{ℕ, ◌≡◌, ◌<◌, Some}
 use Rattle.std.specs.List.{slice_get}
-use Rattle.bit_relations.specs.Relation.{IsMember}
+use Rattle.bit_rows.specs.Relation.{IsMember}
 use Rattle.base_names.proofs.reordering.has_any.Given as goal
 
 abbrev pub invariant-loop-index : goal.invariant-loop-index

@@ -1,4 +1,4 @@
-use Rattle.bit_relations.specs.Relation.{Has}
+use Rattle.bit_rows.specs.Relation.{Has}
 use Rattle.base_names.proofs.Tails.{since_nothing, since_more, since_all}
 use Rattle.base_names.proofs.reordering.put_from.Goals as goal
 

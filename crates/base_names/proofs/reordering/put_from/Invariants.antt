@@ -1,5 +1,5 @@
-use Rattle.bit_relations.specs.Relation.{Has, IsRelation}
-use Rattle.bit_relations.specs.Pairs.{Union}
+use Rattle.bit_rows.specs.Relation.{Has, IsRelation}
+use Rattle.bit_rows.specs.Pairs.{Union}
 use Rattle.base_names.specs.Events.{Below}
 use Rattle.base_names.specs.Orders.{CoherenceBetween}
 use Rattle.base_names.proofs.reordering.put_from.Given as goal

@@ -1,5 +1,5 @@
 use Rattle.std.proofs.Common.{◌<◌}
-use Rattle.bit_relations.specs.Relation.{IsEvents}
+use Rattle.bit_rows.specs.Relation.{IsEvents}
 use Rattle.base_names.specs.Orders.{StandsBetween}
 use Rattle.base_names.proofs.reordering.standing_from.Given as goal
 

@@ -1,5 +1,5 @@
 use Rattle.std.proofs.Common.{◌<◌}
-use Rattle.bit_relations.specs.Relation.{IsEvents}
+use Rattle.bit_rows.specs.Relation.{IsEvents}
 use Rattle.base_names.specs.Events.{At}
 use Rattle.base_names.specs.Names.{IsIn}
 use Rattle.base_names.proofs.sets.set_of.Given as goal

@@ -1,5 +1,5 @@
 use Rattle.std.proofs.Common.{map}
-use Rattle.verdict.specs.Kept.{of_raised}
+use Rattle.outcome_states.specs.Kept.{of_raised}
 use Rattle.bench_values.specs.Values.{answers_of}
 use Rattle.bench_values.proofs.Making.{checks_named, flags_named, outcome_over}
 use Rattle.bench_values.proofs.run.evaluated.Goals as goal

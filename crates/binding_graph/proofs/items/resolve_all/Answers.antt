@@ -1,5 +1,5 @@
 use Rattle.std.proofs.Common.{rules, [], map, reverse}
-use Rattle.text_values.specs.declared.predefined.TheConstants.{PREDEFINED}
+use Rattle.predefined_names.specs.declared.predefined.TheConstants.{PREDEFINED}
 use Rattle.binding_kinds.specs.Fits.{AreKnown}
 use Rattle.binding_kinds.specs.Value.{bare_item}
 use Rattle.binding_kinds.specs.Outermost.{naming_of}

@@ -1,5 +1,5 @@
-use Rattle.bit_relations.proofs.Columns.{put_together, made_pairs}
-use Rattle.bit_relations.proofs.Closing.{closed_low, low_within}
+use Rattle.bit_rows.proofs.Columns.{put_together, made_pairs}
+use Rattle.bit_rows.proofs.Closing.{closed_low, low_within}
 use Rattle.bit_relations.proofs.rows.close.Goals as goal
 
 pub close_low-requires-clause-within : goal.close_low-requires-clause-within

@@ -1,6 +1,6 @@
 use Rattle.std.proofs.Common.{arith, ◌∙◌}
-use Rattle.bit_relations.proofs.Closing.{step_low, passed_low}
-use Rattle.bit_relations.proofs.Paths.{PlusBelow-zero, PlusBelow-all}
+use Rattle.bit_rows.proofs.Closing.{step_low, passed_low}
+use Rattle.bit_rows.proofs.Paths.{PlusBelow-zero, PlusBelow-all}
 use Rattle.bit_relations.proofs.rows.close_blocks.Goals as goal
 use Rattle.bit_relations.proofs.rows.close_blocks.Goals.{then-row-ne0, else-row-ne0}
 

@@ -1,6 +1,6 @@
-use Rattle.bit_relations.specs.Pairs.{PlusBelow}
+use Rattle.bit_rows.specs.Pairs.{PlusBelow}
 use Rattle.std.proofs.Common.{ℕ, ◌≡◌, ◌↔◌, length}
-use Rattle.bit_relations.specs.Rows.{RowsHave, AllFit}
+use Rattle.bit_rows.specs.Rows.{RowsHave, AllFit}
 use Rattle.bit_relations.proofs.rows.close_blocks.Given as goal
 
 abbrev pub invariant-loop-middle : goal.invariant-loop-middle

@@ -1,6 +1,6 @@
 use Rattle.std.proofs.Common.{arith}
-use Rattle.bit_relations.proofs.Closing.{close_step, through_nothing}
-use Rattle.bit_relations.proofs.Paths.{PlusBelow-zero, PlusBelow-all}
+use Rattle.bit_rows.proofs.Closing.{close_step, through_nothing}
+use Rattle.bit_rows.proofs.Paths.{PlusBelow-zero, PlusBelow-all}
 use Rattle.bit_relations.proofs.rows.close_both.Goals as goal
 use Rattle.bit_relations.proofs.rows.close_both.Goals.{then-low-middle-ne0, else-low-middle-ne0+else-high-middle-ne0}
 

@@ -1,7 +1,7 @@
-use Rattle.bit_relations.specs.Pairs.{PlusBelow}
+use Rattle.bit_rows.specs.Pairs.{PlusBelow}
 use Rattle.std.proofs.Common.{ℕ, ◌↔◌}
-use Rattle.bit_relations.specs.Relation.{AreRelColumns, wide}
-use Rattle.bit_relations.specs.Rows.{RowsHave}
+use Rattle.bit_rows.specs.Relation.{AreRelColumns, wide}
+use Rattle.bit_rows.specs.Rows.{RowsHave}
 use Rattle.bit_relations.proofs.rows.close_both.Given as goal
 
 abbrev pub invariant-loop-middle : goal.invariant-loop-middle

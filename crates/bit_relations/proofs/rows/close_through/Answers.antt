@@ -1,7 +1,7 @@
 use Rattle.std.proofs.Common.{sym, ◌∙◌}
-use Rattle.bit_relations.proofs.Wide.{low_bit, high_bit}
-use Rattle.bit_relations.proofs.Columns.{put_together, made_pairs}
-use Rattle.bit_relations.proofs.Closing.{through}
+use Rattle.bit_rows.proofs.Wide.{low_bit, high_bit}
+use Rattle.bit_rows.proofs.Columns.{put_together, made_pairs}
+use Rattle.bit_rows.proofs.Closing.{through}
 use Rattle.bit_relations.proofs.rows.close_through.Goals as goal
 
 pub returns-then-middle-lt64 : goal.returns-then-middle-lt64

@@ -1,4 +1,4 @@
-use Rattle.bit_relations.proofs.Writing.{column_none, column_more}
+use Rattle.bit_rows.proofs.Writing.{column_none, column_more}
 use Rattle.bit_relations.proofs.rows.column.Goals as goal
 
 pub loop-a-init : goal.loop-a-init

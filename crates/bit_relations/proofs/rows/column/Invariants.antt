@@ -1,6 +1,6 @@
 use Rattle.std.proofs.Common.{ℕ, ◌<◌, ◌+◌, ◌↔◌}
-use Rattle.bit_relations.specs.Relation.{Bit}
-use Rattle.bit_relations.specs.Rows.{RowsHave}
+use Rattle.bit_rows.specs.Relation.{Bit}
+use Rattle.bit_rows.specs.Rows.{RowsHave}
 use Rattle.bit_relations.proofs.rows.column.Given as goal
 
 abbrev pub invariant-loop-a : goal.invariant-loop-a

@@ -1,5 +1,5 @@
 use Rattle.std.proofs.Common.{sym, ◌∙◌}
-use Rattle.bit_relations.proofs.Writing.{one_joined, both_joined}
+use Rattle.bit_rows.proofs.Writing.{one_joined, both_joined}
 use Rattle.bit_relations.proofs.rows.compose.Goals as goal
 
 pub returns-then-count-gt64 : goal.returns-then-count-gt64

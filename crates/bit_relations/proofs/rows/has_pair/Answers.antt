@@ -1,5 +1,5 @@
 use Rattle.std.proofs.Common.{arith, sym, ◌∙◌}
-use Rattle.bit_relations.proofs.Wide.{get_or-wide}
+use Rattle.bit_rows.proofs.Wide.{get_or-wide}
 use Rattle.bit_relations.proofs.rows.has_pair.Goals as goal
 
 pub returns : goal.returns

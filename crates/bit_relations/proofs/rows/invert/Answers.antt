@@ -1,5 +1,5 @@
 use Rattle.std.proofs.Common.{arith}
-use Rattle.bit_relations.proofs.Writing.{written_none, written_more}
+use Rattle.bit_rows.proofs.Writing.{written_none, written_more}
 use Rattle.bit_relations.proofs.rows.invert.Goals as goal
 
 pub loop-a-init : goal.loop-a-init

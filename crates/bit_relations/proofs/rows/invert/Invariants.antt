@@ -1,5 +1,5 @@
-use Rattle.bit_relations.specs.Relation.{wide}
-use Rattle.bit_relations.specs.Rows.{RowsHave, AreRowsFilled, InverseFrom}
+use Rattle.bit_rows.specs.Relation.{wide}
+use Rattle.bit_rows.specs.Rows.{RowsHave, AreRowsFilled, InverseFrom}
 use Rattle.bit_relations.proofs.rows.invert.Given as goal
 
 abbrev pub invariant-loop-a : goal.invariant-loop-a

@@ -1,4 +1,4 @@
-use Rattle.bit_relations.proofs.Closing.{acyclic_low}
+use Rattle.bit_rows.proofs.Closing.{acyclic_low}
 use Rattle.bit_relations.proofs.rows.is_low_acyclic.Goals as goal
 
 pub returns : goal.returns

@@ -1,5 +1,5 @@
 use Rattle.std.proofs.Common.{sym, ◌∙◌}
-use Rattle.bit_relations.proofs.Wide.{low_bit, high_bit}
+use Rattle.bit_rows.proofs.Wide.{low_bit, high_bit}
 use Rattle.bit_relations.proofs.rows.leading_to.Goals as goal
 
 pub returns-then-event-lt64 : goal.returns-then-event-lt64

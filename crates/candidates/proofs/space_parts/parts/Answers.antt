@@ -1,5 +1,5 @@
 use Rattle.std.proofs.Common.{Ok, ap, ◌∙◌}
-use Rattle.candidates.specs.declared.fault.SpaceFault.TheVariants.{Refused}
+use Rattle.candidate_spaces.specs.declared.fault.SpaceFault.TheVariants.{Refused}
 use Rattle.candidates.proofs.Small.{layout_small}
 use Rattle.candidates.proofs.Telling.{space_lists, refused_told}
 use Rattle.candidates.proofs.Totals.{count_told, fault_told, parts_told, refusal_told}

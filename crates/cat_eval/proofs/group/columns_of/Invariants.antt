@@ -1,7 +1,7 @@
 use Rattle.std.proofs.Common.{ℕ, ◌≡◌, ◌<◌, length, slice_index_or}
 use Rattle.binding_graph.specs.declared.resolved.Body.{Body}
-use Rattle.cat_eval.specs.declared.column.Column.{Column}
-use Rattle.cat_eval.specs.Values.{IsFor, column_len}
+use Rattle.cat_machine.specs.declared.column.Column.{Column}
+use Rattle.cat_machine.specs.Values.{IsFor, column_len}
 use Rattle.cat_eval.proofs.group.columns_of.Given as goal
 
 abbrev pub invariant-loop-body : goal.invariant-loop-body

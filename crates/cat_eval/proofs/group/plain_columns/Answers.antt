@@ -1,6 +1,6 @@
 use Rattle.std.proofs.Common.{◌≡◌, length, arith}
-use Rattle.candidates.specs.Space.{candidates_in}
-use Rattle.cat_eval.specs.Seen.{seen_in}
+use Rattle.candidate_spaces.specs.Space.{candidates_in}
+use Rattle.cat_machine.specs.Seen.{seen_in}
 use Rattle.cat_eval.proofs.Wanting.{bodies_shown_none, bodies_shown_more, bodies_shown_all}
 use Rattle.cat_eval.proofs.group.plain_columns.Goals as goal
 

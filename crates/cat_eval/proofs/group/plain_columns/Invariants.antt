@@ -1,5 +1,5 @@
-use Rattle.candidates.specs.Space.{candidates_in}
-use Rattle.cat_eval.specs.Seen.{seen_in}
+use Rattle.candidate_spaces.specs.Space.{candidates_in}
+use Rattle.cat_machine.specs.Seen.{seen_in}
 use Rattle.cat_eval.proofs.Wanting.{AreBodiesShown}
 use Rattle.cat_eval.proofs.group.plain_columns.Given as goal
 

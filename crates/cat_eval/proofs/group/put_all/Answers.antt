@@ -1,7 +1,7 @@
 use Rattle.std.proofs.Common.{◌<◌, ◌∙◌, inl, inr, length, arith}
 use Rattle.std.proofs.lemmas.Bool.{cases_eq}
 use Rattle.std.proofs.lemmas.List.{get_or_read}
-use Rattle.bit_relations.specs.Relation.{no_slot}
+use Rattle.bit_rows.specs.Relation.{no_slot}
 use Rattle.cat_eval.proofs.group.put_all.Goals as goal
 
 pub loop-position-preserved : goal.loop-position-preserved

@@ -1,6 +1,6 @@
 use Rattle.std.proofs.Common.{ℕ, ◌≡◌, ◌<◌, ◌≤◌, length, slice_index_or}
-use Rattle.bit_relations.specs.Relation.{Events, no_slot}
-use Rattle.cat_eval.specs.declared.column.Column.{Column}
+use Rattle.bit_rows.specs.Relation.{Events, no_slot}
+use Rattle.cat_machine.specs.declared.column.Column.{Column}
 use Rattle.cat_eval.specs.Wanted.{is_wanted, AddsIf}
 use Rattle.cat_eval.proofs.group.put_all.Given as goal
 

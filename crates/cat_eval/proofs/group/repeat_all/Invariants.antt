@@ -1,5 +1,5 @@
 use Rattle.std.proofs.Common.{ℕ, ◌≡◌, ◌<◌, ◌≤◌, length, slice_index_or}
-use Rattle.cat_eval.specs.declared.column.Column.{Column}
+use Rattle.cat_machine.specs.declared.column.Column.{Column}
 use Rattle.cat_eval.specs.Wanted.{is_wanted, RepeatsIf}
 use Rattle.cat_eval.proofs.group.repeat_all.Given as goal
 

@@ -1,7 +1,7 @@
 use Rattle.std.proofs.lemmas.List.Elements.{contains_decides, Contains-from_at}
 use denote.Enum.Bare.{sameb}
-use Rattle.text_values.specs.contracts.predefined.Predefined.{the_type}
-use Rattle.cat_eval.proofs.Naming.{names_Decides}
+use Rattle.predefined_names.specs.contracts.predefined.Predefined.{the_type}
+use Rattle.cat_machine.proofs.Naming.{names_Decides}
 use Rattle.cat_eval.proofs.needs.is_listed.Goals as goal
 
 pub returns : goal.returns

@@ -1,12 +1,12 @@
 use Rattle.std.proofs.Common.{ℕ, ◌≡◌, ◌+◌, ◌*◌, ◌++◌, ◌∙◌, List, length, take, sym, ap, arith, rules}
 use Rattle.std.specs.Prelude.{map}
 use Rattle.std.proofs.lemmas.List.{take_all}
-use Rattle.run_combinations.specs.Combinations.{candidates_of}
-use Rattle.run_combinations.proofs.Pairs.{length-candidates}
-use Rattle.candidates.specs.Space.{candidates_in, Candidate}
-use Rattle.cat_eval.specs.Seen.{NamedValues, seen_in, seen_run}
+use Rattle.store_orders.specs.Combinations.{candidates_of}
+use Rattle.store_orders.proofs.Pairs.{length-candidates}
+use Rattle.candidate_spaces.specs.Space.{candidates_in, Candidate}
+use Rattle.cat_machine.specs.Seen.{NamedValues, seen_in, seen_run}
 use Rattle.cat_eval.proofs.Entering.{flat_step}
-use Rattle.cat_eval.proofs.Seeing.{first_append, in_run, in_long}
+use Rattle.cat_machine.proofs.Seeing.{first_append, in_run, in_long}
 use Rattle.cat_eval.proofs.runs.visit_runs.Goals as goal
 
 pub loop-combination-init : goal.loop-combination-init

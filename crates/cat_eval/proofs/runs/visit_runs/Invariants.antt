@@ -1,6 +1,6 @@
 use Rattle.std.proofs.Common.{[], take}
-use Rattle.candidates.specs.Space.{candidates_in}
-use Rattle.cat_eval.specs.Seen.{seen_in}
+use Rattle.candidate_spaces.specs.Space.{candidates_in}
+use Rattle.cat_machine.specs.Seen.{seen_in}
 use Rattle.cat_eval.proofs.runs.visit_runs.Given as goal
 
 abbrev pub invariant-loop-combination : goal.invariant-loop-combination

@@ -1,5 +1,5 @@
 use Rattle.std.proofs.Common.{ℕ, ◌<◌, slice_index_or}
-use Rattle.run_combinations.specs.declared.combination.Event.{Event}
+use Rattle.store_orders.specs.declared.combination.Event.{Event}
 use Rattle.cat_eval.specs.Alike.{IsLike}
 use Rattle.cat_eval.proofs.shape.are_events_like.Given as goal
 

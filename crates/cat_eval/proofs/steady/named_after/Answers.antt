@@ -1,5 +1,5 @@
 use Rattle.std.proofs.Common.{ℕ, ◌≡◌, ◌+◌, ◌-◌, subst, arith}
-use Rattle.cat_eval.specs.Steady.{HasSame}
+use Rattle.cat_machine.specs.Steady.{HasSame}
 use Rattle.cat_eval.proofs.Repeating.{same_from}
 use Rattle.cat_eval.proofs.steady.named_after.Goals as goal
 

@@ -2,10 +2,10 @@ use Rattle.std.proofs.Common.{ℕ, ◌≡◌, List, [], ◌∷◌, zero, suc, su
 use Rattle.std.specs.Prelude.{Some, slice_get}
 use Rattle.std.proofs.lemmas.Option.{get_or_from_slice_get, none-some, same_Some}
 use denote.Ref.{Bor}
-use Rattle.cat_eval.specs.declared.column.Column.{Column}
-use Rattle.cat_eval.specs.declared.seen.NamedColumn.{NamedColumn}
-use Rattle.cat_eval.specs.Seen.{columns_of}
-use Rattle.cat_eval.specs.Steady.{HasSame}
+use Rattle.cat_machine.specs.declared.column.Column.{Column}
+use Rattle.cat_machine.specs.declared.seen.NamedColumn.{NamedColumn}
+use Rattle.cat_machine.specs.Seen.{columns_of}
+use Rattle.cat_machine.specs.Steady.{HasSame}
 use Rattle.cat_eval.proofs.Visits.{get_within}
 use Rattle.cat_eval.proofs.steady.named_until.Goals as goal
 

@@ -1,6 +1,6 @@
 use Rattle.std.proofs.Common.{ℕ, ◌<◌, ◌≤◌, slice_index_or}
-use Rattle.cat_eval.specs.declared.seen.NamedColumn.{NamedColumn}
-use Rattle.cat_eval.specs.Steady.{HasSame}
+use Rattle.cat_machine.specs.declared.seen.NamedColumn.{NamedColumn}
+use Rattle.cat_machine.specs.Steady.{HasSame}
 use Rattle.cat_eval.proofs.steady.named_until.Given as goal
 
 abbrev pub invariant-loop-one : goal.invariant-loop-one

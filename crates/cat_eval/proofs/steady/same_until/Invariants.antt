@@ -1,7 +1,7 @@
 use Rattle.std.proofs.Common.{ℕ, ◌<◌, ◌≤◌, slice_index_or}
 use denote.Ref.{Bor}
-use Rattle.cat_eval.specs.declared.column.Column.{Column}
-use Rattle.cat_eval.specs.Steady.{HasSame}
+use Rattle.cat_machine.specs.declared.column.Column.{Column}
+use Rattle.cat_machine.specs.Steady.{HasSame}
 use Rattle.cat_eval.proofs.steady.same_until.Given as goal
 
 abbrev pub invariant-loop-column : goal.invariant-loop-column

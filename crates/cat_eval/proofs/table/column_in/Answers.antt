@@ -1,12 +1,12 @@
 use Rattle.std.proofs.Common.{◌≡◌, ◌∙◌, inl, inr, get_or, Contains, ap, sym, subst, arith}
 use Rattle.std.proofs.lemmas.Bool.{cases_eq}
 use Rattle.std.proofs.lemmas.List.{get_or_default}
-use Rattle.text_values.specs.declared.predefined.Predefined.{Predefined}
+use Rattle.predefined_names.specs.declared.predefined.Predefined.{Predefined}
 use Rattle.cat_eval.specs.declared.table.Entry.{Entry}
 use Rattle.cat_eval.specs.Tables.{IsColumnOf, entry_names}
 use Rattle.cat_eval.proofs.Blocks.{some_of}
 use Rattle.cat_eval.proofs.Filling.{entry_at, entry_there}
-use Rattle.cat_eval.proofs.Naming.{equal_names, unequal_names}
+use Rattle.cat_machine.proofs.Naming.{equal_names, unequal_names}
 use Rattle.cat_eval.proofs.table.column_in.Goals as goal
 
 pub loop-entry-preserved : goal.loop-entry-preserved

@@ -1,7 +1,7 @@
 use Rattle.std.proofs.Common.{◌≡◌, ◌∙◌, ◌+◌, ◌++◌, ◌∷◌, [], List, take, get_or, ap, sym, arith}
 use Rattle.std.proofs.lemmas.List.{map-append, take_more, take_all}
-use Rattle.text_values.specs.declared.predefined.Predefined.{Predefined}
-use Rattle.text_values.specs.declared.predefined.Predefined.TheVariants as names
+use Rattle.predefined_names.specs.declared.predefined.Predefined.{Predefined}
+use Rattle.predefined_names.specs.declared.predefined.Predefined.TheVariants as names
 use Rattle.cat_eval.specs.declared.table.Entry.{Entry}
 use Rattle.cat_eval.specs.Tables.{AreFilled, entry_names}
 use Rattle.cat_eval.proofs.Filling.{filled_none, filled_with}

@@ -1,5 +1,5 @@
 use Rattle.std.proofs.Common.{refl}
-use Rattle.text_values.specs.PredefinedNames.{is_set}
+use Rattle.predefined_names.specs.PredefinedNames.{is_set}
 use Rattle.cat_eval.proofs.Filling.{filled_more, held_one}
 use Rattle.cat_eval.proofs.table.push_value.Goals as goal
 

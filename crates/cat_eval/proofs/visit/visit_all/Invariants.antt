@@ -1,7 +1,7 @@
 use Rattle.std.proofs.Common.{[], take}
-use Rattle.candidates.specs.Space.{candidates_in}
+use Rattle.candidate_spaces.specs.Space.{candidates_in}
 use Rattle.cat_eval.specs.Places.{IsAt}
-use Rattle.cat_eval.specs.Seen.{seen_in}
+use Rattle.cat_machine.specs.Seen.{seen_in}
 use Rattle.cat_eval.proofs.visit.visit_all.Given as goal
 
 abbrev pub invariant-loop-combination : goal.invariant-loop-combination

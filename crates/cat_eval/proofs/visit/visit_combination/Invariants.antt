@@ -1,6 +1,6 @@
 use Rattle.std.proofs.Common.{List, length, ◌++◌, ◌*◌}
 use Rattle.cat_eval.specs.Places.{IsAt}
-use Rattle.cat_eval.specs.Seen.{NamedValues, seen_run}
+use Rattle.cat_machine.specs.Seen.{NamedValues, seen_run}
 use Rattle.cat_eval.proofs.visit.visit_combination.Given as goal
 
 abbrev pub invariant-loop-at : goal.invariant-loop-at

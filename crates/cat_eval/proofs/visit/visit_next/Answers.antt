@@ -1,6 +1,6 @@
 use Rattle.std.proofs.Common.{◌≡◌, length, refl, arith}
-use Rattle.cat_eval.specs.Seen.{values_seen}
-use Rattle.cat_eval.proofs.Seeing.{seen_again, at_more}
+use Rattle.cat_machine.specs.Seen.{values_seen}
+use Rattle.cat_eval.proofs.Placing.{seen_again, at_more}
 use Rattle.cat_eval.proofs.visit.visit_next.Goals as goal
 
 pub returns : goal.returns

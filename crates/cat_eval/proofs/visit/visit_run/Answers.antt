@@ -1,6 +1,6 @@
 use Rattle.std.proofs.Common.{◌≡◌, ◌+◌, ◌++◌, ◌∷◌, [], length, length-append, append_assoc, append-nil, sym, arith}
-use Rattle.cat_eval.specs.Seen.{values_seen, seen_run}
-use Rattle.cat_eval.proofs.Seeing.{run_long, run_step}
+use Rattle.cat_machine.specs.Seen.{values_seen, seen_run}
+use Rattle.cat_machine.proofs.Seeing.{run_long, run_step}
 use Rattle.cat_eval.proofs.visit.visit_run.Goals as goal
 
 pub loop-at-init : goal.loop-at-init

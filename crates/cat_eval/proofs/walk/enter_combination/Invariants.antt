@@ -2,7 +2,7 @@ use Rattle.std.proofs.Common.{List, take, ◌++◌}
 use Rattle.std.specs.Prelude.{IsTrue}
 use Rattle.base_names.specs.Known.{Known}
 use Rattle.cat_eval.specs.Candidates.{reading_in}
-use Rattle.cat_eval.specs.Steady.{HasAsLast}
+use Rattle.cat_machine.specs.Steady.{HasAsLast}
 use Rattle.cat_eval.specs.Worlds.{IsBaseReady, AreWorlds}
 use Rattle.cat_eval.proofs.walk.enter_combination.Given as goal
 

@@ -1,6 +1,6 @@
 use Rattle.std.proofs.Common.{◌≡◌, ◌++◌, ◌∷◌, [], arith, sym, take, append_assoc}
 use Rattle.std.proofs.lemmas.List.{take_all}
-use Rattle.candidates.specs.Space.{Candidate}
+use Rattle.candidate_spaces.specs.Space.{Candidate}
 use Rattle.cat_eval.specs.Worlds.{IsWorld}
 use Rattle.cat_eval.proofs.Entering.{worlds_more, map_step}
 use Rattle.cat_eval.proofs.walk.enter_orders.Goals as goal

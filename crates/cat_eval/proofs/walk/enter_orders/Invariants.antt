@@ -3,7 +3,7 @@ use Rattle.std.specs.Prelude.{IsTrue, IfSome}
 use Rattle.base_names.specs.Known.{Known}
 use Rattle.base_names.specs.Candidate.{HasReadsFrom, HasCoherence}
 use Rattle.cat_eval.specs.Candidates.{reading_so}
-use Rattle.cat_eval.specs.Steady.{HasAsLast}
+use Rattle.cat_machine.specs.Steady.{HasAsLast}
 use Rattle.cat_eval.specs.Worlds.{IsBaseReady, AreWorlds}
 use Rattle.cat_eval.proofs.walk.enter_orders.Given as goal
 

@@ -3,7 +3,7 @@ use Rattle.std.specs.Prelude.{IfSome, IsTrue}
 use Rattle.base_names.specs.Known.{Known, IsConsistent}
 use Rattle.base_names.specs.Candidate.{IsEntered}
 use Rattle.cat_eval.specs.Candidates.{of_combinations}
-use Rattle.cat_eval.specs.Steady.{HasAsLast}
+use Rattle.cat_machine.specs.Steady.{HasAsLast}
 use Rattle.cat_eval.specs.Worlds.{AreNamesHeld, AreWorlds}
 use Rattle.cat_eval.proofs.walk.enter_space.Given as goal
 

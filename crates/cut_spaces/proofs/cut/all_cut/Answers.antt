@@ -1,7 +1,7 @@
 use Rattle.std.proofs.Common.{List, [], ◌∷◌, ◌++◌, min, sym, subst}
 use Rattle.std.specs.List.{AllZip}
 use Rattle.std.proofs.lemmas.Slice.Zip.{all_zipped_more}
-use Rattle.run_combinations.specs.declared.combination.Combination.{Combination}
+use Rattle.store_orders.specs.declared.combination.Combination.{Combination}
 use Rattle.cut_spaces.specs.Spaces.{IsCutCombination}
 use Rattle.cut_spaces.proofs.cut.all_cut.Goals as goal
 

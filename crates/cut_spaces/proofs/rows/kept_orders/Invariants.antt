@@ -1,4 +1,4 @@
-use Rattle.run_combinations.specs.Orders.{all_orders}
+use Rattle.store_orders.specs.Orders.{all_orders}
 use Rattle.cut_spaces.specs.Rows.{KeepsOrders}
 use Rattle.cut_spaces.proofs.rows.kept_orders.Given as goal
 

@@ -1,6 +1,6 @@
 use Rattle.std.proofs.Common.{◌∙◌, List, ℕ, ap, subst}
-use Rattle.run_combinations.specs.Rows.{rows_of}
-use Rattle.run_combinations.specs.declared.combination.Event.{Event}
+use Rattle.store_orders.specs.Rows.{rows_of}
+use Rattle.store_orders.specs.declared.combination.Event.{Event}
 use Rattle.cut_spaces.specs.Rows.{KeepsRows}
 use Rattle.cut_spaces.proofs.Passing.{all_stay}
 use Rattle.cut_spaces.proofs.rows.kept_rows.Goals as goal

@@ -1,7 +1,7 @@
 use Rattle.std.proofs.Common.{◌≡◌, ◌∙◌, Bool, List, ℕ, length, ap, arith}
 use Rattle.std.proofs.lemmas.Result.{IfOk-weaker}
-use Rattle.run_combinations.specs.Rows.{rows_kept}
-use Rattle.run_combinations.specs.declared.combination.Combination.{Combination}
+use Rattle.store_orders.specs.Rows.{rows_kept}
+use Rattle.store_orders.specs.declared.combination.Combination.{Combination}
 use Rattle.cut_spaces.specs.Rows.{KeepsRows}
 use Rattle.cut_spaces.proofs.Passing.{answers_enough, orders_of_probe, rows_pass}
 use Rattle.cut_spaces.proofs.rows.rows_that_pass.Goals as goal

@@ -1,8 +1,8 @@
 use Rattle.std.proofs.Common.{ℕ, ap, set, ◌≡◌, sym, ◌∙◌, arith, rules}
 use Rattle.thread_runs.specs.Runs.{executed}
-use Rattle.dataflow.specs.Taints.{HasRegistersInFile}
-use Rattle.dataflow.specs.Chains.{event_index}
-use Rattle.dataflow.proofs.ReachLoop.{instruction_at, below_128}
+use Rattle.taints.specs.Taints.{HasRegistersInFile}
+use Rattle.taints.specs.Chains.{event_index}
+use Rattle.taints.proofs.ReachLoop.{instruction_at, below_128}
 use Rattle.dataflow.proofs.ControlLoop.{controlled_first, controlled_event, controlled_other, controlled_as}
 use Rattle.dataflow.proofs.pass.control_columns.Goals as goal
 use Rattle.dataflow.proofs.pass.control_columns.Goals.{then-is_event, else-is_event}

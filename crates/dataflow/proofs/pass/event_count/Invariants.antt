@@ -1,6 +1,6 @@
 use Rattle.std.proofs.Common.{◌≡◌, ◌≤◌}
 use Rattle.thread_runs.specs.Runs.{executed}
-use Rattle.dataflow.specs.Chains.{event_index}
+use Rattle.taints.specs.Chains.{event_index}
 use Rattle.dataflow.proofs.pass.event_count.Given as goal
 
 abbrev pub invariant-loop-step : goal.invariant-loop-step

@@ -1,6 +1,6 @@
 use Rattle.std.proofs.Common.{rules}
 use Rattle.std.proofs.lemmas.Nat.Bits.{shr_and_one}
-use Rattle.bit_relations.specs.Relation.{Bit}
+use Rattle.bit_rows.specs.Relation.{Bit}
 use Rattle.dataflow.proofs.pass.has.Goals as goal
 
 pub returns : goal.returns

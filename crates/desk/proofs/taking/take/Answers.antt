@@ -2,7 +2,7 @@ use Rattle.std.proofs.Common.{fold, sym, subst}
 use Rattle.memo_core.specs.declared.keys.Node.{Node}
 use Rattle.memo_core.specs.Laws.{meaning}
 use Rattle.cells.specs.Cells.{cells as cells_of}
-use Rattle.desk.specs.Boards.{ArePostedBut}
+use Rattle.desk_ledger.specs.Boards.{ArePostedBut}
 use Rattle.desk.proofs.Returning.{but_returned}
 use Rattle.desk.proofs.taking.take.Goals as goal
 

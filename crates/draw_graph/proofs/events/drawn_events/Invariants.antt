@@ -1,5 +1,5 @@
 use Rattle.std.proofs.Common.{length, ◌++◌}
-use Rattle.bit_relations.specs.Relation.{IsEvents}
+use Rattle.bit_rows.specs.Relation.{IsEvents}
 use Rattle.draw_graph.proofs.Growing.{DrawnBelow}
 use Rattle.draw_graph.proofs.events.drawn_events.Given as goal
 

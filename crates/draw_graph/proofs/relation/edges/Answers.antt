@@ -1,5 +1,5 @@
 use Rattle.std.proofs.lemmas.Result.{IfOk-weaker}
-use Rattle.bit_relations.specs.Relation.{IsMember}
+use Rattle.bit_rows.specs.Relation.{IsMember}
 use Rattle.draw_graph.proofs.Pairs.{among_edges}
 use Rattle.draw_graph.proofs.relation.edges.Goals as goal
 

@@ -1,6 +1,6 @@
 use Rattle.std.proofs.Common.{ℕ, ◌+◌, ◌≡◌, ◌∙◌, sym, subst, arith, rules, List}
 use Rattle.std.proofs.lemmas.Bool.{false≢true}
-use Rattle.bit_relations.specs.Relation.{Has}
+use Rattle.bit_rows.specs.Relation.{Has}
 use Rattle.draw_graph.proofs.Pairs.{UpTo, none_yet, one_more, none_more, row_done, all_done}
 use Rattle.draw_graph.proofs.relation.pairs.Goals as goal
 use Rattle.draw_graph.proofs.relation.pairs.Goals.{then-contains+in_ok-push, else-contains}

@@ -1,4 +1,4 @@
-use Rattle.bit_relations.specs.Relation.{Has}
+use Rattle.bit_rows.specs.Relation.{Has}
 use Rattle.draw_graph.proofs.Pairs.{UpTo}
 use Rattle.draw_graph.proofs.relation.pairs.Given as goal
 

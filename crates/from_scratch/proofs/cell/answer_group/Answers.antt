@@ -1,5 +1,5 @@
 use Rattle.std.proofs.Common.{List, Vec, Global, refl, subst}
-use Rattle.cat_eval.specs.declared.column.Column.{Column}
+use Rattle.cat_machine.specs.declared.column.Column.{Column}
 use Rattle.from_scratch.specs.declared.cell.ItemAnswers.{ItemAnswers}
 use Rattle.from_scratch.specs.Known.{AreFound}
 use Rattle.from_scratch.proofs.Letting.{answered_group}

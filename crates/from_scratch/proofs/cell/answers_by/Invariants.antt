@@ -1,5 +1,5 @@
 use Rattle.std.proofs.Common.{◌≡◌, length, vec_len}
-use Rattle.candidates.specs.Space.{shown_in}
+use Rattle.candidate_spaces.specs.Space.{shown_in}
 use Rattle.cat_eval.specs.Tables.{IsOver}
 use Rattle.from_scratch.specs.Answers.{AreSoundItems}
 use Rattle.from_scratch.specs.Keeping.{AreKeptTo}

@@ -1,6 +1,6 @@
 use Rattle.std.proofs.Common.{◌≡◌, [], ◌∷◌, length, ap, ◌∙◌}
-use Rattle.candidates.specs.Space.{shown_in}
-use Rattle.verdict.specs.Kept.{of_raised}
+use Rattle.candidate_spaces.specs.Space.{shown_in}
+use Rattle.outcome_states.specs.Kept.{of_raised}
 use Rattle.from_scratch.proofs.Cells.{outcome_said, said_from}
 use Rattle.from_scratch.proofs.Knowing.{kept_alone}
 use Rattle.from_scratch.proofs.cell.evaluated.Goals as goal

@@ -1,5 +1,5 @@
 use Rattle.std.proofs.Common.{◌≡◌, ℕ, ◌<◌, [], Vec, Global, vec_len, slice_index_or}
-use Rattle.cat_eval.specs.declared.column.Column.{Column}
+use Rattle.cat_machine.specs.declared.column.Column.{Column}
 use Rattle.from_scratch.proofs.cell.no_answers.Given as goal
 
 abbrev pub invariant-items : goal.invariant-items

@@ -1,5 +1,5 @@
 use Rattle.std.proofs.Common.{◌≡◌, take}
-use Rattle.verdict.specs.Kept.{of_raised}
+use Rattle.outcome_states.specs.Kept.{of_raised}
 use Rattle.from_scratch.specs.Known.{of_flags}
 use Rattle.from_scratch.proofs.cell.raised.Given as goal
 

@@ -1,4 +1,4 @@
-use Rattle.cat_eval.specs.Executions.{events_of, EventsAt, PairsAt}
+use Rattle.cat_machine.specs.Executions.{events_of, EventsAt, PairsAt}
 use Rattle.from_scratch.proofs.Sole.{one_least}
 use Rattle.from_scratch.proofs.laws.least_values_are_one.Goals as goal
 

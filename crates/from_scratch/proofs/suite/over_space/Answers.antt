@@ -1,8 +1,8 @@
 use Rattle.std.proofs.Common.{◌≡◌, subst}
 use Rattle.std.proofs.lemmas.Result.{IfOk-weaker}
-use Rattle.candidates.specs.declared.candidate.Space.{Space}
+use Rattle.candidate_spaces.specs.declared.candidate.Space.{Space}
 use Rattle.cat_eval.specs.Tables.{IsOver}
-use Rattle.verdict.specs.declared.answer.Refusal.TheVariants as refusals
+use Rattle.outcome_states.specs.declared.answer.Refusal.TheVariants as refusals
 use Rattle.from_scratch.specs.Cell.{IsSaidFromSome, IsCell}
 use Rattle.from_scratch.proofs.Cells.{cell_said, cell_refused, model_over}
 use Rattle.from_scratch.proofs.suite.over_space.Goals as goal

@@ -1,8 +1,8 @@
 use Rattle.std.proofs.Common.{rules, ℕ, List, [], refl, sym, subst}
 use Rattle.std.proofs.lemmas.List.{append-nil}
 use Rattle.std.proofs.lemmas.Result.{on_ok_weaker}
-use Rattle.fault_lines.specs.Lines.{fault_lines}
-use Rattle.fault_lines.specs.Words.{rule_words}
+use Rattle.fault_texts.specs.Lines.{fault_lines}
+use Rattle.fault_texts.specs.Words.{rule_words}
 use Rattle.litmus_tokens.specs.Numbers.{number_of as test_rule_number}
 use Rattle.outcome_lines.specs.Records.{Tested, Refused}
 use Rattle.command_answers.proofs.Answering.{test_refused}

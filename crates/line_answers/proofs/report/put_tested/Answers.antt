@@ -1,6 +1,6 @@
 use Rattle.std.proofs.Common.{rules, ◌≡◌, List, length, map, sym, ap, ◌∙◌}
 use Rattle.std.proofs.lemmas.Result.{on_ok_weaker}
-use Rattle.verdict.specs.declared.answer.Outcome.{Outcome}
+use Rattle.outcome_states.specs.declared.answer.Outcome.{Outcome}
 use Rattle.outcome_lines.specs.declared.record.ModelOutcome as given
 use Rattle.outcome_lines.specs.Records.{model_outcome_of}
 use Rattle.line_answers.specs.Added.{named_outcomes}

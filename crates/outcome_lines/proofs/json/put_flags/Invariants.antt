@@ -2,7 +2,7 @@ use Rattle.std.proofs.Common.{◌≡◌, ◌++◌, drop}
 use Rattle.std.specs.Prelude.{codes, map}
 use Rattle.text_values.specs.Joined.{joined}
 use Rattle.text_values.proofs.Separated.{from}
-use Rattle.json_text.specs.Strings.{string_text}
+use Rattle.escaped_texts.specs.Strings.{string_text}
 use Rattle.outcome_lines.proofs.json.put_flags.Given as goal
 
 abbrev pub invariant-loop-index : goal.invariant-loop-index

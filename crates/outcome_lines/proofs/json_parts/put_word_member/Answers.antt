@@ -1,7 +1,7 @@
 use Rattle.std.proofs.Common.{◌++◌, ap, ◌∙◌, append_assoc}
 use Rattle.std.specs.Prelude.{codes}
 use Rattle.std.proofs.lemmas.Result.{on_ok_weaker}
-use Rattle.json_text.specs.Strings.{string_text}
+use Rattle.escaped_texts.specs.Strings.{string_text}
 use Rattle.outcome_texts.specs.Log.{observation_word}
 use Rattle.outcome_lines.specs.Json.{word_member}
 use Rattle.outcome_lines.proofs.json_parts.put_word_member.Goals as goal

@@ -1,5 +1,5 @@
 use Rattle.std.proofs.Common.{rules, ◌≡◌}
-use Rattle.verdict.specs.Order.{state_cmp}
+use Rattle.outcome_states.specs.Order.{state_cmp}
 use Rattle.outcome_texts.proofs.Merging.{order_is, first_is_less, states_are_equal, second_is_less}
 use Rattle.outcome_texts.proofs.difference.least_of_both.Goals as goal
 

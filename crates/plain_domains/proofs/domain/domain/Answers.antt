@@ -2,10 +2,10 @@ use Rattle.std.proofs.Common.{List, map, ap, ◌∙◌}
 use Rattle.text_values.specs.declared.test.Thread.{Thread}
 use Rattle.text_values.specs.TestValue.{content_of}
 use Rattle.plain_machine.specs.Values.{value_as}
-use Rattle.plain_locations.specs.declared.count.Counted.TheVariants.{Loads, Events}
-use Rattle.plain_locations.specs.Locations.{names_as}
-use Rattle.plain_locations.specs.Counts.{line_count}
-use Rattle.plain_locations.proofs.Mapping.{not_true}
+use Rattle.plain_runs.specs.declared.count.Counted.TheVariants.{Loads, Events}
+use Rattle.plain_runs.specs.Locations.{names_as}
+use Rattle.plain_runs.specs.Counts.{line_count}
+use Rattle.plain_runs.proofs.Mapping.{not_true}
 use Rattle.plain_domains.proofs.Rounds.{domain_of, few_events, many_events, start_listed}
 use Rattle.plain_domains.proofs.domain.domain.Goals as goal
 

@@ -5,7 +5,7 @@ use Rattle.plain_runs.specs.declared.run.Instance as code
 use Rattle.plain_runs.specs.Runs.{instance_as}
 use Rattle.plain_domains.specs.Domains.{Adds, IsStoredBy}
 use Rattle.plain_domains.proofs.Storing.{adds_begin, adds_more}
-use Rattle.plain_locations.proofs.Mapping.{mapped_more, mapped_all}
+use Rattle.plain_runs.proofs.Mapping.{mapped_more, mapped_all}
 use Rattle.plain_domains.proofs.domain.put_instances.Goals as goal
 
 pub loop-instance-init : goal.loop-instance-init

@@ -1,5 +1,5 @@
 use Rattle.plain_machine.specs.Values.{value_as}
-use Rattle.plain_locations.proofs.Mapping.{not_true}
+use Rattle.plain_runs.proofs.Mapping.{not_true}
 use Rattle.plain_domains.proofs.Rounds.{real_none, real_some}
 use Rattle.plain_domains.proofs.domain.put_real.Goals as goal
 

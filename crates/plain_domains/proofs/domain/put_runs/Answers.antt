@@ -5,7 +5,7 @@ use Rattle.plain_runs.specs.declared.free.FreeRun as code
 use Rattle.plain_runs.specs.Frees.{free_run_as}
 use Rattle.plain_domains.specs.Domains.{Adds, IsStoredIn}
 use Rattle.plain_domains.proofs.Storing.{adds_begin, adds_more}
-use Rattle.plain_locations.proofs.Mapping.{mapped_more, mapped_all}
+use Rattle.plain_runs.proofs.Mapping.{mapped_more, mapped_all}
 use Rattle.plain_domains.proofs.domain.put_runs.Goals as goal
 
 pub loop-free-init : goal.loop-free-init

@@ -4,10 +4,10 @@ use Rattle.text_values.specs.TestValue.{content_of}
 use Rattle.meaning.specs.Names.{Name}
 use Rattle.meaning_plain.specs.Lists.{Given}
 use Rattle.plain_machine.specs.declared.value.Value.{Value}
-use Rattle.plain_locations.specs.Locations.{names_as}
+use Rattle.plain_runs.specs.Locations.{names_as}
 use Rattle.plain_domains.specs.Domains.{Adds, IsStartOf}
 use Rattle.plain_domains.proofs.Storing.{adds_begin, adds_more, adds_listed}
-use Rattle.plain_locations.proofs.Mapping.{mapped_more, mapped_all}
+use Rattle.plain_runs.proofs.Mapping.{mapped_more, mapped_all}
 use Rattle.plain_domains.proofs.domain.start_values.Goals as goal
 
 pub loop-location-init : goal.loop-location-init

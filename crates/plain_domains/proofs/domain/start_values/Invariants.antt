@@ -1,7 +1,7 @@
 use Rattle.std.proofs.Common.{take, []}
 use Rattle.text_values.specs.TestValue.{content_of}
 use Rattle.meaning_plain.specs.Lists.{Given}
-use Rattle.plain_locations.specs.Locations.{names_as}
+use Rattle.plain_runs.specs.Locations.{names_as}
 use Rattle.plain_domains.specs.Domains.{Adds, IsStartOf}
 use Rattle.plain_domains.proofs.domain.start_values.Given as goal
 

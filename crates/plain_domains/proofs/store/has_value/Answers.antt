@@ -1,6 +1,6 @@
 use Rattle.std.proofs.Common.{false, refl}
 use Rattle.plain_machine.specs.Values.{value_as}
-use Rattle.plain_locations.proofs.Mapping.{not_true, none_more, none_all}
+use Rattle.plain_runs.proofs.Mapping.{not_true, none_more, none_all}
 use Rattle.plain_domains.proofs.store.has_value.Goals as goal
 
 pub loop-one-preserved : goal.loop-one-preserved

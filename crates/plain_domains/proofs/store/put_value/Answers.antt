@@ -3,7 +3,7 @@ use Rattle.plain_machine.specs.declared.value.Value.{Value}
 use Rattle.plain_machine.specs.Values.{value_as}
 use Rattle.plain_runs.specs.Runs.{ValuesOf}
 use Rattle.plain_domains.proofs.Storing.{adds_one}
-use Rattle.plain_locations.proofs.Mapping.{not_true}
+use Rattle.plain_runs.proofs.Mapping.{not_true}
 use Rattle.plain_domains.proofs.store.put_value.Goals as goal
 
 pub returns : goal.returns

@@ -1,7 +1,7 @@
 use denote.Ref.{Bor}
 use Rattle.std.proofs.Common.{ℕ, List, sym, ◌∙◌}
 use Rattle.std.proofs.lemmas.Slice.Eq.{bytes_eq-Decides}
-use Rattle.plain_locations.proofs.Mapping.{not_true, none_more, none_all}
+use Rattle.plain_runs.proofs.Mapping.{not_true, none_more, none_all}
 use Rattle.plain_ends.proofs.Finals.{name_there}
 use Rattle.plain_ends.proofs.ending.index_of.Goals as goal
 

@@ -9,7 +9,7 @@ use Rattle.plain_machine.specs.declared.value.Value.{Value}
 use Rattle.plain_machine.specs.Values.{value_as}
 use Rattle.plain_executions.specs.Executions.{execution_as}
 use Rattle.plain_executions.proofs.Pairing.{zipped_more}
-use Rattle.plain_locations.proofs.Mapping.{there_at}
+use Rattle.plain_runs.proofs.Mapping.{there_at}
 use Rattle.plain_ends.specs.Ends.{values_as}
 use Rattle.plain_ends.proofs.Finals.{ends_there, holds_something}
 use Rattle.plain_ends.proofs.ending.state.Goals as goal

@@ -5,7 +5,7 @@ use Rattle.text_values.specs.TestValue.{formula_of}
 use Rattle.meaning.specs.Names.{is_same_observable}
 use Rattle.meaning.specs.Outcome.{is_observable_before, observables_of}
 use Rattle.plain_ends.specs.Ends.{places_as, with_places}
-use Rattle.plain_locations.proofs.Placing.{each_append}
+use Rattle.plain_runs.proofs.Placing.{each_append}
 use Rattle.plain_ends.proofs.observables.+put_proposition.Goals as goal
 
 abbrev put : Proposition → List Place → List Place

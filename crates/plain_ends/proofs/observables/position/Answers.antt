@@ -3,7 +3,7 @@ use Rattle.std.proofs.Common.{◌≡◌, ℕ, List, Bool, true, false, get_or, a
 use Rattle.text_values.specs.declared.test.Place.{Place}
 use Rattle.meaning.specs.Names.{is_same_observable}
 use Rattle.meaning.specs.Outcome.{is_observable_before}
-use Rattle.plain_locations.proofs.Placing.{placed_same, placed_before, placed_more, placed_last}
+use Rattle.plain_runs.proofs.Placing.{placed_same, placed_before, placed_more, placed_last}
 use Rattle.plain_ends.proofs.observables.position.Goals as goal
 
 abbrev place_at : Bor Place → Place

@@ -5,7 +5,7 @@ use Rattle.text_values.specs.declared.test.Place.{Place}
 use Rattle.meaning.specs.Names.{is_same_observable, with_one}
 use Rattle.meaning.specs.Outcome.{is_observable_before}
 use Rattle.plain_ends.specs.Ends.{places_as}
-use Rattle.plain_locations.proofs.Placing.{inserted_as}
+use Rattle.plain_runs.proofs.Placing.{inserted_as}
 use Rattle.plain_ends.proofs.observables.put_observable.Goals as goal
 
 pub returns-in_ok-insert-in-Some : goal.returns-in_ok-insert-in-Some

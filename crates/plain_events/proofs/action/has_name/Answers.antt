@@ -1,7 +1,7 @@
 use denote.Ref.{Bor}
 use Rattle.std.proofs.Common.{ℕ, List, false, refl, sym, ◌∙◌}
 use Rattle.std.proofs.lemmas.Slice.Eq.{bytes_eq-Decides}
-use Rattle.plain_locations.proofs.Mapping.{not_true, there_at, none_more, none_all}
+use Rattle.plain_runs.proofs.Mapping.{not_true, there_at, none_more, none_all}
 use Rattle.plain_events.proofs.action.has_name.Goals as goal
 
 pub returns-then-eq : goal.returns-then-eq

@@ -1,6 +1,6 @@
 use Rattle.std.proofs.Common.{◌≡◌, map, take}
 use Rattle.meaning.specs.Executions.{Initial}
-use Rattle.plain_locations.specs.Locations.{names_as}
+use Rattle.plain_runs.specs.Locations.{names_as}
 use Rattle.plain_events.specs.Events.{event_as}
 use Rattle.plain_events.proofs.node.initial_nodes.Given as goal
 

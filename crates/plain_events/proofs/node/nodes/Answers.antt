@@ -2,7 +2,7 @@ use Rattle.std.proofs.Common.{ℕ, List, length, map, ap, sym, ◌∙◌, ◌≤
 use Rattle.std.proofs.lemmas.List.{map-append, length-map}
 use Rattle.meaning.specs.Runs.{Instance}
 use Rattle.plain_runs.specs.Runs.{run_as}
-use Rattle.plain_locations.specs.Locations.{names_as}
+use Rattle.plain_runs.specs.Locations.{names_as}
 use Rattle.plain_events.specs.declared.event.Event.{Event}
 use Rattle.plain_events.specs.Events.{event_as}
 use Rattle.plain_events.proofs.Doing.{run_at}

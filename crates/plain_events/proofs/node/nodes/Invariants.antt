@@ -1,7 +1,7 @@
 use Rattle.std.proofs.Common.{map}
 use Rattle.meaning.specs.Sets.{IsListOf}
 use Rattle.plain_runs.specs.Runs.{run_as}
-use Rattle.plain_locations.specs.Locations.{names_as}
+use Rattle.plain_runs.specs.Locations.{names_as}
 use Rattle.plain_events.specs.Events.{event_as}
 use Rattle.plain_events.proofs.Standing.{IsNodeBelow}
 use Rattle.plain_events.proofs.node.nodes.Given as goal

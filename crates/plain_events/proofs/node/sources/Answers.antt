@@ -4,7 +4,7 @@ use Rattle.meaning.specs.Sets.{IsOnce}
 use Rattle.meaning.specs.Names.{Name}
 use Rattle.meaning.specs.Executions.{MayRead}
 use Rattle.plain_runs.specs.Runs.{run_as}
-use Rattle.plain_locations.specs.Locations.{names_as}
+use Rattle.plain_runs.specs.Locations.{names_as}
 use Rattle.plain_events.specs.declared.event.Event.{Event}
 use Rattle.plain_events.specs.Events.{event_as, of_runs}
 use Rattle.plain_events.proofs.Doing.{source_node}

@@ -1,6 +1,6 @@
 use Rattle.std.proofs.Common.{◌↔◌, sym, subst}
 use Rattle.std.specs.Prelude.{IfOk, IsTrue}
-use Rattle.plain_dependencies.specs.Slots.{instructions_as}
+use Rattle.plain_events.specs.Slots.{instructions_as}
 use Rattle.plain_executions.specs.declared.dependent.Kind.{Kind}
 use Rattle.plain_executions.specs.Kinds.{dependency_of}
 use Rattle.plain_executions.proofs.dependent.is_related.Goals as goal

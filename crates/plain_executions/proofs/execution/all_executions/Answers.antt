@@ -5,7 +5,7 @@ use Rattle.text_values.specs.TestValue.{content_of}
 use Rattle.meaning.specs.Sets.{IsListOf}
 use Rattle.plain_runs.specs.declared.run.Run as runs
 use Rattle.plain_runs.specs.Runs.{run_as}
-use Rattle.plain_combinations.specs.Combinations.{run_lists_as}
+use Rattle.plain_events.specs.Combinations.{run_lists_as}
 use Rattle.plain_executions.specs.declared.execution.Execution as code
 use Rattle.plain_executions.specs.Executions.{execution_as, IsExecutionOf}
 use Rattle.plain_executions.proofs.Executing.{over_step, over_end, one_runs, all_listed}

@@ -7,10 +7,10 @@ use Rattle.meaning.specs.Sets.{IsOnce}
 use Rattle.meaning.specs.Names.{Name}
 use Rattle.plain_machine.specs.declared.value.Value.{Value}
 use Rattle.plain_runs.specs.declared.run.Run.{Run}
-use Rattle.plain_locations.specs.Locations.{names_as}
+use Rattle.plain_runs.specs.Locations.{names_as}
 use Rattle.plain_domains.specs.declared.domain.Refusal.{Refusal}
 use Rattle.plain_domains.specs.Domains.{IsDomainFound}
-use Rattle.plain_combinations.specs.Combinations.{AreAllCombinations}
+use Rattle.plain_events.specs.Combinations.{AreAllCombinations}
 use Rattle.plain_events.proofs.Standing.{locations_once}
 use Rattle.plain_executions.specs.declared.execution.Execution as code
 use Rattle.plain_executions.specs.Executions.{execution_as, HasFaultAmong}

@@ -4,7 +4,7 @@ use Rattle.text_values.specs.TestValue.{content_of}
 use Rattle.meaning.specs.Sets.{IsListOf}
 use Rattle.meaning.specs.Executions.{IsOrder}
 use Rattle.plain_runs.specs.Runs.{run_as}
-use Rattle.plain_locations.specs.Locations.{names_as}
+use Rattle.plain_runs.specs.Locations.{names_as}
 use Rattle.plain_events.specs.Events.{of_runs}
 use Rattle.plain_executions.specs.Executions.{order_lists_as}
 use Rattle.plain_executions.proofs.order.all_orders.Given as goal

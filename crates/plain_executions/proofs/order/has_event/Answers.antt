@@ -1,6 +1,6 @@
 use Rattle.std.proofs.lemmas.Bool.{iff_false}
 use Rattle.plain_events.specs.Events.{event_as}
-use Rattle.plain_locations.proofs.Mapping.{none_more, none_all}
+use Rattle.plain_runs.proofs.Mapping.{none_more, none_all}
 use Rattle.plain_executions.proofs.Depending.{no}
 use Rattle.plain_executions.proofs.order.has_event.Goals as goal
 

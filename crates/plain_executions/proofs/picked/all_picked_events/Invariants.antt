@@ -1,5 +1,5 @@
 use Rattle.std.proofs.Common.{◌≡◌, map, take}
-use Rattle.plain_combinations.specs.Choices.{pick, lists_as}
+use Rattle.plain_events.specs.Choices.{pick, lists_as}
 use Rattle.plain_executions.specs.Executions.{event_lists_as}
 use Rattle.plain_executions.proofs.picked.all_picked_events.Given as goal
 

@@ -3,7 +3,7 @@ use Rattle.std.proofs.lemmas.List.{map-append, append-nil}
 use Rattle.meaning.specs.Executions.{Event}
 use Rattle.plain_events.specs.declared.event.Event as code
 use Rattle.plain_events.specs.Events.{event_as}
-use Rattle.plain_combinations.proofs.Combining.{got_none, got_some}
+use Rattle.plain_events.proofs.Combining.{got_none, got_some}
 use Rattle.plain_executions.proofs.picked.put_event.Goals as goal
 
 pub returns-then-index-list : goal.returns-then-index-list

@@ -1,7 +1,7 @@
 use Rattle.std.proofs.Common.{ℕ, List, Vec, map, ap, subst, ◌∙◌}
 use Rattle.std.specs.declared.alloc.Global.{Global}
 use Rattle.meaning.specs.Sets.{IsListOf}
-use Rattle.plain_combinations.specs.Choices.{pick, lists_as, IsIndexChoice}
+use Rattle.plain_events.specs.Choices.{pick, lists_as, IsIndexChoice}
 use Rattle.plain_executions.specs.Executions.{order_lists_as}
 use Rattle.plain_executions.proofs.picked_orders.order_products.Goals as goal
 

@@ -1,8 +1,8 @@
 use Rattle.std.proofs.Common.{◌≡◌, List, take, sym, subst, arith}
 use Rattle.std.specs.List.{AllZip}
-use Rattle.text_values.specs.declared.predefined.Predefined.{Predefined}
-use Rattle.text_values.specs.declared.predefined.TheConstants.{PREDEFINED}
-use Rattle.text_values.specs.PredefinedNames.{spelling}
+use Rattle.predefined_names.specs.declared.predefined.Predefined.{Predefined}
+use Rattle.predefined_names.specs.declared.predefined.TheConstants.{PREDEFINED}
+use Rattle.predefined_names.specs.PredefinedNames.{spelling}
 use Rattle.plain_models.specs.declared.scope.Named.{Named}
 use Rattle.plain_executions.specs.Executions.{execution_as}
 use Rattle.plain_names.specs.Seen.{seen_events}

@@ -1,7 +1,7 @@
 use Rattle.std.proofs.Common.{◌≡◌, take}
 use Rattle.std.specs.List.{AllZip}
-use Rattle.text_values.specs.declared.predefined.TheConstants.{PREDEFINED}
-use Rattle.text_values.specs.PredefinedNames.{spelling}
+use Rattle.predefined_names.specs.declared.predefined.TheConstants.{PREDEFINED}
+use Rattle.predefined_names.specs.PredefinedNames.{spelling}
 use Rattle.text_values.specs.TestValue.{Content}
 use Rattle.plain_executions.specs.Executions.{execution_as}
 use Rattle.plain_names.specs.Seen.{seen_events, AreSeen}

@@ -6,7 +6,7 @@ use Rattle.text_values.specs.TestValue.{content_of}
 use Rattle.meaning.specs.Outcome.{IsStateBefore, AreFlags, is_met}
 use Rattle.meanings_exist.specs.Sorted.{IsInOrder}
 use Rattle.plain_machine.specs.declared.value.Value.{Value}
-use Rattle.plain_locations.specs.Locations.{names_as}
+use Rattle.plain_runs.specs.Locations.{names_as}
 use Rattle.plain_ends.specs.declared.ending.End.{End}
 use Rattle.plain_outcomes.specs.States.{states_as, ends_as, AreGood, HaveCount, IsCountedOf}
 use Rattle.plain_outcomes.proofs.Saying.{ends_are_good, positive, negative, states, raised}

@@ -4,7 +4,7 @@ use Rattle.std.proofs.lemmas.Bool.{iff_false}
 use Rattle.std.proofs.lemmas.List.{map-append}
 use Rattle.text_values.specs.ModelValues.{clause_of, check_of}
 use Rattle.meaning.specs.Names.{Name}
-use Rattle.plain_locations.specs.Locations.{names_as}
+use Rattle.plain_runs.specs.Locations.{names_as}
 use Rattle.plain_outcomes.proofs.Flagging.{raised_here, not_raised}
 use Rattle.plain_outcomes.proofs.flags.put_raised.Goals as goal
 

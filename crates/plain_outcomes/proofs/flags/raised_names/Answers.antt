@@ -1,7 +1,7 @@
 use Rattle.std.proofs.Common.{Contains, subst}
 use Rattle.text_values.specs.declared.model.Item.{Item}
 use Rattle.text_values.specs.ModelValues.{clause_of}
-use Rattle.plain_locations.specs.Locations.{names_as}
+use Rattle.plain_runs.specs.Locations.{names_as}
 use Rattle.plain_outcomes.specs.Kept.{AddsRaised}
 use Rattle.plain_outcomes.proofs.Flagging.{raised_more, raised_all}
 use Rattle.plain_outcomes.proofs.flags.raised_names.Goals as goal

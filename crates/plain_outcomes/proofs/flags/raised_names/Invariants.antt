@@ -1,7 +1,7 @@
 use Rattle.std.proofs.Common.{take, Contains}
 use Rattle.text_values.specs.ModelValues.{clauses_of}
 use Rattle.meaning.specs.Outcome.{AreRaised}
-use Rattle.plain_locations.specs.Locations.{names_as}
+use Rattle.plain_runs.specs.Locations.{names_as}
 use Rattle.plain_outcomes.proofs.flags.raised_names.Given as goal
 
 abbrev pub invariant-loop-index : goal.invariant-loop-index

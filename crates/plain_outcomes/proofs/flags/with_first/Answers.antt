@@ -1,5 +1,5 @@
 use Rattle.std.proofs.Common.{bytes_eq, not}
-use Rattle.plain_locations.specs.Locations.{names_as}
+use Rattle.plain_runs.specs.Locations.{names_as}
 use Rattle.plain_outcomes.proofs.Flagging.{first_more}
 use Rattle.plain_outcomes.proofs.flags.with_first.Goals as goal
 

@@ -1,6 +1,6 @@
 use Rattle.std.proofs.Common.{◌≡◌, ◌∷◌, bytes_eq, not, take}
 use Rattle.std.specs.Prelude.{filter}
-use Rattle.plain_locations.specs.Locations.{names_as}
+use Rattle.plain_runs.specs.Locations.{names_as}
 use Rattle.plain_outcomes.proofs.flags.with_first.Given as goal
 
 abbrev pub invariant-loop-other : goal.invariant-loop-other

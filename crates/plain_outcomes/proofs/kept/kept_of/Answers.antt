@@ -3,7 +3,7 @@ use Rattle.text_values.specs.ModelValues.{clauses_of}
 use Rattle.text_values.specs.TestValue.{content_of}
 use Rattle.plain_executions.specs.declared.execution.Execution.{Execution}
 use Rattle.plain_executions.specs.Executions.{execution_as}
-use Rattle.plain_locations.proofs.Mapping.{there_at}
+use Rattle.plain_runs.proofs.Mapping.{there_at}
 use Rattle.plain_outcomes.specs.Kept.{AddsIfKept}
 use Rattle.plain_outcomes.proofs.Keeping.{kept_begin, kept_further, kept_whole}
 use Rattle.plain_outcomes.proofs.kept.kept_of.Goals as goal

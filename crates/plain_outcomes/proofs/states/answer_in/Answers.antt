@@ -3,7 +3,7 @@ use Rattle.std.proofs.lemmas.Bool.{iff_false}
 use Rattle.std.proofs.lemmas.List.Elements.{Contains-get_or}
 use Rattle.plain_ends.specs.declared.ending.End.{End}
 use Rattle.plain_ends.specs.Ends.{values_as}
-use Rattle.plain_locations.proofs.Mapping.{none_more, none_all}
+use Rattle.plain_runs.proofs.Mapping.{none_more, none_all}
 use Rattle.plain_outcomes.specs.States.{end_state}
 use Rattle.plain_outcomes.proofs.Ordering.{at_end}
 use Rattle.plain_outcomes.proofs.states.answer_in.Goals as goal

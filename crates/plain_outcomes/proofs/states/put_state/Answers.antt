@@ -6,7 +6,7 @@ use Rattle.meaning.specs.Outcome.{IsStateBefore}
 use Rattle.meanings_exist.specs.Sorted.{HasOneMore}
 use Rattle.plain_machine.specs.declared.value.Value.{Value}
 use Rattle.plain_ends.specs.Ends.{values_as}
-use Rattle.plain_locations.proofs.Placing.{inserted_as}
+use Rattle.plain_runs.proofs.Placing.{inserted_as}
 use Rattle.plain_outcomes.specs.States.{final_state_as, states_as, IsPlaceOf}
 use Rattle.plain_outcomes.proofs.Ordering.{one_more}
 use Rattle.plain_outcomes.proofs.states.put_state.Goals as goal

@@ -1,5 +1,5 @@
 use Rattle.std.proofs.Common.{ℕ, ◌≤◌, ◌-◌, ◌^◌, min}
-use Rattle.ppc_semantics.specs.Domain.{HasCombinations, threads_from}
+use Rattle.ppc_lowering.specs.Domain.{HasCombinations, threads_from}
 use Rattle.ppc_semantics.proofs.rounds.are_surely_few.Given as goal
 
 abbrev pub invariant-loop-thread : goal.invariant-loop-thread

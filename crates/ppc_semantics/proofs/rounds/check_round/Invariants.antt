@@ -1,4 +1,4 @@
-use Rattle.ppc_semantics.specs.Domain.{HasFewRuns}
+use Rattle.ppc_lowering.specs.Domain.{HasFewRuns}
 use Rattle.ppc_semantics.proofs.rounds.check_round.Given as goal
 
 abbrev pub invariant-loop-thread : goal.invariant-loop-thread

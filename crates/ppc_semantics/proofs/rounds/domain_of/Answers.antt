@@ -1,6 +1,6 @@
 use Rattle.std.proofs.Common.{List, arith, subst}
 use Rattle.thread_runs.specs.declared.value.Value.{Value}
-use Rattle.ppc_semantics.specs.Domain.{IsCombinationFault}
+use Rattle.ppc_lowering.specs.Domain.{IsCombinationFault}
 use Rattle.ppc_semantics.proofs.Bounds.{combination_fault, passed_on}
 use Rattle.ppc_semantics.proofs.rounds.domain_of.Goals as goal
 

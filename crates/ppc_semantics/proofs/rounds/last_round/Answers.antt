@@ -1,6 +1,6 @@
 use Rattle.std.proofs.Common.{ℕ, ◌≡◌, ◌+◌, List, arith, sym, subst}
 use Rattle.thread_runs.specs.declared.value.Value.{Value}
-use Rattle.ppc_semantics.specs.Domain.{load_total, IsDomainAt}
+use Rattle.ppc_lowering.specs.Domain.{load_total, IsDomainAt}
 use Rattle.ppc_semantics.proofs.Bounds.{few_loads, going, going_fault, passed_on, stopped_round, stopped_within}
 use Rattle.ppc_semantics.proofs.rounds.last_round.Goals as goal
 

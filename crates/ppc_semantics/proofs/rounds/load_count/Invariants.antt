@@ -2,7 +2,7 @@ use Rattle.std.proofs.Common.{◌≡◌, ◌-◌, ◌^◌, Vec, take, min}
 use Rattle.std.specs.List.{sum_by, count_by}
 use Rattle.std.specs.declared.alloc.Global.{Global}
 use Rattle.thread_runs.specs.declared.instruction.Line.{Line}
-use Rattle.ppc_semantics.specs.Domain.{has_load}
+use Rattle.ppc_lowering.specs.Domain.{has_load}
 use Rattle.ppc_semantics.proofs.rounds.load_count.Given as goal
 
 abbrev pub invariant-loop-lines : goal.invariant-loop-lines

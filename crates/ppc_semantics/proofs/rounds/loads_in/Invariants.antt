@@ -1,6 +1,6 @@
 use Rattle.std.proofs.Common.{◌≡◌, take}
 use Rattle.std.specs.List.{count_by}
-use Rattle.ppc_semantics.specs.Domain.{has_load}
+use Rattle.ppc_lowering.specs.Domain.{has_load}
 use Rattle.ppc_semantics.proofs.rounds.loads_in.Given as goal
 
 abbrev pub invariant-loop-line : goal.invariant-loop-line

@@ -2,7 +2,7 @@ use Rattle.std.proofs.Common.{ℕ, ◌≡◌, vec_len, arith, subst}
 use Rattle.std.specs.List.{Contains}
 use Rattle.thread_runs.specs.Runs.{StoresFreely}
 use Rattle.thread_runs.specs.FreeWalks.{AreAdded}
-use Rattle.ppc_semantics.specs.Domain.{threads_from}
+use Rattle.ppc_lowering.specs.Domain.{threads_from}
 use Rattle.ppc_semantics.proofs.Rising.{next_more}
 use Rattle.ppc_semantics.proofs.rounds.next_values.Goals as goal
 

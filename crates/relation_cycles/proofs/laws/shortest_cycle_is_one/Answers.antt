@@ -1,4 +1,4 @@
-use Rattle.bit_relations.specs.Relation.{Has}
+use Rattle.bit_rows.specs.Relation.{Has}
 use Rattle.relation_cycles.proofs.Steps.{one_cycle}
 use Rattle.relation_cycles.proofs.laws.shortest_cycle_is_one.Goals as goal
 

@@ -1,5 +1,5 @@
 use Rattle.std.proofs.Common.{List, length, sym, ap, ◌∙◌}
-use Rattle.verdict.specs.declared.answer.Outcome.{Outcome}
+use Rattle.outcome_states.specs.declared.answer.Outcome.{Outcome}
 use Rattle.report_answers.proofs.Drawn.{as_many}
 use Rattle.report_answers.proofs.judged.drawings_if.Goals as goal
 

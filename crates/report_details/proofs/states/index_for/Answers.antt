@@ -1,6 +1,6 @@
 use Rattle.std.proofs.Common.{Bor, arith}
 use Rattle.std.proofs.lemmas.List.{length-map}
-use Rattle.verdict.specs.declared.answer.CountedState.{CountedState}
+use Rattle.outcome_states.specs.declared.answer.CountedState.{CountedState}
 use Rattle.report_details.proofs.Placing.{goes_before, is_there}
 use Rattle.report_details.proofs.states.index_for.Goals as goal
 

@@ -1,5 +1,5 @@
 use Rattle.std.proofs.Common.{map, Bor, sym, ap, ◌∙◌}
-use Rattle.verdict.specs.declared.answer.CountedState.{CountedState}
+use Rattle.outcome_states.specs.declared.answer.CountedState.{CountedState}
 use Rattle.report_details.proofs.Placing.{mapped_insert}
 use Rattle.report_details.proofs.states.insert_state.Goals as goal
 

@@ -1,4 +1,4 @@
-use Rattle.bit_relations.proofs.Bits.{Bit-or}
+use Rattle.bit_rows.proofs.Bits.{Bit-or}
 use Rattle.run_combinations.proofs.key_words.either.Goals as goal
 
 pub returns : goal.returns

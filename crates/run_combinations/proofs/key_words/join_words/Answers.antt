@@ -1,5 +1,5 @@
 use Rattle.std.proofs.Common.{arith}
-use Rattle.bit_relations.proofs.Writing.{written_none, written_more, still}
+use Rattle.bit_rows.proofs.Writing.{written_none, written_more, still}
 use Rattle.run_combinations.proofs.Keying.{all_joined}
 use Rattle.run_combinations.proofs.key_words.join_words.Goals as goal
 

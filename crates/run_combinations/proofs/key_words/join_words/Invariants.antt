@@ -1,5 +1,5 @@
-use Rattle.bit_relations.specs.Pairs.{Union}
-use Rattle.bit_relations.specs.Rows.{RowsHave, AreRowsFilled}
+use Rattle.bit_rows.specs.Pairs.{Union}
+use Rattle.bit_rows.specs.Rows.{RowsHave, AreRowsFilled}
 use Rattle.run_combinations.proofs.key_words.join_words.Given as goal
 
 abbrev pub invariant-loop-a : goal.invariant-loop-a

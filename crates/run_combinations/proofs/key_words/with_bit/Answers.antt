@@ -1,4 +1,4 @@
-use Rattle.bit_relations.proofs.Bits.{Bit-set}
+use Rattle.bit_rows.proofs.Bits.{Bit-set}
 use Rattle.run_combinations.proofs.key_words.with_bit.Goals as goal
 
 pub returns : goal.returns

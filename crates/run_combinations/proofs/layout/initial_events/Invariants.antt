@@ -1,5 +1,5 @@
 use Rattle.std.proofs.Common.{◌≡◌, take}
-use Rattle.run_combinations.specs.Events.{initial_stores}
+use Rattle.store_orders.specs.Events.{initial_stores}
 use Rattle.run_combinations.proofs.layout.initial_events.Given as goal
 
 abbrev pub invariant-loop-location : goal.invariant-loop-location

@@ -1,6 +1,6 @@
 use Rattle.std.proofs.Common.{◌++◌, ◌∷◌, [], sym, subst}
 use Rattle.run_combinations.specs.Keys.{AreKeys, bit_of}
-use Rattle.run_combinations.specs.declared.combination.Action.{Action}
+use Rattle.store_orders.specs.declared.combination.Action.{Action}
 use Rattle.run_combinations.proofs.Parting.{read_more, write_more, fence_more}
 use Rattle.run_combinations.proofs.part.add_keys.Goals as goal
 

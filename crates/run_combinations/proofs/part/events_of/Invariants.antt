@@ -1,5 +1,5 @@
 use Rattle.std.proofs.Common.{◌≡◌, take}
-use Rattle.run_combinations.specs.Events.{thread_events}
+use Rattle.store_orders.specs.Events.{thread_events}
 use Rattle.run_combinations.proofs.part.events_of.Given as goal
 
 abbrev pub invariant-loop-event : goal.invariant-loop-event

@@ -2,7 +2,7 @@ use Rattle.std.proofs.Common.{ℕ, ◌≡◌, List, take, length, ap, subst, ari
 use Rattle.std.proofs.Math.Seq.{take-length}
 use Rattle.thread_runs.specs.declared.instruction.Event as run
 use Rattle.run_combinations.specs.Keys.{AreKeys, bit_of}
-use Rattle.run_combinations.specs.Events.{thread_events}
+use Rattle.store_orders.specs.Events.{thread_events}
 use Rattle.run_combinations.proofs.part.sketch_of.Goals as goal
 
 pub returns-clause-keys : goal.returns-clause-keys

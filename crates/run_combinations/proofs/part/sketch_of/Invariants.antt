@@ -1,6 +1,6 @@
 use Rattle.std.proofs.Common.{ℕ, take}
 use Rattle.run_combinations.specs.Keys.{AreKeys, bit_of}
-use Rattle.run_combinations.specs.Events.{thread_events}
+use Rattle.store_orders.specs.Events.{thread_events}
 use Rattle.run_combinations.proofs.part.sketch_of.Given as goal
 
 abbrev pub invariant-loop-event : goal.invariant-loop-event

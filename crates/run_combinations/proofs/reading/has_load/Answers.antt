@@ -1,5 +1,5 @@
 use Rattle.std.proofs.Common.{arith, rules, tests}
-use Rattle.run_combinations.specs.Events.{is_load}
+use Rattle.store_orders.specs.Events.{is_load}
 use Rattle.run_combinations.proofs.Gathering.{has_number, number_within}
 use Rattle.run_combinations.proofs.reading.has_load.Goals as goal
 

@@ -1,5 +1,5 @@
 use Rattle.std.proofs.Common.{ℕ, ◌≡◌, ◌↔◌, Bool, true, false, not, IsTrue, rules}
-use Rattle.bit_relations.specs.Relation.{IsMember}
+use Rattle.bit_rows.specs.Relation.{IsMember}
 use Rattle.run_combinations.proofs.Members.{some_member}
 use Rattle.run_combinations.proofs.reading.meets.Goals as goal
 

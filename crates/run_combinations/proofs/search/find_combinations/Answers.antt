@@ -1,7 +1,7 @@
 use Rattle.std.proofs.Common.{◌≡◌, List, [], false, map, ap}
-use Rattle.run_combinations.specs.Combinations.{combination_lists}
+use Rattle.store_orders.specs.Combinations.{combination_lists}
 use Rattle.run_combinations.specs.Search.{Tally, no_tally, tally, all_combinations, location_count}
-use Rattle.run_combinations.specs.declared.combination.Combination.{Combination}
+use Rattle.store_orders.specs.declared.combination.Combination.{Combination}
 use Rattle.run_combinations.proofs.Searching.{found_all, found_over}
 use Rattle.run_combinations.proofs.search.find_combinations.Goals as goal
 

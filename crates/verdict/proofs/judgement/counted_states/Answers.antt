@@ -2,14 +2,14 @@ use Rattle.std.proofs.Common.{◌≡◌, ◌++◌, ◌∷◌, [], List, sym, ap,
 use Rattle.std.proofs.lemmas.List.Elements.{All-push, All-same}
 use Rattle.std.proofs.lemmas.List.{append-nil}
 use Rattle.std.proofs.lemmas.Map.Iter.{rest_more}
-use Rattle.verdict.specs.Compiled.{value_of}
-use Rattle.verdict.specs.Counting.{pairs_of, pairs_in}
+use Rattle.outcome_states.specs.Compiled.{value_of}
+use Rattle.outcome_states.specs.Counting.{pairs_of, pairs_in}
 use Rattle.verdict.specs.Evaluated.{IsWorded}
-use Rattle.verdict.specs.Text.{state_text}
-use Rattle.verdict.specs.declared.answer.CountedState.{CountedState}
-use Rattle.verdict.specs.declared.answer.FinalValue.{FinalValue}
+use Rattle.outcome_states.specs.Text.{state_text}
+use Rattle.outcome_states.specs.declared.answer.CountedState.{CountedState}
+use Rattle.outcome_states.specs.declared.answer.FinalValue.{FinalValue}
 use Rattle.verdict.proofs.Evaluations.{one_more_state, states_rise}
-use Rattle.verdict.proofs.Tallies.{Entries}
+use Rattle.outcome_states.proofs.Tallies.{Entries}
 use Rattle.verdict.proofs.judgement.counted_states.Goals as goal
 
 pub loop-values-preserved : goal.loop-values-preserved

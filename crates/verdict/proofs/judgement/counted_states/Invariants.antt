@@ -1,6 +1,6 @@
 use Rattle.std.proofs.Common.{◌≡◌, ◌++◌}
 use Rattle.std.specs.List.{All}
-use Rattle.verdict.specs.Counting.{pairs_of, pairs_in}
+use Rattle.outcome_states.specs.Counting.{pairs_of, pairs_in}
 use Rattle.verdict.specs.Evaluated.{IsWorded}
 use Rattle.verdict.proofs.judgement.counted_states.Given as goal
 

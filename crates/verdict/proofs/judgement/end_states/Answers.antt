@@ -1,16 +1,16 @@
 use Rattle.std.proofs.Common.{◌≡◌, ℕ, ◌-◌, ◌^◌, ◌++◌, min, List, ap, ◌∙◌, subst}
 use Rattle.std.specs.List.{All}
 use Rattle.text_values.specs.TestValue.{Formula, formula_of}
-use Rattle.candidates.specs.Space.{shown_in}
-use Rattle.verdict.specs.Compiled.{Compiles}
-use Rattle.verdict.specs.Counting.{count_kept, tally}
+use Rattle.candidate_spaces.specs.Space.{shown_in}
+use Rattle.outcome_states.specs.Compiled.{Compiles}
+use Rattle.outcome_states.specs.Counting.{count_kept, tally}
 use Rattle.verdict.specs.Evaluated.{IsWorded}
-use Rattle.verdict.specs.Final.{final_state}
-use Rattle.verdict.specs.Meaning.{observables_of}
-use Rattle.verdict.specs.Order.{is_state}
-use Rattle.verdict.specs.Shown.{AreShown}
-use Rattle.verdict.specs.declared.answer.FinalValue.{FinalValue}
-use Rattle.verdict.specs.declared.observable.Observable.{Observable}
+use Rattle.outcome_states.specs.Final.{final_state}
+use Rattle.outcome_states.specs.Meaning.{observables_of}
+use Rattle.outcome_states.specs.Order.{is_state}
+use Rattle.outcome_states.specs.Shown.{AreShown}
+use Rattle.outcome_states.specs.declared.answer.FinalValue.{FinalValue}
+use Rattle.outcome_states.specs.declared.observable.Observable.{Observable}
 use Rattle.verdict.proofs.judgement.end_states.Goals as goal
 
 pub returns : goal.returns

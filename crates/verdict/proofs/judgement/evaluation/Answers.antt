@@ -1,12 +1,12 @@
 use Rattle.std.proofs.Common.{◌-◌, ◌^◌, ◌≤◌, min, List, true, false, length, ap, ◌∙◌, arith}
 use Rattle.text_values.specs.TestValue.{Formula, formula_of}
-use Rattle.candidates.specs.Space.{shown_in}
+use Rattle.candidate_spaces.specs.Space.{shown_in}
 use Rattle.verdict.specs.Evaluated.{AreEndStates}
 use Rattle.verdict.specs.Judgement.{is_same_truth, total_of}
-use Rattle.verdict.specs.Kept.{of_raised}
-use Rattle.verdict.specs.Meaning.{observables_of}
-use Rattle.verdict.specs.declared.answer.CountedState.{CountedState}
-use Rattle.verdict.specs.declared.answer.Evaluation.{Evaluation}
+use Rattle.outcome_states.specs.Kept.{of_raised}
+use Rattle.outcome_states.specs.Meaning.{observables_of}
+use Rattle.outcome_states.specs.declared.answer.CountedState.{CountedState}
+use Rattle.outcome_states.specs.declared.answer.Evaluation.{Evaluation}
 use Rattle.verdict.proofs.Evaluations.{says, shows_all}
 use Rattle.verdict.proofs.judgement.evaluation.Goals as goal
 

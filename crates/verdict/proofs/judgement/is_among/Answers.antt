@@ -1,6 +1,6 @@
 use Rattle.std.proofs.Common.{arith}
 use Rattle.std.proofs.lemmas.Grind.{common_steps}
-use Rattle.verdict.proofs.Names.{is_name-Decides}
+use Rattle.outcome_states.proofs.Names.{is_name-Decides}
 use Rattle.verdict.proofs.judgement.is_among.Goals as goal
 
 pub loop-known-preserved : goal.loop-known-preserved

@@ -1,6 +1,6 @@
 use Rattle.std.proofs.Common.{◌≡◌, false, take}
 use Rattle.std.specs.List.{list_any}
-use Rattle.verdict.specs.Names.{is_name}
+use Rattle.outcome_states.specs.Names.{is_name}
 use Rattle.verdict.proofs.judgement.is_among.Given as goal
 
 abbrev pub invariant-loop-known : goal.invariant-loop-known

@@ -1,5 +1,5 @@
 use Rattle.std.proofs.Common.{◌≡◌, ℕ, ◌<◌, ◌≤◌, false, ◌&&◌, slice_index_or}
-use Rattle.verdict.specs.Kept.{holds_at}
+use Rattle.outcome_states.specs.Kept.{holds_at}
 use Rattle.verdict.proofs.judgement.keep_where.Given as goal
 
 abbrev pub invariant-loop-index : goal.invariant-loop-index

@@ -1,5 +1,5 @@
 use Rattle.std.proofs.Common.{◌≡◌, ℕ, ◌<◌, false, map, take, slice_index_or, vec_len}
-use Rattle.verdict.specs.Kept.{is_kept}
+use Rattle.outcome_states.specs.Kept.{is_kept}
 use Rattle.verdict.proofs.judgement.kept_candidates.Given as goal
 
 abbrev pub invariant-loop-holds : goal.invariant-loop-holds

@@ -1,7 +1,7 @@
 use Rattle.std.proofs.Common.{arith, rules}
 use Rattle.std.proofs.lemmas.Grind.{common_steps}
-use Rattle.verdict.specs.Kept.{holds_on_some, names_of_flags}
-use Rattle.verdict.proofs.Names.{one_flag_more}
+use Rattle.outcome_states.specs.Kept.{holds_on_some, names_of_flags}
+use Rattle.outcome_states.proofs.Names.{one_flag_more}
 use Rattle.verdict.proofs.judgement.raised_names.Goals as goal
 
 pub loop-flag-init : goal.loop-flag-init

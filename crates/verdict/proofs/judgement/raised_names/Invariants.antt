@@ -1,5 +1,5 @@
 use Rattle.std.proofs.Common.{◌≡◌, take}
-use Rattle.verdict.specs.Kept.{names_of_flags, of_raised, holds_on_some}
+use Rattle.outcome_states.specs.Kept.{names_of_flags, of_raised, holds_on_some}
 use Rattle.verdict.proofs.judgement.raised_names.Given as goal
 
 abbrev pub invariant-loop-flag : goal.invariant-loop-flag

@@ -1,6 +1,6 @@
 use Rattle.std.proofs.Common.{◌∙◌, List, ℕ, [], ap, sym, refl}
 use Rattle.text_values.specs.TestValue.{formula_of}
-use Rattle.candidates.specs.Space.{shown_by}
+use Rattle.candidate_spaces.specs.Space.{shown_by}
 use Rattle.verdict.specs.Evaluated.{is_satisfied}
 use Rattle.why_forbidden.proofs.answer.execution_outcome.Goals as goal
 

@@ -1,5 +1,5 @@
 use Rattle.std.proofs.Common.{ℕ, ◌≡◌, subst, arith}
-use Rattle.candidates.specs.Space.{candidate_count}
+use Rattle.candidate_spaces.specs.Space.{candidate_count}
 use Rattle.why_forbidden.specs.Outcomes.{NoCandidate}
 use Rattle.why_forbidden.specs.Views.{AreFoundOf, case_of}
 use Rattle.why_forbidden.proofs.Gathering.{few_more, found_more}

@@ -1,7 +1,7 @@
 use Rattle.std.proofs.Common.{◌∙◌, ap, inl, inr}
 use Rattle.std.specs.Prelude.{codes}
 use Rattle.std.proofs.lemmas.Result.{on_ok_weaker}
-use Rattle.ppc_semantics.specs.Numbers as faults
+use Rattle.ppc_lowering.specs.Numbers as faults
 use Rattle.why_forbidden.specs.Whys.{refusal_text}
 use Rattle.why_forbidden.proofs.Sound.{few_candidates}
 use Rattle.why_forbidden.proofs.answer.put_over_candidates.Goals as goal

@@ -1,6 +1,6 @@
 use Rattle.std.proofs.Common.{◌+◌, ◌∙◌, sym, subst, ap, arith, List, length, ◌<◌}
 use Rattle.std.proofs.lemmas.Bool.{false≢true}
-use Rattle.bit_relations.specs.Relation.{IsMember}
+use Rattle.bit_rows.specs.Relation.{IsMember}
 use Rattle.why_text.specs.declared.event.ToldEvent.{ToldEvent}
 use Rattle.why_forbidden.specs.Drawings.{IsBoxed}
 use Rattle.why_forbidden.specs.Views.{scene_of}

@@ -1,5 +1,5 @@
 use Rattle.std.proofs.Common.{◌+◌, sym, subst, List}
-use Rattle.bit_relations.specs.Relation.{IsMember}
+use Rattle.bit_rows.specs.Relation.{IsMember}
 use Rattle.draw_graph.specs.declared.drawing.Cluster.{Cluster}
 use Rattle.why_forbidden.specs.Drawings.{AreClusters}
 use Rattle.why_forbidden.specs.Views.{scene_of}

@@ -1,4 +1,4 @@
-use Rattle.bit_relations.specs.Relation.{IsMember}
+use Rattle.bit_rows.specs.Relation.{IsMember}
 use Rattle.why_forbidden.specs.Drawings.{AreClusters}
 use Rattle.why_forbidden.specs.Views.{scene_of}
 use Rattle.why_forbidden.proofs.boxes.clusters.Given as goal

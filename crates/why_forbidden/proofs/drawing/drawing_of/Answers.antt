@@ -1,8 +1,8 @@
 use Rattle.std.proofs.Common.{◌≡◌, ◌++◌, ◌∙◌, List, ap, length, refl, sym}
 use Rattle.std.specs.Prelude.{None}
-use Rattle.bit_relations.specs.Relation.{IsEvents, IsMember}
+use Rattle.bit_rows.specs.Relation.{IsEvents, IsMember}
 use Rattle.draw_graph.specs.Drawn.{IsDrawnEvent}
-use Rattle.run_combinations.specs.declared.combination.Event.{Event}
+use Rattle.store_orders.specs.declared.combination.Event.{Event}
 use Rattle.why_forbidden.specs.Drawable.{subject_of}
 use Rattle.why_forbidden.specs.Drawings.{IsDrawnIn, step_ends}
 use Rattle.why_forbidden.specs.Told.{Scene}

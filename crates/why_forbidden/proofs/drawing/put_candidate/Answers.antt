@@ -1,5 +1,5 @@
 use Rattle.std.proofs.Common.{◌≡◌, ◌∙◌, arith, length, refl}
-use Rattle.candidates.specs.Space.{IsShownAt}
+use Rattle.candidate_spaces.specs.Space.{IsShownAt}
 use Rattle.why_forbidden.specs.Drawable.{subject_of}
 use Rattle.why_forbidden.proofs.Graphing.{asked_is, none_is, shown_there, wanted_is}
 use Rattle.why_forbidden.proofs.drawing.put_candidate.Goals as goal

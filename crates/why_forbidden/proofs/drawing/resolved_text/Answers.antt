@@ -1,7 +1,7 @@
 use Rattle.std.proofs.Common.{◌∙◌, ap}
 use Rattle.std.specs.Prelude.{codes}
 use Rattle.std.proofs.lemmas.Result.{IfOk-weaker}
-use Rattle.ppc_semantics.specs.Numbers as refusals
+use Rattle.ppc_lowering.specs.Numbers as refusals
 use Rattle.why_forbidden.specs.Drawings.{HasGraphs, HasNoSpace, refused_comment}
 use Rattle.why_forbidden.proofs.drawing.resolved_text.Goals as goal
 

@@ -2,7 +2,7 @@ use Rattle.std.proofs.Common.{ℕ, ◌≡◌, ◌∙◌, ◌+◌, List, [], ◌�
 use Rattle.std.specs.List.{All}
 use Rattle.std.proofs.lemmas.List.{append-nil, take_all}
 use Rattle.std.proofs.lemmas.List.Elements.{All-push}
-use Rattle.text_values.specs.declared.predefined.Predefined.{Predefined}
+use Rattle.predefined_names.specs.declared.predefined.Predefined.{Predefined}
 use Rattle.why_labels.specs.declared.label.PredefinedValue.{PredefinedValue}
 use Rattle.why_forbidden.specs.Language.{IsOfLanguage, valued_names, relation_names}
 use Rattle.why_forbidden.proofs.Listing.{adds, adds_none, named}

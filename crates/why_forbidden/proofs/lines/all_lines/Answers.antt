@@ -2,9 +2,9 @@ use Rattle.std.proofs.Common.{◌+◌, ◌≡◌, ◌<◌, ◌≤◌, sym, subst
 use Rattle.std.specs.List.{AllZip}
 use Rattle.std.proofs.lemmas.List.{take_all}
 use Rattle.std.proofs.lemmas.Slice.Zip.{AllZip-long}
-use Rattle.bit_relations.specs.Relation.{IsMember}
-use Rattle.text_values.specs.declared.predefined.Predefined.{Predefined}
-use Rattle.text_values.specs.declared.predefined.Predefined.TheVariants as names
+use Rattle.bit_rows.specs.Relation.{IsMember}
+use Rattle.predefined_names.specs.declared.predefined.Predefined.{Predefined}
+use Rattle.predefined_names.specs.declared.predefined.Predefined.TheVariants as names
 use Rattle.draw_graph.specs.declared.drawing.Edges.{Edges}
 use Rattle.draw_graph.specs.declared.drawing.Ink.{Ink}
 use Rattle.draw_graph.specs.declared.drawing.Ink.TheVariants as inks

@@ -1,7 +1,7 @@
 use Rattle.std.proofs.Common.{take}
 use Rattle.std.specs.List.{AllZip}
-use Rattle.bit_relations.specs.Relation.{IsMember}
-use Rattle.candidates.specs.Space.{Candidate}
+use Rattle.bit_rows.specs.Relation.{IsMember}
+use Rattle.candidate_spaces.specs.Space.{Candidate}
 use Rattle.why_forbidden.specs.Drawings.{AreLines, IsCandidateAt, relations}
 use Rattle.why_forbidden.proofs.lines.all_lines.Given as goal
 

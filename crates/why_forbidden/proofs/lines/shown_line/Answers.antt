@@ -1,5 +1,5 @@
 use Rattle.std.proofs.Common.{◌∙◌, refl}
-use Rattle.bit_relations.specs.Relation.{Has, IsMember}
+use Rattle.bit_rows.specs.Relation.{Has, IsMember}
 use Rattle.why_witness.specs.Pairs.{HasPair}
 use Rattle.why_forbidden.proofs.Pairing.{edges_as}
 use Rattle.why_forbidden.proofs.lines.shown_line.Goals as goal

@@ -1,6 +1,6 @@
 use Rattle.std.proofs.Common.{ℕ, ◌+◌, List, get_or, sym, subst, take, arith}
 use Rattle.std.specs.List.{AllZip}
-use Rattle.bit_relations.specs.Relation.{IsMember}
+use Rattle.bit_rows.specs.Relation.{IsMember}
 use Rattle.draw_graph.specs.declared.drawing.Edges.{Edges}
 use Rattle.draw_relations.specs.declared.values.ShownValues.{ShownValues}
 use Rattle.draw_relations.specs.Values.{IsSizedAt}

@@ -1,6 +1,6 @@
 use Rattle.std.proofs.Common.{take}
 use Rattle.std.specs.List.{AllZip}
-use Rattle.bit_relations.specs.Relation.{IsMember}
+use Rattle.bit_rows.specs.Relation.{IsMember}
 use Rattle.why_forbidden.specs.Drawings.{AreShownLines}
 use Rattle.why_forbidden.proofs.lines.shown_lines.Given as goal
 

@@ -1,5 +1,5 @@
 use Rattle.std.proofs.Common.{ℕ, ◌<◌}
-use Rattle.bit_relations.specs.Relation.{Has}
+use Rattle.bit_rows.specs.Relation.{Has}
 use Rattle.why_walks.proofs.run.least_middle.Given as goal
 
 abbrev pub invariant-loop-event : goal.invariant-loop-event

@@ -1,6 +1,6 @@
 use Rattle.std.proofs.Common.{ℕ, ◌≡◌, ◌+◌, ◌∙◌, List, [], ◌∷◌, ◌++◌, take, refl, ap, sym, subst, arith}
 use Rattle.std.proofs.lemmas.List.{take_more, map-append}
-use Rattle.bit_relations.specs.Relation.{Relation, Has}
+use Rattle.bit_rows.specs.Relation.{Relation, Has}
 use Rattle.why_walks.specs.declared.run.Link.{Link}
 use Rattle.why_walks.specs.Walks.{IsRunInto, IsWalk, runs_of}
 use Rattle.why_walks.proofs.Walking.{StillFirst, first_begins, first_ends, first_more, run_of_first, leads_first, leads_nowhere, leads_on, walk_on}

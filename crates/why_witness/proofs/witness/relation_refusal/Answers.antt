@@ -1,5 +1,5 @@
-use Rattle.bit_relations.specs.Relation.{Has}
-use Rattle.cat_eval.specs.Checks.{Holds}
+use Rattle.bit_rows.specs.Relation.{Has}
+use Rattle.cat_machine.specs.Checks.{Holds}
 use Rattle.why_witness.specs.Witnesses.{Breaks}
 use Rattle.why_witness.proofs.Same.{breaks_refutes, explains_met, explains_unmet}
 use Rattle.why_witness.proofs.witness.relation_refusal.Goals as goal

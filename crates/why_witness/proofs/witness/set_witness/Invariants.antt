@@ -1,5 +1,5 @@
 use Rattle.std.proofs.Common.{ℕ, ◌<◌}
-use Rattle.bit_relations.specs.Relation.{IsMember}
+use Rattle.bit_rows.specs.Relation.{IsMember}
 use Rattle.why_witness.proofs.witness.set_witness.Given as goal
 
 abbrev pub invariant-loop-event : goal.invariant-loop-event

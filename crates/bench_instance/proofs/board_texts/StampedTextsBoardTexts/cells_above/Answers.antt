@@ -1,6 +1,6 @@
 use Rattle.std.proofs.Common.{sym, subst}
 use Rattle.board.specs.Contents.{BoardContent}
-use Rattle.desk.specs.Boards.{HoldsAbove}
+use Rattle.desk_ledger.specs.Boards.{HoldsAbove}
 use Rattle.bench_instance.specs.StampedTexts.{stamped_net, verdict_of}
 use Rattle.bench_instance.specs.Cells.{board_cells}
 use Rattle.bench_instance.proofs.Above.{holds_row, holds_cell}

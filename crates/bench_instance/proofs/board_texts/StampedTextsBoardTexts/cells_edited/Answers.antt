@@ -1,8 +1,8 @@
 use Rattle.std.proofs.Common.{sym, subst}
 use Rattle.board.specs.Contents.{BoardContent}
 use Rattle.board.specs.Operations.{board_after}
-use Rattle.desk.specs.Boards.{LeavesCells}
-use Rattle.desk.proofs.Returning.{known_within}
+use Rattle.desk_ledger.specs.Boards.{LeavesCells}
+use Rattle.desk_ledger.proofs.AllPosted.{known_within}
 use Rattle.std.proofs.Common.{inl}
 use Rattle.bench_instance.specs.StampedTexts.{stamped_net, verdict_of}
 use Rattle.bench_instance.specs.Cells.{board_cells}

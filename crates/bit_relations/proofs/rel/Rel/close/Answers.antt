@@ -1,4 +1,4 @@
-use Rattle.bit_relations.proofs.Columns.{columns_relation}
+use Rattle.bit_rows.proofs.Columns.{columns_relation}
 use Rattle.bit_relations.proofs.rel.Rel.close.Goals as goal
 
 pub returns : goal.returns

@@ -1,5 +1,5 @@
 use Rattle.std.proofs.Common.{arith, refl}
-use Rattle.bit_relations.proofs.Columns.{taken_apart, put_together}
+use Rattle.bit_rows.proofs.Columns.{taken_apart, put_together}
 use Rattle.bit_relations.proofs.Making.{copied}
 use Rattle.bit_relations.proofs.Asking.{same_pairs}
 use Rattle.bit_relations.proofs.rel.Rel.copy_from.Goals as goal

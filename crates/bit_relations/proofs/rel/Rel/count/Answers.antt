@@ -1,4 +1,4 @@
-use Rattle.bit_relations.proofs.Columns.{taken_apart, made_relation}
+use Rattle.bit_rows.proofs.Columns.{taken_apart, made_relation}
 use Rattle.bit_relations.proofs.rel.Rel.count.Goals as goal
 
 pub returns-clause-regular : goal.returns-clause-regular

@@ -1,4 +1,4 @@
-use Rattle.bit_relations.proofs.Columns.{put_together, made_relation}
+use Rattle.bit_rows.proofs.Columns.{put_together, made_relation}
 use Rattle.bit_relations.proofs.Making.{nothing_made}
 use Rattle.bit_relations.proofs.rel.Rel.empty.Goals as goal
 

@@ -1,5 +1,5 @@
 use Rattle.std.proofs.Common.{arith}
-use Rattle.bit_relations.proofs.Columns.{taken_apart, put_together, made_relation}
+use Rattle.bit_rows.proofs.Columns.{taken_apart, put_together, made_relation}
 use Rattle.bit_relations.proofs.Making.{added_low, added_high}
 use Rattle.bit_relations.proofs.rel.Rel.insert.Goals as goal
 

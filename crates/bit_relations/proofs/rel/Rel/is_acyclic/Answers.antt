@@ -1,4 +1,4 @@
-use Rattle.bit_relations.proofs.Closing.{one_word, low_within, Plus-map}
+use Rattle.bit_rows.proofs.Closing.{one_word, low_within, Plus-map}
 use Rattle.bit_relations.proofs.rel.Rel.is_acyclic.Goals as goal
 
 pub is_low_acyclic-requires-clause-within : goal.is_low_acyclic-requires-clause-within

@@ -1,5 +1,5 @@
 use Rattle.std.proofs.Common.{IsTrue}
-use Rattle.bit_relations.proofs.Columns.{taken_apart}
+use Rattle.bit_rows.proofs.Columns.{taken_apart}
 use Rattle.bit_relations.proofs.Asking.{irreflexive, irreflexive_low, irreflexive_high}
 use Rattle.bit_relations.proofs.rel.Rel.is_irreflexive.Goals as goal
 

@@ -1,5 +1,5 @@
 use Rattle.std.proofs.Common.{ℕ, List, ap, get_or}
-use Rattle.bit_relations.proofs.Columns.{taken_apart}
+use Rattle.bit_rows.proofs.Columns.{taken_apart}
 use Rattle.bit_relations.proofs.Asking.{same_made, same_high}
 use Rattle.bit_relations.proofs.rel.Rel.is_same.Goals as goal
 

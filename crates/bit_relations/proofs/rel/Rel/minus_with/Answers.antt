@@ -1,4 +1,4 @@
-use Rattle.bit_relations.proofs.Columns.{taken_apart, put_together, made_relation}
+use Rattle.bit_rows.proofs.Columns.{taken_apart, put_together, made_relation}
 use Rattle.bit_relations.proofs.Making.{reduced}
 use Rattle.bit_relations.proofs.rel.Rel.minus_with.Goals as goal
 

@@ -1,4 +1,4 @@
-use Rattle.bit_relations.proofs.Columns.{taken_apart, emptied, columns_at, relation_at}
+use Rattle.bit_rows.proofs.Columns.{taken_apart, emptied, columns_at, relation_at}
 use Rattle.bit_relations.proofs.Making.{stored}
 use Rattle.bit_relations.proofs.rel.Rel.read_from.Goals as goal
 

@@ -1,5 +1,5 @@
 use Rattle.std.proofs.Common.{refl, arith}
-use Rattle.bit_relations.proofs.Columns.{taken_apart, emptied, columns_at, relation_at}
+use Rattle.bit_rows.proofs.Columns.{taken_apart, emptied, columns_at, relation_at}
 use Rattle.bit_relations.proofs.Making.{composed}
 use Rattle.bit_relations.proofs.rel.Rel.set_composed.Goals as goal
 

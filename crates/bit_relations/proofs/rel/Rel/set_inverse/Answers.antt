@@ -1,5 +1,5 @@
 use Rattle.std.proofs.Common.{refl}
-use Rattle.bit_relations.proofs.Columns.{taken_apart, emptied, columns_at, relation_at}
+use Rattle.bit_rows.proofs.Columns.{taken_apart, emptied, columns_at, relation_at}
 use Rattle.bit_relations.proofs.Making.{inverted}
 use Rattle.bit_relations.proofs.rel.Rel.set_inverse.Goals as goal
 

@@ -1,7 +1,7 @@
 use Rattle.std.proofs.Common.{◌≡◌, ◌+◌, ◌++◌, ◌∷◌, ◌∙◌, [], length, length-append, append_assoc, append-nil, refl, sym, arith}
-use Rattle.cat_eval.specs.Seen.{values_seen, seen_run}
+use Rattle.cat_machine.specs.Seen.{values_seen, seen_run}
 use Rattle.cat_eval.proofs.Asking.{asked_renamed}
-use Rattle.cat_eval.proofs.Seeing.{run_long, run_step}
+use Rattle.cat_machine.proofs.Seeing.{run_long, run_step}
 use Rattle.cat_eval.proofs.asked_run.AskedRunRunVisit.visit_run.Goals as goal
 
 pub loop-at-init : goal.loop-at-init

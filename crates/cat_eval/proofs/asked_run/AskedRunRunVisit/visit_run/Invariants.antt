@@ -1,6 +1,6 @@
 use Rattle.std.proofs.Common.{◌≡◌, ◌++◌, List, length}
 use Rattle.cat_eval.specs.Runs.{IsAskedAt}
-use Rattle.cat_eval.specs.Seen.{NamedValues, seen_run}
+use Rattle.cat_machine.specs.Seen.{NamedValues, seen_run}
 use Rattle.cat_eval.proofs.asked_run.AskedRunRunVisit.visit_run.Given as goal
 
 abbrev pub invariant-loop-at : goal.invariant-loop-at

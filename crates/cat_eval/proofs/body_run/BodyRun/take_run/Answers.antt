@@ -1,5 +1,5 @@
 use Rattle.std.proofs.Common.{◌≡◌, ◌≤◌, ◌+◌, ◌-◌, ◌∙◌, length, refl, ap, arith}
-use Rattle.cat_eval.specs.Values.{column_len}
+use Rattle.cat_machine.specs.Values.{column_len}
 use Rattle.cat_eval.proofs.Bodies.{adds_run_long, top_is, body_taken}
 use Rattle.cat_eval.proofs.body_run.BodyRun.take_run.Goals as goal
 

@@ -1,6 +1,6 @@
 use Rattle.std.proofs.Common.{◌≡◌, ◌-◌, ◌++◌, ◌∙◌, length, append-nil, refl, sym, arith}
-use Rattle.cat_eval.specs.Seen.{seen_run}
-use Rattle.cat_eval.specs.Values.{column_len}
+use Rattle.cat_machine.specs.Seen.{seen_run}
+use Rattle.cat_machine.specs.Values.{column_len}
 use Rattle.cat_eval.proofs.Bodies.{body_moved, body_next}
 use Rattle.cat_eval.proofs.body_run.BodyRunRunVisit.visit_run.Goals as goal
 

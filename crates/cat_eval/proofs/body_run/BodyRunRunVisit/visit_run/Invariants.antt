@@ -1,7 +1,7 @@
 use Rattle.std.proofs.Common.{◌≡◌, ◌≤◌, ◌-◌, ◌++◌, List, length}
 use Rattle.cat_eval.specs.Runs.{IsBodyAt}
-use Rattle.cat_eval.specs.Seen.{NamedValues, seen_run}
-use Rattle.cat_eval.specs.Values.{column_len}
+use Rattle.cat_machine.specs.Seen.{NamedValues, seen_run}
+use Rattle.cat_machine.specs.Values.{column_len}
 use Rattle.cat_eval.proofs.body_run.BodyRunRunVisit.visit_run.Given as goal
 
 abbrev pub invariant-runs : goal.invariant-runs

@@ -1,6 +1,6 @@
 use Rattle.std.proofs.Common.{◌∙◌, [], reverse, refl}
-use Rattle.cat_eval.specs.Named.{EventsIn, PairsOutside, WithOwn, OwnPairs}
-use Rattle.cat_eval.proofs.Evaluated.{relation_left, set_left}
+use Rattle.cat_machine.specs.Named.{EventsIn, PairsOutside, WithOwn, OwnPairs}
+use Rattle.cat_machine.proofs.Evaluated.{relation_left, set_left}
 use Rattle.cat_eval.proofs.Visits.{answer_is}
 use Rattle.cat_eval.proofs.check.CheckRun.evaluated.Goals as goal
 

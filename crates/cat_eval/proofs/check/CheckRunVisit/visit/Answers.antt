@@ -1,10 +1,10 @@
 use Rattle.std.proofs.Common.{◌≡◌, ◌++◌, ◌∷◌, ◌∙◌, [], List, Bool, length, length-append, inl, inr, sym, ap, subst}
 use Rattle.std.specs.Prelude.{Some}
 use denote.Ref.{Bor}
-use Rattle.cat_eval.specs.declared.column.Column.{Column}
+use Rattle.cat_machine.specs.declared.column.Column.{Column}
 use Rattle.cat_eval.specs.Kept.{AreAskedOver, IsLastAnswer}
 use Rattle.cat_eval.specs.OverNames.{IsAnswerOver}
-use Rattle.cat_eval.specs.Steady.{IsSteady}
+use Rattle.cat_machine.specs.Steady.{IsSteady}
 use Rattle.cat_eval.proofs.Asked.{asked_more, answer_before, last_now, asked_moved, last_moved}
 use Rattle.cat_eval.proofs.Repeating.{steady_more}
 use Rattle.cat_eval.proofs.check.CheckRunVisit.visit.Goals as goal

@@ -1,9 +1,9 @@
 use Rattle.std.proofs.Common.{Bool, Vec, Global}
 use Rattle.std.proofs.lemmas.Result.{IfOk-weaker}
-use Rattle.candidates.specs.Space.{candidates_in}
+use Rattle.candidate_spaces.specs.Space.{candidates_in}
 use Rattle.cat_eval.specs.Kept.{AreAskedOver}
 use Rattle.cat_eval.specs.Needed.{ListsNeeded, predefined_names_in}
-use Rattle.cat_eval.specs.Seen.{seen_in}
+use Rattle.cat_machine.specs.Seen.{seen_in}
 use Rattle.cat_eval.specs.Tables.{column_names}
 use Rattle.cat_eval.proofs.Exact.{answers_exact}
 use Rattle.cat_eval.proofs.evaluator.Evaluator.ask.Goals as goal

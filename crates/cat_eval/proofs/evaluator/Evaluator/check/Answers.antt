@@ -1,7 +1,7 @@
 use Rattle.std.proofs.Common.{List, Bool, sym, subst}
 use Rattle.std.proofs.lemmas.Result.{IfOk-weaker}
-use Rattle.candidates.specs.Space.{candidates_in}
-use Rattle.cat_eval.specs.Values.{AreAnswers}
+use Rattle.candidate_spaces.specs.Space.{candidates_in}
+use Rattle.cat_machine.specs.Values.{AreAnswers}
 use Rattle.cat_eval.proofs.Asked.{where_all}
 use Rattle.cat_eval.proofs.evaluator.Evaluator.check.Goals as goal
 

@@ -1,6 +1,6 @@
 use Rattle.std.proofs.Common.{Vec, Global, []}
 use Rattle.std.proofs.lemmas.Result.{IfOk-weaker}
-use Rattle.cat_eval.specs.declared.column.Column.{Column}
+use Rattle.cat_machine.specs.declared.column.Column.{Column}
 use Rattle.cat_eval.specs.Wanted.{WantedColumnsOf}
 use Rattle.cat_eval.proofs.Columns.{columns_named}
 use Rattle.cat_eval.proofs.Wanting.{all_wanted}

@@ -1,10 +1,10 @@
 use Rattle.std.proofs.Common.{◌≡◌, false, List, Vec, Global, subst}
 use Rattle.std.proofs.lemmas.Result.{IfOk-weaker}
 use Rattle.binding_graph.specs.declared.resolved.Body.{Body}
-use Rattle.candidates.specs.Space.{candidates_in}
-use Rattle.cat_eval.specs.declared.column.Column.{Column}
+use Rattle.candidate_spaces.specs.Space.{candidates_in}
+use Rattle.cat_machine.specs.declared.column.Column.{Column}
 use Rattle.cat_eval.specs.Needed.{ListsNeeded, bodies_names}
-use Rattle.cat_eval.specs.Seen.{seen_in}
+use Rattle.cat_machine.specs.Seen.{seen_in}
 use Rattle.cat_eval.specs.Tables.{column_names}
 use Rattle.cat_eval.specs.Wanted.{AreWantedOver}
 use Rattle.cat_eval.proofs.Wanting.{shown_exact}

@@ -2,7 +2,7 @@ use Rattle.std.proofs.Common.{◌≡◌, ◌<◌, ◌∙◌, inl, inr, [], List,
 use Rattle.std.proofs.lemmas.Bool.{cases_eq}
 use denote.Ref.{Bor}
 use Rattle.binding_graph.specs.declared.resolved.Body.{Body}
-use Rattle.cat_eval.specs.declared.column.Column.{Column}
+use Rattle.cat_machine.specs.declared.column.Column.{Column}
 use Rattle.cat_eval.specs.OverNames.{IsMeaningOver}
 use Rattle.cat_eval.specs.Wanted.{is_wanted, AddsIf}
 use Rattle.cat_eval.proofs.group.GroupRun.evaluate_each.Goals as goal

@@ -1,7 +1,7 @@
 use Rattle.std.proofs.Common.{ℕ, ◌≡◌, ◌<◌, ◌≤◌, [], length, slice_index_or}
-use Rattle.bit_relations.specs.Relation.{Events, Relation}
+use Rattle.bit_rows.specs.Relation.{Events, Relation}
 use Rattle.binding_graph.specs.declared.resolved.Body.{Body}
-use Rattle.cat_eval.specs.declared.column.Column.{Column}
+use Rattle.cat_machine.specs.declared.column.Column.{Column}
 use Rattle.cat_eval.specs.OverNames.{IsMeaningOver}
 use Rattle.cat_eval.specs.Wanted.{is_wanted, AddsIf}
 use Rattle.cat_eval.proofs.group.GroupRun.evaluate_each.Given as goal

@@ -1,6 +1,6 @@
 use Rattle.std.proofs.Common.{◌≡◌, get_or, take}
 use Rattle.std.proofs.lemmas.List.{get_or_default}
-use Rattle.text_values.specs.declared.predefined.Predefined.TheVariants as names
+use Rattle.predefined_names.specs.declared.predefined.Predefined.TheVariants as names
 use Rattle.binding_graph.specs.declared.resolved.Source.TheVariants as sources
 use Rattle.binding_graph.specs.declared.resolved.Step.TheVariants as steps
 use Rattle.cat_eval.specs.Needed.{changes_with_reads, changes_with_orders, step_passes, step_names, predefined_names_in}

@@ -3,7 +3,7 @@ use Rattle.std.specs.Prelude.{IsTrue}
 use Rattle.base_names.specs.Known.{Known}
 use Rattle.cat_eval.specs.declared.table.Entry.{Entry}
 use Rattle.cat_eval.specs.Reordered.{EndsReordered}
-use Rattle.cat_eval.specs.Steady.{HasAsLast}
+use Rattle.cat_machine.specs.Steady.{HasAsLast}
 use Rattle.cat_eval.specs.Tables.{IsEntryFilled, AreFilled}
 use Rattle.cat_eval.proofs.table.NameRunEnter.enter.Given as goal
 

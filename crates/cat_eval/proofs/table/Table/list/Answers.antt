@@ -1,9 +1,9 @@
 use Rattle.std.proofs.Common.{◌≡◌, ◌+◌, ◌++◌, ◌∷◌, [], take, get_or, refl, arith}
 use Rattle.std.proofs.lemmas.List.{map-append, take_more, take_all}
 use Rattle.std.proofs.lemmas.List.Elements.{Contains-append_left, Contains-append_right}
-use Rattle.text_values.specs.declared.predefined.Predefined.{Predefined}
-use Rattle.text_values.specs.declared.predefined.Predefined.TheVariants as names
-use Rattle.cat_eval.specs.declared.seen.NamedColumn.{NamedColumn}
+use Rattle.predefined_names.specs.declared.predefined.Predefined.{Predefined}
+use Rattle.predefined_names.specs.declared.predefined.Predefined.TheVariants as names
+use Rattle.cat_machine.specs.declared.seen.NamedColumn.{NamedColumn}
 use Rattle.cat_eval.specs.Tables.{HasName, column_names}
 use Rattle.cat_eval.proofs.Blocks.{found_more, columns_with}
 use Rattle.cat_eval.proofs.table.Table.list.Goals as goal

@@ -1,6 +1,6 @@
 use Rattle.std.proofs.Common.{List, Contains, take}
-use Rattle.text_values.specs.declared.predefined.Predefined.{Predefined}
-use Rattle.candidates.specs.Space.{Candidate}
+use Rattle.predefined_names.specs.declared.predefined.Predefined.{Predefined}
+use Rattle.candidate_spaces.specs.Space.{Candidate}
 use Rattle.cat_eval.specs.Tables.{AreBlocks, AreColumnsFor, HasName, column_names}
 use Rattle.cat_eval.proofs.table.Table.list.Given as goal
 

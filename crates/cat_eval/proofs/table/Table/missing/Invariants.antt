@@ -1,5 +1,5 @@
 use Rattle.std.proofs.Common.{◌≡◌, ◌⊎◌, Contains, take}
-use Rattle.text_values.specs.declared.predefined.Predefined.{Predefined}
+use Rattle.predefined_names.specs.declared.predefined.Predefined.{Predefined}
 use Rattle.cat_eval.specs.Needs.{AreSuited, is_changing_name}
 use Rattle.cat_eval.specs.Tables.{HasName}
 use Rattle.cat_eval.proofs.table.Table.missing.Given as goal

@@ -1,5 +1,5 @@
 use Rattle.std.proofs.Common.{rules, ◌≡◌, inl, inr, List, Contains, vec_len, sym, subst, arith}
-use Rattle.text_values.specs.declared.predefined.Predefined.{Predefined}
+use Rattle.predefined_names.specs.declared.predefined.Predefined.{Predefined}
 use Rattle.cat_eval.proofs.table.Table.need_some.Goals as goal
 
 pub returns-then-is_empty-clause-there : goal.returns-then-is_empty-clause-there

@@ -1,6 +1,6 @@
 use Rattle.std.proofs.Common.{length, false, true}
 use Rattle.thread_runs.specs.Runs.{executed}
-use Rattle.dataflow.specs.Chains.{event_index, is_no_access, is_narrow, IsAddr, IsData, IsNeed, IsCtrl, IsCtrlIsync}
+use Rattle.taints.specs.Chains.{event_index, is_no_access, is_narrow, IsAddr, IsData, IsNeed, IsCtrl, IsCtrlIsync}
 use Rattle.dataflow.proofs.LinkLists.{list_of, reach_loads, ctrl_loads, ctrlisync_loads}
 use Rattle.dataflow.proofs.pass.Workspace.links.Goals as goal
 

@@ -1,11 +1,12 @@
 use Rattle.std.proofs.Common.{fold, refl, ap, sym, ◌∙◌, subst}
 use Rattle.std.specs.Prelude.{IfSome}
 use Rattle.cells.specs.Cells.{cells as cells_of}
-use Rattle.desk.specs.Boards.{ArePostedBut}
+use Rattle.desk_ledger.specs.Boards.{ArePostedBut}
 use Rattle.desk.specs.Held.{Held}
-use Rattle.desk.proofs.Growing.{prefix_same, grown_from}
+use Rattle.desk_ledger.proofs.Growing.{prefix_same, grown_from}
 use Rattle.desk.proofs.Refusing.{never}
-use Rattle.desk.proofs.Returning.{posted_for, appends_of}
+use Rattle.desk.proofs.Returning.{appends_of}
+use Rattle.desk_ledger.proofs.AllPosted.{posted_for}
 use Rattle.desk.proofs.state.DeskState.catch_up.Goals as goal
 
 pub invariant_of-self : goal.invariant_of-self

@@ -4,10 +4,11 @@ use Rattle.memo_core.specs.Laws.{meaning}
 use Rattle.memo_core.specs.Run.{Bench, Claim, NoClaim, Refused, Step}
 use Rattle.cells.specs.Cells.{cells as cells_of}
 use Rattle.desk.specs.Held.{Held}
-use Rattle.desk.proofs.Growing.{grown_from, whole_from}
+use Rattle.desk_ledger.proofs.Growing.{grown_from, whole_from}
 use Rattle.desk.proofs.Reaching.{reached_by}
 use Rattle.desk.proofs.Refusing.{not_claim, not_memory, not_ok, other_closed}
-use Rattle.desk.proofs.Returning.{appends_since, still_since, refused_since, given_or_none, posted_claimed, posted_idle, posted_same, later_claimed, later_idle}
+use Rattle.desk.proofs.Returning.{appends_since, still_since, refused_since, given_or_none, posted_claimed, posted_idle, later_claimed, later_idle}
+use Rattle.desk_ledger.proofs.AllPosted.{posted_same}
 use Rattle.desk.proofs.state.DeskState.claim.Goals as goal
 
 pub invariant_of-self-2 : goal.invariant_of-self-2

@@ -4,10 +4,11 @@ use Rattle.memo_core.specs.Laws.{meaning}
 use Rattle.memo_core.specs.Run.{Edit, Refused}
 use Rattle.cells.specs.Cells.{cells as cells_of}
 use Rattle.desk.specs.Held.{Held}
-use Rattle.desk.proofs.Growing.{begins_edit}
+use Rattle.desk_ledger.proofs.Growing.{begins_edit}
 use Rattle.desk.proofs.Reaching.{reached_by}
 use Rattle.desk.proofs.Refusing.{never, not_ok, not_seat, other_closed, other_seat, seat_not_ok}
-use Rattle.desk.proofs.Returning.{ahead_of, behind_of, has_edit, posted_refused, was_so}
+use Rattle.desk.proofs.Returning.{ahead_of, behind_of, has_edit, was_so}
+use Rattle.desk_ledger.proofs.AllPosted.{posted_refused}
 use Rattle.desk.proofs.state.DeskState.edit.Goals as goal
 
 pub post_edit-requires-clause-edited : goal.post_edit-requires-clause-edited

@@ -3,7 +3,7 @@ use Rattle.memo_core.specs.Laws.{meaning}
 use Rattle.memo_core.specs.Run.{Bench}
 use Rattle.memo_engine.specs.declared.graph.TheConstants.{LAST}
 use Rattle.cells.specs.Cells.{cells as cells_of}
-use Rattle.desk.specs.Boards.{ArePosted}
+use Rattle.desk_ledger.specs.Boards.{ArePosted}
 use Rattle.desk.proofs.Exchanging.{answers_claim, open_by}
 use Rattle.desk.proofs.state.DeskState.exchange.Goals as goal
 

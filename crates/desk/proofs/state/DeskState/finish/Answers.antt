@@ -3,9 +3,9 @@ use Rattle.memo_core.specs.Laws.{meaning}
 use Rattle.memo_core.specs.Run.{Bench, Returned}
 use Rattle.memo_core.proofs.Honest.{step_goes}
 use Rattle.cells.specs.Cells.{cells as cells_of}
-use Rattle.desk.specs.Boards.{ArePosted}
+use Rattle.desk_ledger.specs.Boards.{ArePosted}
 use Rattle.desk.specs.Held.{Held, held}
-use Rattle.desk.proofs.Growing.{grown_from}
+use Rattle.desk_ledger.proofs.Growing.{grown_from}
 use Rattle.desk.proofs.Reaching.{reached_by}
 use Rattle.desk.proofs.Refusing.{never, not_ok, other_closed}
 use Rattle.desk.proofs.Returning.{appends_since, publishes_same}

@@ -1,6 +1,6 @@
 use Rattle.std.proofs.Common.{fold}
 use Rattle.cells.specs.Cells.{cells as cells_of}
-use Rattle.desk.specs.Boards.{ArePosted}
+use Rattle.desk_ledger.specs.Boards.{ArePosted}
 use Rattle.desk.proofs.Returning.{shown_as}
 use Rattle.desk.proofs.state.DeskState.is_closed.Goals as goal
 

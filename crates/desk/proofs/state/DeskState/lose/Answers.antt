@@ -3,7 +3,7 @@ use Rattle.memo_core.specs.Laws.{meaning}
 use Rattle.memo_core.specs.Run.{Lose}
 use Rattle.memo_core.proofs.Honest.{step_goes}
 use Rattle.desk.specs.Held.{Held}
-use Rattle.desk.proofs.Growing.{grown_from, whole_from}
+use Rattle.desk_ledger.proofs.Growing.{grown_from, whole_from}
 use Rattle.desk.proofs.Reaching.{reached_by}
 use Rattle.desk.proofs.Refusing.{never, not_ok, other_closed}
 use Rattle.desk.proofs.Returning.{appends_since}

@@ -1,8 +1,8 @@
 use Rattle.std.proofs.Common.{◌≡◌, ◌<◌, List, length, fold, refl, ap, sym, ◌∙◌, subst}
 use mathlib.Core.List.{IsPrefix}
-use Rattle.desk.specs.Boards.{AreSettled}
+use Rattle.desk_ledger.specs.Boards.{AreSettled}
 use Rattle.desk.specs.Held.{Held}
-use Rattle.desk.proofs.Growing.{begins_after}
+use Rattle.desk_ledger.proofs.Growing.{begins_after}
 use Rattle.desk.proofs.Refusing.{never, not_ok, not_seat, other_closed, other_seat, seat_not_ok}
 use Rattle.desk.proofs.Returning.{ahead_of, behind_of, is_owed, is_unowed}
 use Rattle.desk.proofs.state.DeskState.settle.Goals as goal

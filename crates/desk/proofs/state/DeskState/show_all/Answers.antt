@@ -1,7 +1,7 @@
 use Rattle.std.proofs.Common.{fold, ap}
 use Rattle.std.specs.Prelude.{not}
 use Rattle.cells.specs.Cells.{cells as cells_of}
-use Rattle.desk.specs.Boards.{ArePosted}
+use Rattle.desk_ledger.specs.Boards.{ArePosted}
 use Rattle.desk.specs.Held.{Held}
 use Rattle.desk.proofs.Returning.{shown_as}
 use Rattle.desk.proofs.state.DeskState.show_all.Goals as goal

@@ -1,7 +1,7 @@
 use Rattle.std.proofs.Common.{inr, fold, refl}
 use Rattle.cells.specs.Cells.{cells as cells_of}
-use Rattle.desk.specs.Boards.{ArePosted}
-use Rattle.desk.proofs.Growing.{whole_by}
+use Rattle.desk_ledger.specs.Boards.{ArePosted}
+use Rattle.desk.proofs.Returning.{whole_by}
 use Rattle.desk.proofs.Returning.{publishes_shown, shown_as}
 use Rattle.desk.proofs.state.DeskState.try_again.Goals as goal
 

@@ -1,5 +1,5 @@
 use Rattle.std.proofs.Common.{sym, subst}
-use Rattle.litmus_table.specs.Machine.{TableState}
+use Rattle.litmus_words.specs.Machine.{TableState}
 use Rattle.litmus_table.specs.Reading.{threads_of}
 use Rattle.litmus_table.specs.Bounds.{AreThreadsUpTo}
 use Rattle.litmus_table.proofs.Places.{widened_within}

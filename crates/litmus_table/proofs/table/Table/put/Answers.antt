@@ -1,6 +1,6 @@
 use Rattle.std.proofs.Common.{◌≡◌, arith, get_or, ap, ◌∙◌}
 use Rattle.litmus_table.specs.declared.late.PlacedThread.{PlacedThread}
-use Rattle.litmus_table.specs.Machine.{noted}
+use Rattle.litmus_words.specs.Machine.{noted}
 use Rattle.litmus_table.specs.Reading.{thread_of}
 use Rattle.litmus_table.proofs.Threads.{put_is, put_nowhere}
 use Rattle.litmus_table.proofs.table.Table.put.Goals as goal

@@ -1,6 +1,6 @@
 use Rattle.std.proofs.Common.{refl, arith}
 use Rattle.std.proofs.lemmas.List.{ext_get_or}
-use Rattle.bit_relations.specs.Relation.{no_slot}
+use Rattle.bit_rows.specs.Relation.{no_slot}
 use Rattle.relation_columns.proofs.relations.RunColumn.is_same.Goals as goal
 
 pub returns : goal.returns

@@ -1,6 +1,6 @@
 use Rattle.std.proofs.Common.{◌≡◌, ◌<◌, ◌-◌, ◌∙◌, ap, arith, get_or, length, sym}
 use Rattle.std.proofs.lemmas.List.{with_items_is}
-use Rattle.bit_relations.specs.Relation.{no_slot}
+use Rattle.bit_rows.specs.Relation.{no_slot}
 use Rattle.relation_columns.specs.Storage.{run_ends}
 use Rattle.relation_columns.proofs.Expanding.{as_many_ends, last_end_is, last_told, longer, some_there}
 use Rattle.relation_columns.proofs.relations.RunColumn.push_last.Goals as goal

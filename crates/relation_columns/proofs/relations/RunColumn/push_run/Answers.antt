@@ -1,6 +1,6 @@
 use Rattle.std.proofs.Common.{◌≡◌, ◌∙◌, ap, length, refl, sym}
 use Rattle.std.proofs.lemmas.List.{with_items_is}
-use Rattle.bit_relations.specs.Relation.{no_slot}
+use Rattle.bit_rows.specs.Relation.{no_slot}
 use Rattle.relation_columns.specs.Storage.{run_ends}
 use Rattle.relation_columns.proofs.Expanding.{added, added_told, as_many_ends, ends_more, longer, longer_told}
 use Rattle.relation_columns.proofs.Keeping.{pushed}

@@ -1,5 +1,5 @@
 use Rattle.std.proofs.Common.{◌≡◌, ◌<◌, ap, length}
-use Rattle.bit_relations.specs.Relation.{no_slot}
+use Rattle.bit_rows.specs.Relation.{no_slot}
 use Rattle.relation_columns.specs.Storage.{run_ends}
 use Rattle.relation_columns.proofs.Expanding.{as_many_ends, inside_runs, read_end, read_same, read_value}
 use Rattle.relation_columns.proofs.relations.RunColumn.read.Goals as goal

@@ -3,9 +3,9 @@ use Rattle.std.specs.declared.alloc.Global.{Global}
 use Rattle.thread_runs.specs.declared.value.Value.{Value}
 use Rattle.thread_runs.specs.declared.run.Run.{Run}
 use Rattle.run_combinations.specs.Keys.{HasKey, bit_of}
-use Rattle.run_combinations.specs.Events.{initial_stores, HasStore}
+use Rattle.store_orders.specs.Events.{initial_stores, HasStore}
 use Rattle.run_combinations.specs.Parts.{AreSiftedParts}
-use Rattle.run_combinations.specs.declared.combination.Event.{Event}
+use Rattle.store_orders.specs.declared.combination.Event.{Event}
 use Rattle.run_combinations.proofs.Laying.{AllFacts, all_facts, all_threads, all_keyed, left_out_there}
 use Rattle.run_combinations.proofs.layout.Layout.new.Goals as goal
 

@@ -1,5 +1,5 @@
 use Rattle.std.proofs.Common.{◌≡◌, ◌<◌, ◌^◌, false, IsTrue, sym, subst, ◌∙◌, arith, rules}
-use Rattle.bit_relations.specs.Relation.{Events}
+use Rattle.bit_rows.specs.Relation.{Events}
 use Rattle.run_combinations.specs.Rounds.{IsArisingRound}
 use Rattle.run_combinations.proofs.Members.{wider_grows, few_fit}
 use Rattle.run_combinations.proofs.Arising.{round_keeps, round_count, round_arises, nothing_more}

@@ -1,5 +1,5 @@
 use Rattle.std.proofs.Common.{◌++◌, option_to_list, ap, arith, ◌∙◌}
-use Rattle.run_combinations.specs.Lists.{lists_of}
+use Rattle.store_orders.specs.Lists.{lists_of}
 use Rattle.run_combinations.specs.ReadChoices.{nexts}
 use Rattle.run_combinations.proofs.Extending.{gains_none, gains_more, gains_all, pushed, not_pushed}
 use Rattle.run_combinations.proofs.reading.Reading.extend.Goals as goal

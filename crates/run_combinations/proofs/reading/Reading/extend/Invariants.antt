@@ -1,5 +1,5 @@
 use Rattle.std.proofs.Common.{◌++◌, option_to_list}
-use Rattle.run_combinations.specs.Lists.{lists_of}
+use Rattle.store_orders.specs.Lists.{lists_of}
 use Rattle.run_combinations.specs.ReadChoices.{nexts}
 use Rattle.run_combinations.proofs.Extending.{GainsSome}
 use Rattle.run_combinations.proofs.reading.Reading.extend.Given as goal

@@ -1,6 +1,6 @@
 use Rattle.std.proofs.Common.{◌≡◌, ◌<◌, ◌+◌, length, get_or, arith, refl, rules, tests}
 use Rattle.std.proofs.lemmas.List.{length-map}
-use Rattle.run_combinations.specs.Lists.{lists_of}
+use Rattle.store_orders.specs.Lists.{lists_of}
 use Rattle.run_combinations.specs.Rounds.{AreNext}
 use Rattle.run_combinations.proofs.Finding.{no_next, next_more, items_at, place_is}
 use Rattle.run_combinations.proofs.reading.Reading.extend_all.Goals as goal

@@ -1,6 +1,6 @@
 use Rattle.std.proofs.Common.{ℕ, ◌≡◌, ◌≤◌, Vec, length, slice_index_or}
 use Rattle.std.specs.declared.alloc.Global.{Global}
-use Rattle.run_combinations.specs.Lists.{lists_of}
+use Rattle.store_orders.specs.Lists.{lists_of}
 use Rattle.run_combinations.specs.Rounds.{AreNext}
 use Rattle.run_combinations.proofs.reading.Reading.extend_all.Given as goal
 

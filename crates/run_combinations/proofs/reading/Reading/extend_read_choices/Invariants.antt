@@ -1,4 +1,4 @@
-use Rattle.run_combinations.specs.Lists.{lists_of}
+use Rattle.store_orders.specs.Lists.{lists_of}
 use Rattle.run_combinations.specs.Rounds.{ArePossible}
 use Rattle.run_combinations.proofs.reading.Reading.extend_read_choices.Given as goal
 

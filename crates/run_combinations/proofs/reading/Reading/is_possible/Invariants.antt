@@ -1,5 +1,5 @@
 use Rattle.std.proofs.Common.{ℕ, ◌≡◌, ◌<◌, Some, slice_get}
-use Rattle.bit_relations.specs.Relation.{IsMember}
+use Rattle.bit_rows.specs.Relation.{IsMember}
 use Rattle.run_combinations.specs.declared.reading.Load.{Load}
 use Rattle.run_combinations.proofs.reading.Reading.is_possible.Given as goal
 

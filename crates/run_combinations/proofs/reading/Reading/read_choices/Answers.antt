@@ -1,6 +1,6 @@
 use Rattle.std.proofs.Common.{arith}
 use Rattle.std.proofs.lemmas.List.{length-map}
-use Rattle.run_combinations.specs.Lists.{lists_of}
+use Rattle.store_orders.specs.Lists.{lists_of}
 use Rattle.run_combinations.specs.Rounds.{HasManyChoices, HasReadChoices}
 use Rattle.run_combinations.proofs.Searching.{tells_true, tells_false}
 use Rattle.run_combinations.proofs.Finding.{over_all}

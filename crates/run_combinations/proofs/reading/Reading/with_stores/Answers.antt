@@ -1,6 +1,6 @@
 use Rattle.std.proofs.Common.{◌≡◌, ℕ, List, Some, slice_get, ap, ◌∙◌, arith, length, refl, sym}
 use Rattle.std.proofs.lemmas.Option.{slice_get_read}
-use Rattle.bit_relations.specs.Relation.{IsMember}
+use Rattle.bit_rows.specs.Relation.{IsMember}
 use Rattle.run_combinations.specs.Rounds.{IsEventSubset, store_event}
 use Rattle.run_combinations.specs.declared.reading.Store.{Store}
 use Rattle.run_combinations.proofs.Members.{one_step_more}

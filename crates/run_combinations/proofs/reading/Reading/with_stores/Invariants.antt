@@ -1,5 +1,5 @@
 use Rattle.std.proofs.Common.{◌⊎◌}
-use Rattle.bit_relations.specs.Relation.{IsMember, IsEvents}
+use Rattle.bit_rows.specs.Relation.{IsMember, IsEvents}
 use Rattle.run_combinations.specs.Rounds.{Stepped, IsEventSubset, store_event}
 use Rattle.run_combinations.proofs.reading.Reading.with_stores.Given as goal
 

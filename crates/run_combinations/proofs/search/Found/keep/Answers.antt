@@ -1,8 +1,8 @@
 use Rattle.std.proofs.Common.{◌≡◌, ℕ, zero, suc, ◌+◌, ◌-◌, ◌*◌, ◌^◌, ◌<◌, ◌++◌, ◌∙◌, List, [], ◌∷◌, Vec, Global, Bool, false, length, map, ap, min, arith}
 use Rattle.std.specs.Prelude.{if◌then◌else◌, ◌||◌, ◌==◌}
 use Rattle.std.proofs.lemmas.List.{length-map, map_push}
-use Rattle.run_combinations.specs.Combinations.{CombinationLists, combination_lists}
-use Rattle.run_combinations.specs.Lists.{lists_of}
+use Rattle.store_orders.specs.Combinations.{CombinationLists, combination_lists}
+use Rattle.store_orders.specs.Lists.{lists_of}
 use Rattle.run_combinations.specs.Search.{PrefixLists, Tally, capped_tally_with, prefix_lists, runs_lists, tally}
 use Rattle.run_combinations.proofs.search.Found.keep.Goals as goal
 

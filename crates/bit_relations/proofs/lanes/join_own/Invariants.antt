@@ -1,8 +1,0 @@
-use Rattle.std.proofs.Common.{◌*◌}
-use Rattle.bit_relations.specs.Rows.{RowsHave, AreRowsFilled, UnionWhere}
-use Rattle.bit_relations.proofs.lanes.join_own.Given as goal
-
-abbrev pub invariant-loop-block : goal.invariant-loop-block
-invariant-loop-block l =
-    AreRowsFilled l.initial.words l.words (8 * l.block) (UnionWhere (RowsHave l.initial.words)
-    (RowsHave l.initial.words) l.k l.word)

@@ -1,5 +1,0 @@
-use Rattle.bit_relations.proofs.Bits.{Bit-or}
-use Rattle.bit_relations.proofs.word.either.Goals as goal
-
-pub returns : goal.returns
-returns c = λ b. Bit-or _ _ b

@@ -1,8 +1,0 @@
-use Rattle.std.proofs.Common.{rules}
-use Rattle.std.proofs.lemmas.Nat.Bits.{shr_and_one}
-use Rattle.bit_relations.specs.Relation.{Bit}
-use Rattle.bit_relations.proofs.word.has_bit.Goals as goal
-
-pub returns : goal.returns
-unfolding Bit
-returns c = rw shr_and_one (search rules)

@@ -1,5 +1,0 @@
-use Rattle.bit_relations.proofs.Bits.{Bit-and_not}
-use Rattle.bit_relations.proofs.word.left_alone.Goals as goal
-
-pub returns : goal.returns
-returns c = λ b. Bit-and_not _ _ b c.ranges.left.fits c.ranges.right.fits

@@ -1,5 +1,0 @@
-use Rattle.bit_relations.proofs.Bits.{Bit-set}
-use Rattle.bit_relations.proofs.word.with_bit.Goals as goal
-
-pub returns : goal.returns
-returns c = λ b. Bit-set _ _ b c.requires

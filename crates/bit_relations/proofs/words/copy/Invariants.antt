@@ -1,5 +1,0 @@
-use Rattle.bit_relations.specs.Rows.{RowsHave, AllFit, AreRowsFilled}
-use Rattle.bit_relations.proofs.words.copy.Given as goal
-
-abbrev pub invariant-loop-a : goal.invariant-loop-a
-invariant-loop-a l = AllFit l.others → AreRowsFilled l.initial.words l.words l.a (RowsHave l.others)

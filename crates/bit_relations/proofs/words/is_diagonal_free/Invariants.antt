@@ -1,6 +1,0 @@
-use Rattle.std.proofs.Common.{◌≡◌, ℕ, ◌<◌, ◌+◌}
-use Rattle.bit_relations.specs.Rows.{RowsHave}
-use Rattle.bit_relations.proofs.words.is_diagonal_free.Given as goal
-
-abbrev pub invariant-loop-a : goal.invariant-loop-a
-invariant-loop-a l = (x : ℕ) → x < l.a → (b : ℕ) → b < 64 → x ≡ b + l.at → RowsHave l.words x b → ⊥

@@ -1,8 +1,0 @@
-use Rattle.bit_relations.specs.Relation.{wide_word}
-use Rattle.bit_relations.specs.Rows.{RowsHave, AreRowsFilled, Kept}
-use Rattle.bit_relations.proofs.words.keep.Given as goal
-
-abbrev pub invariant-loop-a : goal.invariant-loop-a
-invariant-loop-a l =
-    AreRowsFilled l.initial.words l.words l.a (Kept (wide_word l.low l.high) l.word
-    (RowsHave l.initial.words))

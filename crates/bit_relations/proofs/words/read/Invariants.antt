@@ -1,5 +1,0 @@
-use Rattle.bit_relations.specs.Rows.{AreRowsFilled, Read}
-use Rattle.bit_relations.proofs.words.read.Given as goal
-
-abbrev pub invariant-loop-a : goal.invariant-loop-a
-invariant-loop-a l = AreRowsFilled l.initial.words l.words l.a (Read l.list l.at l.all)

@@ -1,0 +1,7 @@
+use Rattle.bit_rows.specs.Pairs.{Inter}
+use Rattle.bit_rows.specs.Rows.{RowsHave, AreRowsFilled}
+use Rattle.bit_rows.proofs.words.meet.Given as goal
+
+abbrev pub invariant-loop-a : goal.invariant-loop-a
+invariant-loop-a l =
+    AreRowsFilled l.initial.words l.words l.a (Inter (RowsHave l.initial.words) (RowsHave l.others))

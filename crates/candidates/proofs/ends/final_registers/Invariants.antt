@@ -1,8 +1,0 @@
-use Rattle.std.proofs.Common.{◌≡◌, ◌++◌, drop}
-use Rattle.candidates.specs.Space.{registers_at}
-use Rattle.candidates.proofs.ends.final_registers.Given as goal
-
-abbrev pub invariant-loop-thread : goal.invariant-loop-thread
-invariant-loop-thread l =
-    l.found.items ++ registers_at (drop l.thread l.registers) (drop l.thread l.runs)
-    ≡ registers_at l.registers l.runs

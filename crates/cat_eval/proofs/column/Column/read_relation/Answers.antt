@@ -1,5 +1,0 @@
-use Rattle.cat_eval.proofs.column.Column.read_relation.Goals as goal
-
-pub returns-in-Relations-clause-value : goal.returns-in-Relations-clause-value
-returns-in-Relations-clause-value c =
-    λ k low high. rw c.in-Relations.is (c.read_pairs.ensures.value k low high)

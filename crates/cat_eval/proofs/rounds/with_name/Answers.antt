@@ -1,7 +1,0 @@
-use Rattle.cat_eval.proofs.Among.{among_set}
-use Rattle.cat_eval.proofs.rounds.with_name.Goals as goal
-
-pub returns : goal.returns
-returns c =
-    λ k.
-    rw (← c.bit_of.ensures.bit) (among_set c.args.names c.bit_of.result k c.bit_of.ensures.small)

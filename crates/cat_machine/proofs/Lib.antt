@@ -1,0 +1,13 @@
+pub mod Among
+pub mod Codes
+pub mod Evaluated
+pub mod Growing
+pub mod Grown
+pub mod Monotone
+pub mod Naming
+pub mod Same
+pub mod Seeing
+pub mod Slots
+pub mod Stacks
+pub mod Steps
+pub mod Turns

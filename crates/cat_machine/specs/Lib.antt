@@ -1,0 +1,12 @@
+pub mod Checks
+pub mod Columns
+pub mod Executions
+pub mod Least
+pub mod Meaning
+pub mod Named
+pub mod Rising
+pub mod Running
+pub mod Seen
+pub mod Steady
+pub mod Uses
+pub mod Values

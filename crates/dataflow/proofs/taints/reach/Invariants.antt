@@ -1,7 +1,0 @@
-use Rattle.thread_runs.specs.Runs.{executed}
-use Rattle.dataflow.proofs.ReachLoop.{IsReached}
-use Rattle.dataflow.proofs.taints.reach.Given as goal
-
-abbrev pub invariant-loop-step : goal.invariant-loop-step
-invariant-loop-step l =
-    IsReached l.narrow l.stored (executed l.steps) l.step-index l.taints l.columns l.index

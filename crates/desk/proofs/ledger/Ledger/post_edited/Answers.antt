@@ -1,4 +1,0 @@
-use Rattle.desk.proofs.ledger.Ledger.post_edited.Goals as goal
-
-pub post_edited-requires-clause-edited : goal.post_edited-requires-clause-edited
-post_edited-requires-clause-edited g c = rw c.self.view_is c.requires.edited

@@ -1,8 +1,0 @@
-use Rattle.std.proofs.Common.{◌≡◌, ℕ, ◌<◌, Some, IsSome, slice_get}
-use Rattle.desk.specs.Boards.{BoardCell}
-use Rattle.desk.proofs.posting.is_settled.Given as goal
-
-abbrev pub invariant-loop-index : goal.invariant-loop-index
-invariant-loop-index g l =
-    (k : ℕ) → k < l.index → (c : BoardCell _) → slice_get (g.X.BoardTexts.cells l.board) k ≡ Some c
-    → IsSome c.outcome

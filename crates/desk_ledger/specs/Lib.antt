@@ -1,0 +1,4 @@
+pub mod Boards
+pub mod Edited
+pub mod Posts
+pub mod Told

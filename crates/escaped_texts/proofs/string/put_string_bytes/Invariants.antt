@@ -1,0 +1,8 @@
+use Rattle.std.proofs.Common.{◌≡◌, ◌++◌, take}
+use Rattle.std.specs.List.{flat_map}
+use Rattle.escaped_texts.specs.Strings.{string_byte}
+use Rattle.escaped_texts.proofs.string.put_string_bytes.Given as goal
+
+abbrev pub invariant-loop-byte : goal.invariant-loop-byte
+invariant-loop-byte l =
+    l.text.items ≡ l.initial.text.items ++ flat_map string_byte (take l.byte-index l.bytes)

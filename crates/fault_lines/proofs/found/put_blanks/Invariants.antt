@@ -1,7 +1,0 @@
-use Rattle.std.proofs.Common.{◌≡◌, ◌++◌, map, take, ◌+◌, ◌-◌}
-use Rattle.fault_lines.specs.Lines.{blank_below}
-use Rattle.fault_lines.proofs.found.put_blanks.Given as goal
-
-abbrev pub invariant-loop-byte : goal.invariant-loop-byte
-invariant-loop-byte l =
-    l.text.items ≡ l.fn.text.items ++ map blank_below (take l.byte-index l.bytes)

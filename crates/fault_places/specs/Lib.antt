@@ -1,3 +1,0 @@
-pub mod Signs
-pub mod Search
-pub mod Found

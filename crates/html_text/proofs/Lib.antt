@@ -1,3 +1,0 @@
-pub mod Balancing
-pub mod Escaping
-pub mod Loops

@@ -1,3 +1,0 @@
-pub mod Escaped
-pub mod Elements
-pub mod Balanced

@@ -1,5 +1,0 @@
-use Rattle.json_text.proofs.Said.{string_says, string_is_printable}
-use Rattle.json_text.proofs.laws.strings_are_read_back.Goals as goal
-
-pub returns : goal.returns
-returns c = record { said = string_says; bytes = string_is_printable }

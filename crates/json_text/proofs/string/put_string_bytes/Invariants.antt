@@ -1,8 +1,0 @@
-use Rattle.std.proofs.Common.{◌≡◌, ◌++◌, take}
-use Rattle.std.specs.List.{flat_map}
-use Rattle.json_text.specs.Strings.{string_byte}
-use Rattle.json_text.proofs.string.put_string_bytes.Given as goal
-
-abbrev pub invariant-loop-byte : goal.invariant-loop-byte
-invariant-loop-byte l =
-    l.text.items ≡ l.initial.text.items ++ flat_map string_byte (take l.byte-index l.bytes)

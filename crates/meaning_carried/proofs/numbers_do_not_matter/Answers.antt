@@ -1,5 +1,0 @@
-use Rattle.meaning_carried.proofs.Items.{numbers_alike}
-use Rattle.meaning_carried.proofs.numbers_do_not_matter.Goals as goal
-
-pub returns : goal.returns
-returns c = λ to from are all choice names items. numbers_alike to from are all choice names items

@@ -1,0 +1,12 @@
+pub mod Alike
+pub mod Coding
+pub mod Ending
+pub mod Expressions
+pub mod Extending
+pub mod Growing
+pub mod Inside
+pub mod Items
+pub mod Machines
+pub mod Operators
+pub mod Risen
+pub mod Running

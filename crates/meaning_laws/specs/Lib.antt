@@ -1,0 +1,4 @@
+pub mod CarriedLaws
+pub mod Inside
+pub mod RisingLaws
+pub mod Words

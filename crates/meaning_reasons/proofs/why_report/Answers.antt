@@ -1,5 +1,0 @@
-use Rattle.meaning_reasons.proofs.Answered.{report_said}
-use Rattle.meaning_reasons.proofs.why_report.Goals as goal
-
-pub returns-clause-report : goal.returns-clause-report
-returns-clause-report c = report_said _ _ _ c.why_report.result c.why_report.ensures.report

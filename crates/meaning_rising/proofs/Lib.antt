@@ -1,4 +1,0 @@
-pub mod Inside
-pub mod Alike
-pub mod Risen
-pub mod Growing

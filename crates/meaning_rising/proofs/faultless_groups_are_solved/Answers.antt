@@ -1,5 +1,0 @@
-use Rattle.meaning_rising.proofs.Growing.{groups_are_solved}
-use Rattle.meaning_rising.proofs.faultless_groups_are_solved.Goals as goal
-
-pub returns : goal.returns
-returns c = λ t x items group e. groups_are_solved t x items group e

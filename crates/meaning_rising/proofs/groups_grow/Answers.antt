@@ -1,5 +1,0 @@
-use Rattle.meaning_rising.proofs.Growing.{groups_grow}
-use Rattle.meaning_rising.proofs.groups_grow.Goals as goal
-
-pub returns : goal.returns
-returns c = λ t x items group e. groups_grow t x items group e

@@ -1,3 +1,0 @@
-pub mod Machines
-pub mod Running
-pub mod Ending

@@ -1,6 +1,0 @@
-use Rattle.std.proofs.Common.{All, take}
-use Rattle.meaning_words.specs.Words.{IsWrittenWord}
-use Rattle.meaning_words.proofs.written.entries_are_words.Given as goal
-
-abbrev pub invariant-loop-entry : goal.invariant-loop-entry
-invariant-loop-entry l = All (λ e. IsWrittenWord e.value) (take l.entry-index l.entries)

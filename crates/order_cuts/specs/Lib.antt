@@ -1,2 +1,0 @@
-pub mod Growths
-pub mod Laws

@@ -1,0 +1,9 @@
+pub mod Atoms
+pub mod Columns
+pub mod Endings
+pub mod Finals
+pub mod HeldTexts
+pub mod Names
+pub mod Observables
+pub mod Orders
+pub mod Tallies

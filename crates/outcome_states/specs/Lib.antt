@@ -1,0 +1,12 @@
+pub mod Compiled
+pub mod Counting
+pub mod Ends
+pub mod EvaluationContent
+pub mod Final
+pub mod Kept
+pub mod Meaning
+pub mod Names
+pub mod Order
+pub mod OutcomeContent
+pub mod Shown
+pub mod Text

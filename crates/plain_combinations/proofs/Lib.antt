@@ -1,3 +1,0 @@
-pub mod Choosing
-pub mod Picking
-pub mod Combining

@@ -1,7 +1,0 @@
-use Rattle.std.proofs.Common.{◌≡◌, map, take, length}
-use Rattle.plain_combinations.specs.Combinations.{run_lists_as}
-use Rattle.plain_combinations.proofs.combination.counts_of.Given as goal
-
-abbrev pub invariant-loop-list : goal.invariant-loop-list
-invariant-loop-list l =
-    l.counts.items ≡ map (λ rs. length rs) (run_lists_as (take l.list-index l.lists))

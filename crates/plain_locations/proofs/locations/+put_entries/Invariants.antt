@@ -1,5 +1,0 @@
-use Rattle.std.proofs.Common.{length}
-use Rattle.plain_locations.proofs.locations.+put_entries.Given as goal
-
-abbrev pub decreases-put_entries : goal.decreases-put_entries
-decreases-put_entries l = length l.entries.now

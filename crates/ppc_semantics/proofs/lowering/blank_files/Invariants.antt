@@ -1,6 +1,0 @@
-use Rattle.std.proofs.Common.{◌≡◌, replicate}
-use Rattle.ppc_semantics.specs.Lowering.{blank}
-use Rattle.ppc_semantics.proofs.lowering.blank_files.Given as goal
-
-abbrev pub invariant-loop : goal.invariant-loop
-invariant-loop l = l.registers.items ≡ replicate l.counter blank

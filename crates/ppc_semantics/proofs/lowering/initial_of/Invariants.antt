@@ -1,6 +1,0 @@
-use Rattle.std.proofs.Common.{take}
-use Rattle.ppc_semantics.specs.Lowering.{AreInitial}
-use Rattle.ppc_semantics.proofs.lowering.initial_of.Given as goal
-
-abbrev pub invariant-loop-entry : goal.invariant-loop-entry
-invariant-loop-entry l = AreInitial (take l.entry-index l.init) l.locations l.initial'.items

@@ -1,8 +1,0 @@
-use Rattle.std.proofs.Common.{rules}
-use Rattle.ppc_semantics.proofs.Starting.{initial_proper}
-use Rattle.ppc_semantics.proofs.lowering.program.Goals as goal
-
-pub returns-clause-proper : goal.returns-clause-proper
-returns-clause-proper c =
-    initial_proper c.args.test.now.init.items c.in_ok-locations.locations.items
-    c.in_ok-initial.initial.items (search rules)

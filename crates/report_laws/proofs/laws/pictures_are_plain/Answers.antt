@@ -1,5 +1,0 @@
-use Rattle.report_laws.proofs.Pictures.{picture_is_plain}
-use Rattle.report_laws.proofs.laws.pictures_are_plain.Goals as goal
-
-pub returns : goal.returns
-returns c = picture_is_plain

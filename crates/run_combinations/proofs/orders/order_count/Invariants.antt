@@ -1,8 +1,0 @@
-use Rattle.std.proofs.Common.{◌≡◌, ◌-◌, ◌^◌, min, length}
-use Rattle.run_combinations.specs.Orders.{AreInitialStoresApart, all_orders}
-use Rattle.run_combinations.proofs.orders.order_count.Given as goal
-
-abbrev pub invariant-loop-location : goal.invariant-loop-location
-invariant-loop-location l =
-    AreInitialStoresApart l.events l.location
-    → l.count ≡ min (length (all_orders l.events l.location)) (2 ^ 64 - 1)

@@ -1,6 +1,0 @@
-use Rattle.std.proofs.Common.{◌≡◌, ◌-◌, ◌^◌, min}
-use Rattle.run_combinations.specs.Rows.{row_total}
-use Rattle.run_combinations.proofs.orders.row_count.Given as goal
-
-abbrev pub invariant-loop-location : goal.invariant-loop-location
-invariant-loop-location l = l.count ≡ min (row_total l.events l.location) (2 ^ 64 - 1)

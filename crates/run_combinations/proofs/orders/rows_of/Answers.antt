@@ -1,8 +1,0 @@
-use Rattle.std.proofs.Common.{◌-◌, ◌^◌, arith}
-use Rattle.run_combinations.proofs.Counting.{one_position_counted}
-use Rattle.run_combinations.proofs.orders.rows_of.Goals as goal
-
-pub loop-positions-preserved : goal.loop-positions-preserved
-loop-positions-preserved c =
-    one_position_counted c.args.count c.loop-positions.positions (2 ^ 64 - 1) c.loop-positions.rows
-    _ c.loop-positions.invariant (omega (arith, c.ranges.count.fits)) c.saturating_mul-rows.ensures

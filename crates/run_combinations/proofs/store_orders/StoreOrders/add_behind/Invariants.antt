@@ -1,8 +1,0 @@
-use Rattle.std.proofs.Common.{◌≡◌, ◌++◌, take}
-use Rattle.std.specs.List.{concat}
-use Rattle.run_combinations.specs.Lists.{each_behind}
-use Rattle.run_combinations.proofs.store_orders.StoreOrders.add_behind.Given as goal
-
-abbrev pub invariant-loop-index : goal.invariant-loop-index
-invariant-loop-index l =
-    l.stores.items ≡ l.initial.stores.items ++ concat (each_behind (take l.index l.self) l.front)

@@ -1,8 +1,0 @@
-use Rattle.std.proofs.Common.{◌≡◌, take}
-use Rattle.std.specs.List.{concat, flat_map}
-use Rattle.run_combinations.specs.Lists.{each_behind}
-use Rattle.run_combinations.proofs.store_orders.StoreOrders.followed_by.Given as goal
-
-abbrev pub invariant-loop-index : goal.invariant-loop-index
-invariant-loop-index l =
-    l.stores.items ≡ concat (flat_map (each_behind l.rows) (take l.index l.self))

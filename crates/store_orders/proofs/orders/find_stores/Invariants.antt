@@ -1,0 +1,8 @@
+use Rattle.std.proofs.Common.{◌≡◌, take}
+use Rattle.store_orders.specs.Events.{numbers}
+use Rattle.store_orders.specs.Orders.{is_thread_store}
+use Rattle.store_orders.proofs.orders.find_stores.Given as goal
+
+abbrev pub invariant-loop-number : goal.invariant-loop-number
+invariant-loop-number l =
+    l.stores.items ≡ numbers (is_thread_store l.location) 0 (take l.number l.events)

@@ -1,5 +1,0 @@
-use Rattle.tab_text.proofs.Read.{field_is_inside, lines_are_read}
-use Rattle.tab_text.proofs.laws.lines_are_read_back.Goals as goal
-
-pub returns : goal.returns
-returns c = record { fields = field_is_inside; lines = lines_are_read }

@@ -1,0 +1,4 @@
+pub mod Chains
+pub mod DependencyLists
+pub mod Law
+pub mod Taints

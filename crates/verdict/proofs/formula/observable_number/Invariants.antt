@@ -1,7 +1,0 @@
-use Rattle.std.proofs.Common.{◌≡◌, ℕ, ◌<◌, false, get_or}
-use Rattle.verdict.specs.declared.observable.Observable.TheVariants.{Register}
-use Rattle.verdict.specs.Order.{is_observable}
-use Rattle.verdict.proofs.formula.observable_number.Given as goal
-
-abbrev pub invariant-loop-i : goal.invariant-loop-i
-invariant-loop-i l = (k : ℕ) → k < l.i → is_observable l.observable (get_or l.observables k (Register 0 0)) ≡ false

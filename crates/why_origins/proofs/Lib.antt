@@ -1,3 +1,0 @@
-pub mod Replaying
-pub mod RunEvents
-pub mod RunThreads

@@ -1,5 +1,0 @@
-use Rattle.why_origins.proofs.RunThreads.{show_runs}
-use Rattle.why_origins.proofs.laws.instructions_are_of_runs.Goals as goal
-
-pub returns : goal.returns
-returns c = show_runs c.args.test.now c.args.space.now
