@@ -35,7 +35,6 @@ pub enum Postfix {
 
 /// An expression (the herd7 manual, chapter on cat). The value does not show which operands stood
 /// in parentheses.
-#[derive(Drop)]
 pub enum Expression {
     /// A name.
     Named(Name),
@@ -55,6 +54,22 @@ pub enum Expression {
     Identity(Box<Expression>),
     /// `f(e, ..)`, a function of the model with its arguments
     Applied(Name, Vec<Expression>),
+}
+
+impl Drop for Expression {
+    fn drop(self) {
+        match self {
+            Expression::Named(_) => {},
+            Expression::Everything => {},
+            Expression::NoPairs => {},
+            Expression::NoEvents => {},
+            Expression::Joined(_, _, _) => {},
+            Expression::Marked(_, _) => {},
+            Expression::Complement(_) => {},
+            Expression::Identity(_) => {},
+            Expression::Applied(_, _) => {},
+        }
+    }
 }
 
 /// The property that a check asks for.

@@ -120,7 +120,6 @@ impl Connective {
 }
 
 /// What a condition says of one final state.
-#[derive(Drop)]
 pub enum Proposition {
     /// `true` or `false`.
     Constant(bool),
@@ -130,6 +129,17 @@ pub enum Proposition {
     Not(Box<Proposition>),
     /// Two propositions, joined by an operator.
     Joined(Connective, Box<Proposition>, Box<Proposition>),
+}
+
+impl Drop for Proposition {
+    fn drop(self) {
+        match self {
+            Proposition::Constant(_) => {},
+            Proposition::Holds(_, _) => {},
+            Proposition::Not(_) => {},
+            Proposition::Joined(_, _, _) => {},
+        }
+    }
 }
 
 /// The condition of a test: a quantifier over final states, and a proposition on one of them (the
