@@ -6,8 +6,8 @@ use Rattle.cat_expressions.specs.Reading.{term_stack_of, takes_operand}
 use Rattle.cat_expressions.proofs.Stack.{popped_prefix, popped_left, popped_takes}
 use Rattle.cat_expressions.proofs.frames.join.Goals as goal
 
-pub loop-alloc-preserved-in_ok-new-in-Some-Prefix-7 : goal.loop-alloc-preserved-in_ok-new-in-Some-Prefix-7
-loop-alloc-preserved-in_ok-new-in-Some-Prefix-7 c =
+pub loop-alloc-preserved-in-Some-Prefix : goal.loop-alloc-preserved-in-Some-Prefix
+loop-alloc-preserved-in-Some-Prefix c =
     popped_prefix _ _ _ _ _ c.loop-alloc.invariant _ c.in-Some-Prefix.ensures.items
     c.in-Some-Prefix.field-0-is _ (ap term_of (c.in_ok-new-in-Some-Prefix.ensures.ok
     ∙ c.replace-right.ensures.value))
